@@ -1,0 +1,4 @@
+pub mod Entries
+pub mod MemFiles
+pub mod MemSink
+pub mod Outside

@@ -1,0 +1,153 @@
+//! The files of the system.
+
+ghost use Rattle.std.specs.Prelude.{◌≡◌, None, OnOk, IfSome};
+ghost use Rattle.cov_io.specs.Outside.{Appends};
+
+use crate::files::{FileFault, Files};
+use std::io::{ErrorKind, Read};
+use std::{fs, rt};
+
+/// How many bytes one turn of a read asks for.
+const TURN: usize = 4096;
+
+/// The files of the runtime `R`, which tell nothing of what they hold.
+#[derive(Drop)]
+pub struct HostFiles<R: rt::Files + Drop> {
+    rt: R,
+    read_faults: u64,
+    write_faults: u64,
+}
+
+impl<R: rt::Files + Drop> HostFiles<R> {
+    /// The files that `rt` reaches, with no fault counted.
+    pub fn new(rt: R) -> Self
+        ensures no_read_faults { ⟦<HostFiles<R> as Files>⟧.reads_failed result ≡ 0 }
+        ensures no_write_faults { ⟦<HostFiles<R> as Files>⟧.writes_failed result ≡ 0 }
+    {
+        HostFiles {
+            rt,
+            read_faults: 0,
+            write_faults: 0,
+        }
+    }
+}
+
+impl<R: rt::Files + Drop> Files for HostFiles<R> {
+    ghost held = { λ _. None };
+
+    ghost reads_failed = { λ files. files.read_faults };
+
+    ghost writes_failed = { λ files. files.write_faults };
+
+    fn read(&mut self, name: &str, into: &mut Vec<u8>) -> Result<(), FileFault> {
+        into.clear();
+        let outcome = match fs::open(&self.rt, name) {
+            Ok(mut file) => read_to_end(&mut file, into),
+            Err(_) => Err(FileFault::Failed),
+        };
+        let Err(fault) = outcome else {
+            return Ok(());
+        };
+        into.clear();
+        if fault == FileFault::Failed {
+            self.read_faults = self.read_faults.saturating_add(1);
+        }
+        Err(fault)
+    }
+
+    fn write(&mut self, name: &str, bytes: &[u8]) -> Result<(), FileFault> {
+        // This takes no memory, so whatever it answers is a fault of the files.
+        if fs::write(&self.rt, name, bytes).is_err() {
+            self.write_faults = self.write_faults.saturating_add(1);
+            return Err(FileFault::Failed);
+        }
+        Ok(())
+    }
+
+    fn read_faults(&self) -> u64 {
+        self.read_faults
+    }
+
+    fn write_faults(&self) -> u64 {
+        self.write_faults
+    }
+}
+
+/// Appends all that the reader has left, or some of it where that fails.
+fn read_to_end<R: Read>(reader: &mut R, into: &mut Vec<u8>) -> Result<(), FileFault>
+    ensures ok { OnOk result
+        (IfSome (R.remaining reader.old) (λ rest. Appends rest into.old.items into.new.items)) }
+{
+    let mut turn = [0; TURN];
+    // The turns are bounded, since a file may never end. An interrupted one is tried again.
+    for _ in 0..u32::MAX {
+        match reader.read(&mut turn) {
+            Ok(0) => return Ok(()),
+            Ok(count) => into.extend_from_slice(&turn[..count])?,
+            Err(error) if error.kind() == ErrorKind::Interrupted => {}
+            Err(_) => return Err(FileFault::Failed),
+        }
+    }
+    Err(FileFault::Failed)
+}
+
+#[cfg(test)]
+mod tests {
+    use super::*;
+    use std::io;
+    use std::test::Fail;
+
+    /// Gives a byte at a time, is interrupted before each, and breaks or ends after the last.
+    #[derive(Drop)]
+    struct Faltering<'a> {
+        rest: &'a [u8],
+        interrupted: bool,
+        breaks: bool,
+    }
+
+    impl Read for Faltering<'_> {
+        fn read(&mut self, buf: &mut [u8]) -> io::Result<usize> {
+            self.interrupted = !self.interrupted;
+            if self.interrupted {
+                return Err(io::Error::from(ErrorKind::Interrupted));
+            }
+            if self.breaks && self.rest.is_empty() {
+                return Err(io::Error::from(ErrorKind::BrokenPipe));
+            }
+            let most = buf.len().min(1);
+            self.rest.read(&mut buf[..most])
+        }
+    }
+
+    #[test]
+    fn reads_past_interruptions(rt: HostRuntime) {
+        for (breaks, outcome) in [(false, Ok(())), (true, Err(FileFault::Failed))] {
+            let mut bytes = Vec::new(rt.alloc());
+            let mut reader = Faltering {
+                rest: b"abc",
+                interrupted: false,
+                breaks,
+            };
+            assert_eq!(rt; read_to_end(&mut reader, &mut bytes), outcome);
+            assert_eq!(rt; bytes.as_slice(), b"abc".as_slice());
+        }
+    }
+
+    #[test]
+    fn reads_back_a_file(rt: HostRuntime) -> Result<(), Fail> {
+        let alloc = rt.alloc();
+        let name = "reads_back_a_file.tmp";
+        let sent = vec![in alloc; 7; 10_000]?;
+        let mut files = HostFiles::new(&rt);
+        let mut bytes = vec![in alloc; 1, 2, 3]?;
+        files.write(name, &sent)?;
+        files.read(name, &mut bytes)?;
+        assert!(rt; bytes == sent);
+        fs::remove_file(&rt, name)?;
+        assert_eq!(rt; files.read(name, &mut bytes), Err(FileFault::Failed));
+        assert!(rt; bytes.is_empty());
+        assert_eq!(rt; files.write("", &sent), Err(FileFault::Failed));
+        assert_eq!(rt; (files.read_faults(), files.write_faults()), (1, 1));
+        Ok(())
+    }
+}

@@ -1,0 +1,4 @@
+pub mod ClauseLaws
+pub mod OptionValue
+pub mod RefusalLaws
+pub mod StopLaws

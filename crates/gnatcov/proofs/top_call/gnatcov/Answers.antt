@@ -1,0 +1,26 @@
+use Rattle.gnatcov.proofs.ClauseLaws.{usage_law, done_law, files_law, others_law, line_law, rose_law, read_fault_law, write_fault_law}
+use Rattle.gnatcov.proofs.top_call.gnatcov.Goals as goal
+
+pub returns-clause-usage : goal.returns-clause-usage
+returns-clause-usage g c = usage_law _ _ _ c.answer.ensures
+
+pub returns-clause-done : goal.returns-clause-done
+returns-clause-done g c = done_law _ _ _ c.answer.ensures
+
+pub returns-clause-unchanged : goal.returns-clause-unchanged
+returns-clause-unchanged g c = files_law _ _ _ c.answer.ensures
+
+pub returns-clause-others : goal.returns-clause-others
+returns-clause-others g c = others_law _ _ _ c.answer.ensures
+
+pub returns-clause-one_line : goal.returns-clause-one_line
+returns-clause-one_line g c = line_law _ _ _ c.answer.ensures
+
+pub returns-clause-read_rose : goal.returns-clause-read_rose
+returns-clause-read_rose g c = rose_law _ _ _ c.answer.ensures
+
+pub returns-clause-read_fault : goal.returns-clause-read_fault
+returns-clause-read_fault g c = read_fault_law _ _ _ c.answer.ensures
+
+pub returns-clause-write_fault : goal.returns-clause-write_fault
+returns-clause-write_fault g c = write_fault_law _ _ _ c.answer.ensures

@@ -1,0 +1,28 @@
+-- The status for each layer's failure.
+use Rattle.cov_base.specs.declared.failure.Failure.{Failure}
+use Rattle.cov_base.specs.declared.failure.Failure.TheVariants.{Fault}
+use Rattle.cov_base.specs.declared.failure.Failure.TheVariants as failures
+use Rattle.gnatcov.specs.declared.compiler.fault.SourceFault.{SourceFault}
+use Rattle.gnatcov.specs.declared.object_format.read.ObjectFault.{ObjectFault}
+use Rattle.gnatcov.specs.declared.rv32_emulator.InputFault.{InputFault}
+use Rattle.gnatcov.specs.declared.rv32_emulator.RunFault.{RunFault}
+use Rattle.gnatcov.specs.declared.rv32_emulator.RunFault.TheVariants as runs
+use Rattle.gnatcov.specs.declared.status.Status.{Status}
+use Rattle.gnatcov.specs.declared.status.Status.TheVariants.{SourceRefused, ObjectRefused, InputRefused, OverBudget, Trap, WantOfMemory}
+
+abbrev pub source_status : Failure SourceFault → Status
+source_status (Fault fault) = SourceRefused fault.file fault.line fault.col fault.why
+source_status failures.WantOfMemory = WantOfMemory
+
+abbrev pub object_status : Failure ObjectFault → Status
+object_status (Fault why) = ObjectRefused why
+object_status failures.WantOfMemory = WantOfMemory
+
+abbrev pub input_status : Failure InputFault → Status
+input_status (Fault fault) = InputRefused fault.line
+input_status failures.WantOfMemory = WantOfMemory
+
+abbrev pub run_status : Failure RunFault → Status
+run_status (Fault (runs.OverBudget count)) = OverBudget count
+run_status (Fault (runs.Trap pc why)) = Trap pc why
+run_status failures.WantOfMemory = WantOfMemory

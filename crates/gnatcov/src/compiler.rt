@@ -1,0 +1,116 @@
+//! From source text to an object file.
+
+ghost use Rattle.std.specs.Prelude.{◌≡◌, IfErr, IfOk, length};
+ghost use Rattle.gnatcov.specs.Sealed.{IsSealedBy};
+ghost use Rattle.gnatcov.specs.Refusals.{IsRefusal};
+
+use crate::ada_lexer::lex;
+use crate::ada_parser::parse;
+use crate::ada_types::{Program, check};
+use crate::codegen_rv32::generate;
+use crate::object_format::{FileEntry, Object, digest, write_with_digest};
+use crate::obligations::obligations;
+use cov_base::{Bytes, Digest, Failure, Seq, SourceFile};
+use std::alloc::{AllocError, Global};
+
+mod fault;
+#[cfg(test)]
+mod tests;
+
+pub use fault::{SourceFault, Why};
+
+/// The most bytes of a source file.
+const MAX_SOURCE: usize = 1_048_576;
+
+/// What a compilation makes: the object file with its closing digest, and how many statements,
+/// decisions and conditions the program has.
+#[derive(Debug, Drop)]
+pub struct Compiled {
+    pub bytes: Bytes,
+    pub statements: u32,
+    pub decisions: u32,
+    pub conditions: u32,
+    pub closing: Digest,
+}
+
+/// Compiles the program whose main procedure has this name, where case does not count. Its sources
+/// are one file.
+pub fn compile(
+    alloc: Global,
+    files: &[SourceFile],
+    main: &str,
+) -> Result<Compiled, Failure<SourceFault>>
+    ensures sealed { IfOk result (λ compiled. IsSealedBy compiled.bytes compiled.closing) }
+    ensures decisions { IfOk result (λ compiled. compiled.decisions ≡ 0) }
+    ensures conditions { IfOk result (λ compiled. compiled.conditions ≡ 0) }
+    ensures refused { IfErr result IsRefusal }
+{
+    let [file] = files else {
+        return Err(Failure::Fault(REFUSED));
+    };
+    let program = front_end(alloc, file, main)?;
+    Ok(back_end(alloc, file, &program)?)
+}
+
+/// The program of a source file.
+fn front_end(alloc: Global, file: &SourceFile, main: &str) -> Result<Program, Failure<SourceFault>>
+    ensures { IfErr result IsRefusal }
+{
+    let bytes = file.bytes.as_slice();
+    if bytes.len() > MAX_SOURCE {
+        return Err(Failure::Fault(REFUSED));
+    }
+    let tokens = lex(alloc, 0, bytes).map_err(refusal)?;
+    let units = parse(alloc, tokens.as_slice()).map_err(refusal)?;
+    check(alloc, units.as_slice(), main).map_err(refusal)
+}
+
+/// The object file of a program.
+fn back_end(alloc: Global, file: &SourceFile, program: &Program) -> Result<Compiled, AllocError>
+    ensures sealed { IfOk result (λ compiled. IsSealedBy compiled.bytes compiled.closing) }
+    ensures decisions { IfOk result (λ compiled. compiled.decisions ≡ 0) }
+    ensures conditions { IfOk result (λ compiled. compiled.conditions ≡ 0) }
+    ensures statements { IfOk result (λ compiled. compiled.statements ≡ length program.now.statements) }
+{
+    let image = generate(alloc, program)?;
+    let mut files = Vec::new(alloc);
+    files.push(FileEntry {
+        name: Bytes::from(Vec::from_slice(alloc, file.name.as_slice())?),
+        sha256: digest(file.bytes.as_slice()),
+    })?;
+    let value = Object {
+        entry: image.entry,
+        text: image.text,
+        init_at: image.init_at,
+        files: Seq::from(files),
+        obligations: obligations(alloc, program)?,
+        rows: image.rows,
+        closing: [0; 32],
+    };
+    let (bytes, closing) = write_with_digest(alloc, &value)?;
+    Ok(Compiled {
+        bytes: Bytes::from(bytes),
+        statements: program.statements.len() as u32,
+        decisions: 0,
+        conditions: 0,
+        closing,
+    })
+}
+
+/// The one place and reason that are given for every source that is no legal program.
+const REFUSED: SourceFault = SourceFault {
+    file: 0,
+    line: 1,
+    col: 1,
+    why: Why::Syntax,
+};
+
+/// The answer for a fault of any step.
+fn refusal<F: Drop>(failure: Failure<F>) -> Failure<SourceFault>
+    ensures { IsRefusal result }
+{
+    match failure {
+        Failure::Fault(_) => Failure::Fault(REFUSED),
+        Failure::WantOfMemory => Failure::WantOfMemory,
+    }
+}

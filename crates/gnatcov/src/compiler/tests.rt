@@ -1,0 +1,148 @@
+use super::{Why, compile};
+use crate::object_format::{Object, read_object, write_object};
+use cov_base::{Bytes, Failure, SourceFile, StmtEntry};
+use std::alloc::{AllocError, Global};
+use std::test::Fail;
+
+const P1: &str = "with Test_IO;                      -- p1.adb
+procedure P1 is
+begin
+   Test_IO.Put (1);
+   return;
+   Test_IO.Put (2);
+end P1;
+";
+
+/// The words of `P1` by the manual: `lui a0`, `addi a0`, `addi a7` and `ecall` for each put, the last
+/// three for each return.
+const TEXT: [u32; 14] = [
+    0x00000537, 0x00150513, 0x00200893, 0x00000073, 0x00000513, 0x00300893, 0x00000073, 0x00000537,
+    0x00250513, 0x00200893, 0x00000073, 0x00000513, 0x00300893, 0x00000073,
+];
+
+/// Sources of a procedure P that are no programs of this language.
+const REFUSED: [&str; 17] = [
+    "",
+    "procedure P is begin null end P;",
+    "procedure P is begin null; end Q;",
+    "procedure Q is begin null; end Q;",
+    "procedure P is begin end P;",
+    "procedure P is begin Test_IO.Put (1); end P;",
+    "with Test_IO; procedure P is begin Put (1); end P;",
+    "with Test_IO; procedure P is begin Test_IO.Put (2147483648); end P;",
+    "with Test_IO; procedure P is begin Test_IO.Put (1__0); end P;",
+    "with Text_IO; procedure P is begin null; end P;",
+    "procedure P is begin null; end P; procedure P is begin null; end P;",
+    "procedure P is begin null; # end P;",
+    "procedure P is begin null; end P",
+    "procedure P_ is begin null; end P_;",
+    "procedure Begin is begin null; end;",
+    "with P; procedure P is begin null; end P;",
+    "with Test_IO procedure P is begin null; end P;",
+];
+
+/// Sources of a procedure P with one statement.
+const TAKEN: [&str; 4] = [
+    "procedure P is begin null; end P;",
+    "PROCEDURE p IS\tBEGIN\r\n RETURN ; END;",
+    "with Test_IO, TEST_IO; with test_io; procedure P is begin Test_IO . Put (2_147_483_647); end P;",
+    "-- é\nprocedure P is--\nbegin null; end P;--",
+];
+
+fn source(alloc: Global, text: &str) -> Result<SourceFile, AllocError> {
+    Ok(SourceFile {
+        name: Bytes::from(Vec::from_slice(alloc, b"p.adb")?),
+        bytes: Bytes::from(Vec::from_slice(alloc, text.as_bytes())?),
+    })
+}
+
+/// The object of `P1`.
+fn object(alloc: Global) -> Result<Object, Fail> {
+    let compiled = compile(alloc, &[source(alloc, P1)?], "p1")?;
+    Ok(read_object(alloc, compiled.bytes.as_slice())?)
+}
+
+#[test]
+fn places_the_statements(rt: HostRuntime) -> Result<(), Fail> {
+    let value = object(rt.alloc())?;
+    let statements = value.obligations.statements.as_slice();
+    assert_eq!(rt; statements.len(), 3);
+    for (statement, line) in statements.iter().zip([4, 5, 6]) {
+        assert_eq!(rt;
+            *statement,
+            StmtEntry {
+                file: 0,
+                line,
+                column: 4
+            }
+        );
+    }
+    Ok(())
+}
+
+#[test]
+fn makes_the_code(rt: HostRuntime) -> Result<(), Fail> {
+    let value = object(rt.alloc())?;
+    assert_eq!(rt; value.text.as_slice(), TEXT.as_slice());
+    let rows = value.rows.as_slice();
+    assert_eq!(rt; rows.len(), 3);
+    for (row, address) in rows.iter().zip([0x10000, 0x10010, 0x1001c]) {
+        assert_eq!(rt; row.address, address);
+    }
+    Ok(())
+}
+
+#[test]
+fn writes_back_what_it_reads(rt: HostRuntime) -> Result<(), Fail> {
+    let alloc = rt.alloc();
+    let compiled = compile(alloc, &[source(alloc, P1)?], "P1")?;
+    let value = read_object(alloc, compiled.bytes.as_slice())?;
+    let again = write_object(alloc, &value)?;
+    assert_eq!(rt; again.as_slice(), compiled.bytes.as_slice());
+    Ok(())
+}
+
+#[test]
+fn takes_and_refuses_sources(rt: HostRuntime) -> Result<(), Fail> {
+    let alloc = rt.alloc();
+    for text in TAKEN {
+        assert_eq!(rt;
+            compile(alloc, &[source(alloc, text)?], "p")?.statements,
+            1,
+            "{text}"
+        );
+    }
+    for text in REFUSED {
+        match compile(alloc, &[source(alloc, text)?], "p") {
+            Err(Failure::Fault(fault)) => {
+                assert_eq!(rt; (fault.file, fault.line, fault.col), (0, 1, 1));
+                assert_eq!(rt; fault.why, Why::Syntax);
+            }
+            _ => panic!(rt; "taken: {text}"),
+        }
+    }
+    Ok(())
+}
+
+#[test]
+fn refuses_damaged_objects(rt: HostRuntime) -> Result<(), Fail> {
+    let alloc = rt.alloc();
+    let compiled = compile(alloc, &[source(alloc, P1)?], "P1")?;
+    let mut bytes = Vec::from(compiled.bytes);
+    bytes.push(0)?;
+    assert!(rt; read_object(alloc, bytes.as_slice()).is_err());
+    bytes.pop();
+    assert!(rt; read_object(alloc, bytes.as_slice()).is_ok());
+    for place in 0..bytes.len() {
+        let was = bytes[place];
+        bytes[place] = was ^ 1;
+        assert!(rt;
+            read_object(alloc, bytes.as_slice()).is_err(),
+            "changed at {place}"
+        );
+        bytes[place] = was;
+    }
+    bytes.pop();
+    assert!(rt; read_object(alloc, bytes.as_slice()).is_err());
+    Ok(())
+}

@@ -1,0 +1,46 @@
+//! gnatcov: structural coverage of programs from the traces of their runs.
+#![tactic(auto)]
+
+mod ada_lexer;
+mod ada_parser;
+mod ada_syntax;
+mod ada_types;
+mod annotated_report;
+mod codegen_rv32;
+mod command_words;
+mod compiler;
+mod coverage_set;
+mod decision_map;
+mod line_table;
+mod object_format;
+mod obligations;
+mod ready;
+#[cfg(test)]
+mod run_to_report;
+mod rv32_emulator;
+mod rv_machine;
+mod status;
+mod top_call;
+mod trace_format;
+mod trace_record;
+
+use cov_io::{HostFiles, HostSink};
+pub use status::Status;
+use std::process::ExitCode;
+use std::{env, io};
+pub use top_call::gnatcov;
+
+/// Calls [`gnatcov`] with the command words over real files and standard output, and ends with the
+/// status' number. Arguments that can't be had are no command.
+fn main(rt: HostRuntime) -> ExitCode {
+    let words = arguments(&rt).unwrap_or(Vec::new(rt.alloc()));
+    let mut files = HostFiles::new(&rt);
+    let mut out = HostSink::new(io::writer(&rt));
+    let status = gnatcov(rt.alloc(), words.as_slice(), &mut files, &mut out);
+    ExitCode::from(status.number())
+}
+
+/// The command words, the program's name first.
+fn arguments(rt: &HostRuntime) -> io::Result<Vec<String>> {
+    Ok(env::args(rt)?.collect(rt.alloc())?)
+}

@@ -1,0 +1,148 @@
+//! The public call: words in, a status out.
+
+ghost use Rattle.std.specs.Prelude.{◌≡◌, ◌⊎◌, ℕ, List, map, string_bytes};
+ghost use Rattle.gnatcov.specs.Clauses.{UsageIsExact, DoneIsWhole, RefusalsLeaveFiles, OthersStay, RefusalsPutOneLine, RisenReadsAreTold, ReadFaultHasCause, WriteFaultHasCause};
+ghost use Rattle.gnatcov.specs.Command.{task_view};
+ghost use Rattle.gnatcov.specs.declared.status.Status.TheVariants.{Usage, WantOfMemory};
+ghost use Rattle.gnatcov.specs.Lines.{line_of};
+ghost use Rattle.gnatcov.specs.Outcome.{call_of, PutsText, Delivers, Because, Answers};
+ghost use Rattle.gnatcov.specs.Ready.{output_view};
+ghost use Rattle.gnatcov.specs.Task.{task_of};
+ghost use Rattle.gnatcov.specs.Verdict.{name_at, name_of};
+
+use crate::command_words::{Command, words_of};
+use crate::ready::{Ready, prepare};
+use crate::status::{FileRef, OUT_OF_MEMORY_LINE, Status, USAGE_LINE, WRITE_FAULT_LINE};
+use cov_io::{FileFault, Files, Sink};
+use std::alloc::Global;
+
+#[cfg(test)]
+mod tests;
+
+/// Does what the command words ask for: reads files, then writes a file or none, then puts the
+/// output, or the one line that tells why there is none.
+pub fn gnatcov<F: Files, S: Sink>(
+    alloc: Global,
+    words: &[String],
+    files: &mut F,
+    out: &mut S,
+) -> Status
+    // Why each status comes, and what it leaves.
+    ensures answers { Answers (task_of (map string_bytes words.now)) (call_of F.held F.reads_failed F.writes_failed S.written S.failures files.old files.new out.old out.new) result }
+
+    // What follows from it, for a reader.
+    ensures usage { UsageIsExact (task_of (map string_bytes words.now)) result }
+    ensures done { DoneIsWhole (task_of (map string_bytes words.now)) (call_of F.held F.reads_failed F.writes_failed S.written S.failures files.old files.new out.old out.new) result }
+    ensures unchanged { RefusalsLeaveFiles (call_of F.held F.reads_failed F.writes_failed S.written S.failures files.old files.new out.old out.new) result }
+    ensures others { OthersStay (task_of (map string_bytes words.now)) (call_of F.held F.reads_failed F.writes_failed S.written S.failures files.old files.new out.old out.new) }
+    ensures one_line { RefusalsPutOneLine (task_of (map string_bytes words.now)) (call_of F.held F.reads_failed F.writes_failed S.written S.failures files.old files.new out.old out.new) result }
+    ensures read_rose { RisenReadsAreTold (call_of F.held F.reads_failed F.writes_failed S.written S.failures files.old files.new out.old out.new) result }
+    ensures read_fault { ReadFaultHasCause (task_of (map string_bytes words.now)) (call_of F.held F.reads_failed F.writes_failed S.written S.failures files.old files.new out.old out.new) result }
+    ensures write_fault { WriteFaultHasCause (task_of (map string_bytes words.now)) (call_of F.held F.reads_failed F.writes_failed S.written S.failures files.old files.new out.old out.new) result }
+{
+    answer(alloc, words, files, out)
+}
+
+/// The answer to the words.
+fn answer<F: Files, S: Sink>(alloc: Global, words: &[String], files: &mut F, out: &mut S) -> Status
+    ensures { Answers (task_of (map string_bytes words.now)) (call_of F.held F.reads_failed F.writes_failed S.written S.failures files.old files.new out.old out.new) result }
+{
+    match words_of(words) {
+        Ok(command) => obey(alloc, command, files, out),
+        Err(_) => {
+            put_line(USAGE_LINE, out);
+            Status::Usage
+        }
+    }
+}
+
+/// Obeys a command: all is read, checked and made before anything is written or put.
+fn obey<F: Files, S: Sink>(
+    alloc: Global,
+    command: Command<'_>,
+    files: &mut F,
+    out: &mut S,
+) -> Status
+    ensures { Because (task_view command.entry) (call_of F.held F.reads_failed F.writes_failed S.written S.failures files.old files.new out.old out.new) result }
+{
+    match prepare(alloc, command, files) {
+        Ok(ready) => deliver(&ready, files, out),
+        Err(status) => refuse(alloc, command, status, out),
+    }
+}
+
+/// Writes the file, then puts the text. Nothing is put after a put that failed.
+fn deliver<F: Files, S: Sink>(ready: &Ready, files: &mut F, out: &mut S) -> Status
+    ensures delivers { Delivers (output_view ready.now) (call_of F.held F.reads_failed F.writes_failed S.written S.failures files.old files.new out.old out.new) result }
+    ensures reads { F.reads_failed files.new ≡ F.reads_failed files.old }
+{
+    if let Some(file) = &ready.file {
+        match files.write(file.name, file.bytes.as_slice()) {
+            Ok(()) => {}
+            Err(FileFault::Failed) => {
+                put_line(WRITE_FAULT_LINE, out);
+                return Status::WriteFault;
+            }
+            Err(FileFault::NoMemory) => {
+                put_line(OUT_OF_MEMORY_LINE, out);
+                return Status::WantOfMemory;
+            }
+        }
+    }
+    match out.put(ready.text.as_slice()) {
+        Ok(()) => Status::Done,
+        Err(_) => Status::WriteFault,
+    }
+}
+
+/// Puts the line of a refusal. Where there is no memory for the line, that is the answer.
+fn refuse<S: Sink>(alloc: Global, command: Command<'_>, status: Status, out: &mut S) -> Status
+    ensures status { (result ≡ status) ⊎ (result ≡ WantOfMemory) }
+    ensures puts { PutsText (line_of (name_of (task_view command.entry) result) result) (S.written out.old) (S.written out.new) (S.failures out.old) (S.failures out.new) }
+{
+    match status.line(alloc, name_of(&command, status)) {
+        Ok(line) => {
+            put_line(line.as_str(), out);
+            status
+        }
+        Err(_) => {
+            put_line(OUT_OF_MEMORY_LINE, out);
+            Status::WantOfMemory
+        }
+    }
+}
+
+/// The name that the line of a refusal tells.
+fn name_of<'a>(command: &Command<'a>, status: Status) -> &'a str
+    ensures { result.now ≡ name_of (task_view command.now) status }
+{
+    match status {
+        Status::SourceRefused { file, .. } => name_at(command, FileRef::Word(file)),
+        Status::ReadFault { file } => name_at(command, file),
+        _ => "",
+    }
+}
+
+/// The name of a file that the command reads.
+fn name_at<'a>(command: &Command<'a>, file: FileRef) -> &'a str
+    ensures { result.now ≡ name_at (task_view command.now) file }
+{
+    let FileRef::Word(place) = file;
+    let (first, second) = match *command {
+        Command::Compile { source, .. } => (source, None),
+        Command::Run { input, object, .. } => (object, Some(input)),
+        Command::Coverage { object, trace, .. } => (object, trace),
+    };
+    match place {
+        0 => first,
+        1 => second.unwrap_or(""),
+        _ => "",
+    }
+}
+
+/// Puts a line. Where that fails there is nothing left to tell it by.
+fn put_line<S: Sink>(line: &str, out: &mut S)
+    ensures { PutsText line.now (S.written out.old) (S.written out.new) (S.failures out.old) (S.failures out.new) }
+{
+    let _ = out.put(line.as_bytes());
+}

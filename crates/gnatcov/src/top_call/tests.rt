@@ -1,0 +1,605 @@
+//! Tests of the public call over files and a sink in memory.
+
+use super::gnatcov;
+use crate::compiler::Why;
+use crate::object_format::ObjectFault;
+use crate::status::{FileRef, Status};
+use crate::trace_format::TraceFault;
+use cov_io::{Entry, Files, MemFiles, MemSink};
+use std::alloc::{AllocError, Global};
+use std::test::Fail;
+
+const P1: &str = "with Test_IO;                      -- p1.adb
+procedure P1 is
+begin
+   Test_IO.Put (1);
+   return;
+   Test_IO.Put (2);
+end P1;
+";
+
+/// `P1` without its first line, which lets it put.
+const BARE_P1: &str = "procedure P1 is
+begin
+   Test_IO.Put (1);
+   return;
+   Test_IO.Put (2);
+end P1;
+";
+
+const Z: &str = "procedure Z is
+begin
+   null;
+end Z;
+";
+
+const P1_REPORT: &str = "gnatcov report
+level: stmt
+traces: 1
+violations: 1
+p1.adb:6:4: statement not executed
+exempted: 0
+statements: 2 of 3
+";
+
+const Z_REPORT: &str = "gnatcov report
+level: stmt
+traces: 1
+violations: 0
+exempted: 0
+statements: 1 of 1
+";
+
+const Z_REPORT_WITHOUT_RUNS: &str = "gnatcov report
+level: stmt
+traces: 0
+violations: 1
+z.adb:3:4: statement not executed
+exempted: 0
+statements: 0 of 1
+";
+
+const COMPILE: &str = "gnatcov compile --main=P1 -o new p1.adb";
+
+const RUN: &str = "gnatcov run --input=empty -o new p1.obj";
+
+const COVERAGE: &str = "gnatcov coverage --level=stmt --annotate=report --object=p1.obj p1.trace";
+
+/// All names of files but `new` that the tests name and make.
+const NAMES: [&str; 7] = [
+    "p1.adb", "z.adb", "empty", "p1.obj", "z.obj", "p1.trace", "z.trace",
+];
+
+/// A command that makes a file, and tells a number between two texts, of which the second ends
+/// in the file's closing digest.
+#[derive(Clone, Copy)]
+struct Making {
+    line: &'static str,
+    file: &'static str,
+    before: &'static str,
+    after: &'static str,
+}
+
+const P1_OBJECT: Making = Making {
+    line: "gnatcov compile --main=P1 -o p1.obj p1.adb",
+    file: "p1.obj",
+    before: "obligations: ",
+    after: " statements, 0 decisions, 0 conditions\nobject: ",
+};
+
+const Z_OBJECT: Making = Making {
+    line: "gnatcov compile --main=Z -o z.obj z.adb",
+    file: "z.obj",
+    before: "obligations: ",
+    after: " statements, 0 decisions, 0 conditions\nobject: ",
+};
+
+const P1_TRACE: Making = Making {
+    line: "gnatcov run --input=empty -o p1.trace p1.obj",
+    file: "p1.trace",
+    before: "put: 1\nending: return\ninstructions: ",
+    after: "\nrun: ",
+};
+
+const Z_TRACE: Making = Making {
+    line: "gnatcov run --input=empty -o z.trace z.obj",
+    file: "z.trace",
+    before: "ending: return\ninstructions: ",
+    after: "\nrun: ",
+};
+
+/// What fails outside: calls of the files and puts, by their numbers, and what passes the room.
+#[derive(Clone, Copy)]
+struct Plan {
+    calls: &'static [u64],
+    puts: &'static [u64],
+    room: usize,
+}
+
+/// A plan by which nothing fails.
+const NO_FAULTS: Plan = Plan {
+    calls: &[],
+    puts: &[],
+    room: 5000,
+};
+
+/// A command line under a plan, and what has to come of it.
+#[derive(Clone, Copy)]
+struct Case<'a> {
+    line: &'a str,
+    plan: Plan,
+    status: Status,
+    text: &'a str,
+    /// The file with the bytes that `new` then has. All other files have to be as before.
+    new_is: Option<&'static str>,
+    /// How many reads and writes have failed.
+    faults: (u64, u64),
+}
+
+/// A command during which nothing outside fails, and which writes nothing.
+fn quiet<'a>(line: &'a str, status: Status, text: &'a str) -> Case<'a> {
+    Case {
+        line,
+        plan: NO_FAULTS,
+        status,
+        text,
+        new_is: None,
+        faults: (0, 0),
+    }
+}
+
+/// Words that are no command. Had they made a call, it would have failed.
+fn misused(line: &str) -> Case<'_> {
+    Case {
+        plan: Plan {
+            calls: &[0, 1, 2, 3],
+            ..NO_FAULTS
+        },
+        ..quiet(line, Status::Usage, "gnatcov: usage\n")
+    }
+}
+
+/// A command whose read of the file in this place fails, which is this call.
+fn unread(
+    line: &'static str,
+    place: u32,
+    calls: &'static [u64],
+    text: &'static str,
+) -> Case<'static> {
+    Case {
+        plan: Plan { calls, ..NO_FAULTS },
+        faults: (1, 0),
+        ..quiet(line, unread_status(place), text)
+    }
+}
+
+fn unread_status(place: u32) -> Status {
+    Status::ReadFault {
+        file: FileRef::Word(place),
+    }
+}
+
+/// A command whose write fails.
+fn unwritten(line: &'static str, calls: &'static [u64]) -> Case<'static> {
+    Case {
+        plan: Plan { calls, ..NO_FAULTS },
+        faults: (0, 1),
+        ..quiet(line, Status::WriteFault, "gnatcov: cannot write\n")
+    }
+}
+
+/// A command whose first put fails, which is that of its output.
+fn unput(line: &'static str, new_is: Option<&'static str>) -> Case<'static> {
+    Case {
+        plan: Plan {
+            puts: &[0],
+            ..NO_FAULTS
+        },
+        new_is,
+        ..quiet(line, Status::WriteFault, "")
+    }
+}
+
+/// A command that writes no file, of whose output only the first bytes fit.
+fn unfit(line: &'static str, room: usize, text: &'static str) -> Case<'static> {
+    Case {
+        plan: Plan { room, ..NO_FAULTS },
+        ..quiet(line, Status::WriteFault, text)
+    }
+}
+
+/// The same refusal where the put of its line fails.
+fn muted(case: Case<'_>) -> Case<'_> {
+    Case {
+        plan: Plan {
+            puts: &[0],
+            ..case.plan
+        },
+        text: "",
+        ..case
+    }
+}
+
+/// The same refusal where only ten bytes of its line fit.
+fn cut(case: Case<'_>) -> Case<'_> {
+    Case {
+        plan: Plan {
+            room: 10,
+            ..case.plan
+        },
+        text: case.text.get(..10).unwrap_or(""),
+        ..case
+    }
+}
+
+fn entry(alloc: Global, name: &str, bytes: &[u8]) -> Result<Entry, AllocError> {
+    Ok(Entry {
+        name: String::from_str(alloc, name)?,
+        bytes: Vec::from_slice(alloc, bytes)?,
+    })
+}
+
+/// The two sources and an empty input.
+fn sources(alloc: Global) -> Result<MemFiles, AllocError> {
+    let mut contents = Vec::new(alloc);
+    for (name, text) in [("p1.adb", P1), ("z.adb", Z), ("empty", "")] {
+        contents.push(entry(alloc, name, text.as_bytes())?)?;
+    }
+    Ok(MemFiles::new(contents, Vec::new(alloc)))
+}
+
+/// The sources with their objects and traces.
+fn all_files(alloc: Global) -> Result<MemFiles, AllocError> {
+    let mut files = sources(alloc)?;
+    for making in [P1_OBJECT, Z_OBJECT, P1_TRACE, Z_TRACE] {
+        let _ = put_by(alloc, making.line, &mut files)?;
+    }
+    Ok(files)
+}
+
+/// The same files, which fail at these calls.
+fn copied(alloc: Global, files: &MemFiles, failing: &[u64]) -> Result<MemFiles, AllocError> {
+    let mut contents = Vec::new(alloc);
+    for name in NAMES {
+        if let Some(bytes) = files.get(name) {
+            contents.push(entry(alloc, name, bytes)?)?;
+        }
+    }
+    Ok(MemFiles::new(contents, Vec::from_slice(alloc, failing)?))
+}
+
+/// The words of a line. An empty line has none.
+fn words_of(alloc: Global, line: &str) -> Result<Vec<String>, AllocError> {
+    let mut words = Vec::new(alloc);
+    if !line.is_empty() {
+        for word in line.split(' ') {
+            words.push(String::from_str(alloc, word)?)?;
+        }
+    }
+    Ok(words)
+}
+
+/// What a command puts, or nothing where it is not done.
+fn put_by(alloc: Global, line: &str, files: &mut MemFiles) -> Result<String, AllocError> {
+    let words = words_of(alloc, line)?;
+    let mut out = MemSink::new(alloc, NO_FAULTS.room, Vec::new(alloc))?;
+    match gnatcov(alloc, words.as_slice(), files, &mut out) {
+        Status::Done => String::from_utf8_lossy(alloc, out.as_slice()),
+        _ => Ok(String::new(alloc)),
+    }
+}
+
+/// The number that a command tells that makes a file, if all the rest is as wanted.
+fn number_by(
+    alloc: Global,
+    making: &Making,
+    files: &mut MemFiles,
+) -> Result<Option<u32>, AllocError> {
+    let text = put_by(alloc, making.line, files)?;
+    let closing = closing_of(alloc, files.get(making.file).unwrap_or(&[]))?;
+    let after = making.after;
+    let after = format!(in alloc; "{after}{closing}\n")?;
+    Ok(number_between(text.as_str(), making.before, after.as_str()))
+}
+
+/// The last 32 bytes of a file in hexadecimal digits.
+fn closing_of(alloc: Global, bytes: &[u8]) -> Result<String, AllocError> {
+    hex::encode(alloc, &bytes[bytes.len().saturating_sub(32)..])
+}
+
+fn number_between(text: &str, before: &str, after: &str) -> Option<u32> {
+    let rest = text.strip_prefix(before)?;
+    let number = rest.strip_suffix(after)?;
+    number.parse::<u32>().ok()
+}
+
+/// Whether a command over a copy of the files comes to what it has to.
+fn holds(alloc: Global, before: &MemFiles, case: &Case<'_>) -> Result<bool, AllocError> {
+    let words = words_of(alloc, case.line)?;
+    let mut files = copied(alloc, before, case.plan.calls)?;
+    let puts = Vec::from_slice(alloc, case.plan.puts)?;
+    let mut out = MemSink::new(alloc, case.plan.room, puts)?;
+    let status = gnatcov(alloc, words.as_slice(), &mut files, &mut out);
+    let told = status == case.status && out.as_slice() == case.text.as_bytes();
+    Ok(told && kept(before, &files, case))
+}
+
+/// Whether the files are afterwards as they have to be.
+fn kept(before: &MemFiles, after: &MemFiles, case: &Case<'_>) -> bool {
+    let new = case.new_is.and_then(|name| before.get(name));
+    let faults = (after.read_faults(), after.write_faults());
+    after.get("new") == new && faults == case.faults && are_same(before, after)
+}
+
+/// Whether all files but `new` have the same bytes.
+fn are_same(before: &MemFiles, after: &MemFiles) -> bool {
+    NAMES.iter().all(|name| after.get(name) == before.get(name))
+}
+
+/// Whether a refusal comes to what it has to where its line is put, is not put, and is put in part.
+fn holds_at_each_put(
+    alloc: Global,
+    before: &MemFiles,
+    case: &Case<'_>,
+) -> Result<bool, AllocError> {
+    for refusal in [*case, muted(*case), cut(*case)] {
+        if !holds(alloc, before, &refusal)? {
+            return Ok(false);
+        }
+    }
+    Ok(true)
+}
+
+/// The place of the first case that comes to something else.
+fn broken(
+    alloc: Global,
+    before: &MemFiles,
+    cases: &[Case<'_>],
+) -> Result<Option<usize>, AllocError> {
+    for (place, case) in cases.iter().enumerate() {
+        if !holds(alloc, before, case)? {
+            return Ok(Some(place));
+        }
+    }
+    Ok(None)
+}
+
+/// The place of the first refusal that comes to something else, at one of its puts.
+fn broken_refusal(
+    alloc: Global,
+    before: &MemFiles,
+    cases: &[Case<'_>],
+) -> Result<Option<usize>, AllocError> {
+    for (place, case) in cases.iter().enumerate() {
+        if !holds_at_each_put(alloc, before, case)? {
+            return Ok(Some(place));
+        }
+    }
+    Ok(None)
+}
+
+/// The place of the first of the lines that is not refused as it has to be.
+fn taken(alloc: Global, before: &MemFiles, lines: &[&str]) -> Result<Option<usize>, AllocError> {
+    for (place, line) in lines.iter().enumerate() {
+        if !holds_at_each_put(alloc, before, &misused(line))? {
+            return Ok(Some(place));
+        }
+    }
+    Ok(None)
+}
+
+/// Whether a name of so many bytes makes the words no command.
+fn is_too_long(alloc: Global, before: &MemFiles, length: usize) -> Result<bool, AllocError> {
+    let name = "a".repeat(alloc, length)?;
+    let line = format!(in alloc; "gnatcov compile --main=P1 -o new {name}")?;
+    holds(alloc, before, &misused(line.as_str()))
+}
+
+/// Whether a file with a name of so many bytes is looked for.
+fn is_looked_for(alloc: Global, before: &MemFiles, length: usize) -> Result<bool, AllocError> {
+    let name = "a".repeat(alloc, length)?;
+    let line = format!(in alloc; "gnatcov compile --main=P1 -o new {name}")?;
+    let text = format!(in alloc; "gnatcov: cannot read {name}\n")?;
+    let case = quiet(line.as_str(), unread_status(0), text.as_str());
+    holds(alloc, before, &case)
+}
+
+const USAGE: [&str; 33] = [
+    "",
+    "gnatcov",
+    "gnatcov compile",
+    // A word too many.
+    "gnatcov run --input=empty -o new p1.obj p1.obj",
+    "gnatcov compile --main=P1 -o new p1.adb z.adb",
+    "gnatcov coverage --level=stmt --annotate=report --object=p1.obj p1.trace p1.trace",
+    "gnatcov run --input=empty --budget=5 -o new p1.obj",
+    // An option or a name that is missing.
+    "gnatcov compile -o new p1.adb",
+    "gnatcov compile --main=P1 new p1.adb",
+    "gnatcov compile --main=P1 -o new",
+    "gnatcov run -o new p1.obj",
+    "gnatcov run --input=empty p1.obj",
+    "gnatcov coverage --annotate=report --object=p1.obj",
+    "gnatcov coverage --level=stmt --object=p1.obj",
+    "gnatcov coverage --level=stmt --annotate=report p1.trace",
+    // A value that is not known.
+    "gnatcov coverage --level=branch --annotate=report --object=p1.obj",
+    "gnatcov coverage --level=stmt+mcdc --annotate=report --object=p1.obj",
+    "gnatcov coverage --level=stmt --annotate=xcov --object=p1.obj",
+    "gnatcov consolidate --object=p1.obj -o new p1.trace",
+    "gnatcov Compile --main=P1 -o new p1.adb",
+    // A name that begins with `-` or is empty.
+    "gnatcov compile --main=-P1 -o new p1.adb",
+    "gnatcov compile --main=P1 -o -new p1.adb",
+    "gnatcov compile --main=P1 -o new -p1.adb",
+    "gnatcov run --input=-empty -o new p1.obj",
+    "gnatcov coverage --level=stmt --annotate=report --object=p1.obj -p1.trace",
+    "gnatcov compile --main= -o new p1.adb",
+    "gnatcov compile --main=P1 -o new ",
+    "gnatcov run --input= -o new p1.obj",
+    "gnatcov coverage --level=stmt --annotate=report --object=",
+    // Another order or form.
+    "gnatcov compile -o new --main=P1 p1.adb",
+    "gnatcov run -o new --input=empty p1.obj",
+    "gnatcov coverage --annotate=report --level=stmt --object=p1.obj",
+    "gnatcov compile --main P1 -o new p1.adb",
+];
+
+#[test]
+fn goes_from_sources_to_a_report(rt: HostRuntime) -> Result<(), Fail> {
+    let alloc = rt.alloc();
+    let mut files = sources(alloc)?;
+    assert_eq!(rt; number_by(alloc, &P1_OBJECT, &mut files)?, Some(3));
+    assert_eq!(rt; number_by(alloc, &Z_OBJECT, &mut files)?, Some(1));
+    assert!(rt; number_by(alloc, &P1_TRACE, &mut files)?.is_some());
+    assert!(rt; number_by(alloc, &Z_TRACE, &mut files)?.is_some());
+    let report = put_by(alloc, COVERAGE, &mut files)?;
+    assert_eq!(rt; report.as_str(), P1_REPORT);
+    Ok(())
+}
+
+fn reports() -> [Case<'static>; 3] {
+    [
+        quiet(COVERAGE, Status::Done, P1_REPORT),
+        quiet(
+            "gnatcov coverage --level=stmt --annotate=report --object=z.obj z.trace",
+            Status::Done,
+            Z_REPORT,
+        ),
+        quiet(
+            "gnatcov coverage --level=stmt --annotate=report --object=z.obj",
+            Status::Done,
+            Z_REPORT_WITHOUT_RUNS,
+        ),
+    ]
+}
+
+#[test]
+fn reports_and_writes_no_file(rt: HostRuntime) -> Result<(), Fail> {
+    let files = all_files(rt.alloc())?;
+    assert_eq!(rt; broken(rt.alloc(), &files, &reports())?, None);
+    Ok(())
+}
+
+const SOURCE_REFUSED: Status = Status::SourceRefused {
+    file: 0,
+    line: 1,
+    col: 1,
+    why: Why::Syntax,
+};
+
+const OBJECT_REFUSED: Status = Status::ObjectRefused {
+    why: ObjectFault::Damaged,
+};
+
+const TRACE_REFUSED: Status = Status::TraceRefused {
+    index: 1,
+    why: TraceFault::Damaged,
+};
+
+fn refusals() -> [Case<'static>; 4] {
+    [
+        quiet(COMPILE, SOURCE_REFUSED, "gnatcov: p1.adb:1:1: syntax\n"),
+        quiet(
+            "gnatcov coverage --level=stmt --annotate=report --object=z.obj p1.trace",
+            TRACE_REFUSED,
+            "gnatcov: trace 1 refused: damaged\n",
+        ),
+        quiet(
+            "gnatcov run --input=empty -o new p1.trace",
+            OBJECT_REFUSED,
+            "gnatcov: object refused: damaged\n",
+        ),
+        quiet(
+            "gnatcov run --input=z.adb -o new p1.obj",
+            Status::InputRefused { line: 1 },
+            "gnatcov: input line 1 refused\n",
+        ),
+    ]
+}
+
+#[test]
+fn refuses_what_fails_its_checks(rt: HostRuntime) -> Result<(), Fail> {
+    let mut files = all_files(rt.alloc())?;
+    files.write("p1.adb", BARE_P1.as_bytes())?;
+    assert_eq!(rt; broken_refusal(rt.alloc(), &files, &refusals())?, None);
+    Ok(())
+}
+
+fn file_faults() -> [Case<'static>; 7] {
+    [
+        unread(COMPILE, 0, &[0], "gnatcov: cannot read p1.adb\n"),
+        unwritten(COMPILE, &[1]),
+        unread(RUN, 0, &[0], "gnatcov: cannot read p1.obj\n"),
+        unread(RUN, 1, &[1], "gnatcov: cannot read empty\n"),
+        unwritten(RUN, &[2]),
+        unread(COVERAGE, 0, &[0], "gnatcov: cannot read p1.obj\n"),
+        unread(COVERAGE, 1, &[1], "gnatcov: cannot read p1.trace\n"),
+    ]
+}
+
+#[test]
+fn tells_each_read_and_write_that_fails(rt: HostRuntime) -> Result<(), Fail> {
+    let files = all_files(rt.alloc())?;
+    assert_eq!(rt; broken_refusal(rt.alloc(), &files, &file_faults())?, None);
+    Ok(())
+}
+
+fn put_faults() -> [Case<'static>; 4] {
+    [
+        unput(COMPILE, Some("p1.obj")),
+        unput(RUN, Some("p1.trace")),
+        unput(COVERAGE, None),
+        unfit(COVERAGE, 14, "gnatcov report"),
+    ]
+}
+
+#[test]
+fn puts_nothing_after_a_put_that_failed(rt: HostRuntime) -> Result<(), Fail> {
+    let files = all_files(rt.alloc())?;
+    assert_eq!(rt; broken(rt.alloc(), &files, &put_faults())?, None);
+    Ok(())
+}
+
+/// A command whose file in this place, `none`, is not there.
+fn absent(line: &'static str, place: u32) -> Case<'static> {
+    quiet(line, unread_status(place), "gnatcov: cannot read none\n")
+}
+
+fn absences() -> [Case<'static>; 5] {
+    [
+        absent("gnatcov compile --main=P1 -o new none", 0),
+        absent("gnatcov run --input=empty -o new none", 0),
+        absent("gnatcov run --input=none -o new p1.obj", 1),
+        absent(
+            "gnatcov coverage --level=stmt --annotate=report --object=none p1.trace",
+            0,
+        ),
+        absent(
+            "gnatcov coverage --level=stmt --annotate=report --object=p1.obj none",
+            1,
+        ),
+    ]
+}
+
+#[test]
+fn counts_no_fault_for_an_absent_file(rt: HostRuntime) -> Result<(), Fail> {
+    let files = all_files(rt.alloc())?;
+    assert_eq!(rt; broken_refusal(rt.alloc(), &files, &absences())?, None);
+    Ok(())
+}
+
+#[test]
+fn touches_no_file_for_words_that_are_no_command(rt: HostRuntime) -> Result<(), Fail> {
+    let files = all_files(rt.alloc())?;
+    assert_eq!(rt; taken(rt.alloc(), &files, &USAGE)?, None);
+    Ok(())
+}
+
+#[test]
+fn takes_words_of_so_many_bytes(rt: HostRuntime) -> Result<(), Fail> {
+    let files = all_files(rt.alloc())?;
+    assert!(rt; is_too_long(rt.alloc(), &files, 4097)?);
+    assert!(rt; is_looked_for(rt.alloc(), &files, 4096)?);
+    Ok(())
+}

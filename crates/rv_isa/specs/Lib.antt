@@ -1,0 +1,4 @@
+pub mod Immediates
+pub mod Words
+pub mod Rows
+pub mod Decoding
