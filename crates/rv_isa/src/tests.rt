@@ -1,4 +1,5 @@
-//! Words of GNU's assembler for RISC-V, and words that hold no instruction.
+//! Words worked out from the manual's tables and words of GNU's assembler for RISC-V, and words that
+//! hold no instruction.
 
 use crate::{Imm12, Imm20, Instr, Reg, ShiftAmount, ShiftOp, decode, encode};
 use std::alloc::{AllocError, Global};
@@ -101,7 +102,23 @@ fn branch(bytes: i32) -> Option<Imm12> {
 }
 
 /// Each of the 48 instructions, each form with its least and greatest immediates and registers.
-static ROWS: [(u32, &str); 94] = [
+static ROWS: [(u32, &str); 110] = [
+    (0x0000_0067, "Jalr 0 0 0x0"),
+    (0x0000_1537, "Lui 10 0x1"),
+    (0x0000_0017, "Auipc 0 0x0"),
+    (0x800f_8f93, "Addi 31 31 0x800"),
+    (0xffff_afa3, "Sw 31 31 0xfff"),
+    (0x0000_5003, "Lhu 0 0 0x0"),
+    (0x7fff_ffe3, "Bgeu 31 31 0x7ff"),
+    (0x8000_5063, "Bge 0 0 0x800"),
+    (0xffff_f06f, "Jal 0 0xfffff"),
+    (0x7fe0_0fef, "Jal 31 0x3ff"),
+    (0x41ff_dfb3, "Sra 31 31 31"),
+    (0x0200_6033, "Rem 0 0 0"),
+    (0x03ff_bfb3, "Mulhu 31 31 31"),
+    (0xfff0_3013, "Sltiu 0 0 0xfff"),
+    (0x7fff_e013, "Ori 0 31 0x7ff"),
+    (0x0000_7f93, "Andi 31 0 0x0"),
     (0x1234_52b7, "Lui 5 0x12345"),
     (0x0000_0037, "Lui 0 0x0"),
     (0xffff_ffb7, "Lui 31 0xfffff"),

@@ -1,0 +1,6 @@
+pub mod Readings
+pub mod Places
+pub mod Trees
+pub mod BitLemmas
+pub mod Findings
+pub mod Climbs

@@ -1,0 +1,11 @@
+mod Examples
+pub mod Walks
+pub mod Edges
+pub mod Bits
+pub mod Follows
+pub mod Shapes
+pub mod Turns
+pub mod Reached
+pub mod Pairs
+pub mod Choices
+pub mod AllEdges

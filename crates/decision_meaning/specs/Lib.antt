@@ -1,0 +1,7 @@
+pub mod Expr
+pub mod Graph
+pub mod Marks
+pub mod Path
+pub mod Pair
+pub mod Verdict
+pub mod Turn

@@ -1,0 +1,31 @@
+-- What lists of statements and of vectors cover.
+use Rattle.std.specs.Prelude.{◌≡◌, ◌<◌, ℕ, Bool, true, false, List}
+use Rattle.cov_base.specs.declared.event.Vector.{Vector}
+use Rattle.cov_base.specs.declared.position.StmtId.{StmtId}
+use Rattle.decision_meaning.specs.Expr.{Expr, size}
+use Rattle.decision_meaning.specs.Marks.{Marks, marks, bit, outcome}
+use Rattle.decision_meaning.specs.Pair.{Pair, Somewhere, IsPairOf}
+
+-- a statement is covered where it was started
+abbrev pub IsStarted : List StmtId → StmtId → Type 0
+IsStarted started statement = Somewhere (λ s. s ≡ statement) started
+
+-- some vector of the list gives this outcome
+abbrev pub Gives : Expr → List Vector → Bool → Type 0
+Gives e vectors given = Somewhere (λ v. outcome e (marks v) ≡ given) vectors
+
+-- a decision is covered where both outcomes were given
+abbrev pub GivesBoth : Expr → List Vector → Type 0
+GivesBoth e vectors = Gives e vectors false × Gives e vectors true
+
+-- a condition is covered, by the test of a kind of pair for it, where the list has a pair that passes
+abbrev pub HasPair : (test : Marks → Marks → Bool) → List Vector → Type 0
+HasPair test vectors = (p : Pair) × IsPairOf test vectors p
+
+-- a vector of the list takes the edge of node k for this value
+abbrev pub TakesEdge : List Vector → ℕ → Bool → Type 0
+TakesEdge vectors k value = Somewhere (λ v. (bit v.seen k ≡ true) × (bit v.value k ≡ value)) vectors
+
+-- the vectors of the list take every edge of a decision's graph
+abbrev pub TakesAllEdges : Expr → List Vector → Type 0
+TakesAllEdges e vectors = (k : ℕ) (value : Bool) → k < size e → TakesEdge vectors k value
