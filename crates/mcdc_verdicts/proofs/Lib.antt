@@ -1,0 +1,7 @@
+pub mod Marking
+pub mod Ordering
+pub mod Lists
+pub mod Causing
+pub mod Searching
+pub mod Spelling
+pub mod Walking

@@ -1,0 +1,16 @@
+//! Which statements, decisions and conditions a list of events covers.
+//!
+//! The contract that the layers above use: [`statement`] says whether a statement was started,
+//! [`decision`] which outcomes a decision gave, and [`unique_cause`] and [`masking`] answer the least
+//! pair of vectors of their kind that shows a condition to matter, and none exactly where no two
+//! vectors are such a pair.
+#![tactic(auto)]
+
+mod order;
+mod pair;
+#[cfg(test)]
+mod tests;
+mod verdict;
+
+pub use pair::{masking, unique_cause};
+pub use verdict::{Outcomes, decision, statement};
