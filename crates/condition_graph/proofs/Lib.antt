@@ -4,3 +4,4 @@ pub mod Trees
 pub mod BitLemmas
 pub mod Findings
 pub mod Climbs
+pub mod Ways

@@ -26,6 +26,13 @@ next_of_place xs k value d within is =
     ∙ ap (λ (x : Edges). target x value) (sym (get_or-map edges_of xs k d))
     ∙ sym (next_at (map edges_of xs) 0 k k value (edges_of d) (omega arith) (omega arith))
 
+pub next_of_item : (xs : List Exits) (k : ℕ) (value : Bool) (d : Exits) → k < length xs
+    → target (edges_of (get_or xs k d)) value ≡ next_in (map edges_of xs) k value
+next_of_item xs k value d within =
+    let same_length : length (map edges_of xs) ≡ length xs = length-map xs edges_of in
+    ap (λ (x : Edges). target x value) (sym (get_or-map edges_of xs k d))
+    ∙ sym (next_at (map edges_of xs) 0 k k value (edges_of d) (omega arith) (omega arith))
+
 -- a list that is a decision's graph has a node for each condition
 pub length_of_graph : (xs : List Exits) (e : Expr) → map edges_of xs ≡ graph e → length xs ≡ size e
 length_of_graph xs e is = sym (length-map xs edges_of) ∙ ap length is ∙ length-nodes e 0 (leaf true) (leaf false)

@@ -11,7 +11,7 @@ use crate::node::{Exits, Next};
 use crate::reading::Reading;
 use crate::tree::{are_entered_once, vector_by};
 use crate::turn::turning_conditions;
-use crate::walk::end_of_walk;
+use crate::walk::{end_of_walk, is_path};
 use cov_base::{CondIx, DecisionExpr, Vector};
 use std::alloc::{AllocError, Global};
 use std::marker::Model;
@@ -45,7 +45,8 @@ impl Graph {
 
     /// How many conditions there are.
     pub fn conditions(&self) -> usize
-        ensures { result ≡ length self.now }
+        ensures count { result ≡ length self.now }
+        ensures few { result ≤ 32 }
     {
         self.nodes.len()
     }
@@ -70,6 +71,16 @@ impl Graph {
         ensures { IsTrue result ↔ IsTree self.now }
     {
         are_entered_once(self.nodes.as_slice())
+    }
+
+    /// Whether a vector is that of a path from the root to an outcome.
+    pub fn is_path(&self, v: Vector) -> bool
+        ensures exact { (e : Expr) → self.now ≡ graph e → IsTrue result ↔ IsPathVector self.now v }
+
+        // Where a caller doesn't know of what expression the graph is.
+        ensures path { IsTrue result → IsPathVector self.now v }
+    {
+        is_path(self.nodes.as_slice(), v)
     }
 
     /// The unmasked conditions of a vector of one of the graph's paths, bit by bit.

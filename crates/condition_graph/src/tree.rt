@@ -10,7 +10,7 @@ use crate::node::{Exits, Next, Step};
 use cov_base::{CondIx, Vector};
 
 /// Whether a place is the node of a condition.
-fn is_node(place: Next, node: CondIx) -> bool
+pub(crate) fn is_node(place: Next, node: CondIx) -> bool
     ensures { result ≡ is_node (place_of place) node.0 }
 {
     match place {
@@ -69,7 +69,7 @@ pub(crate) fn are_entered_once(nodes: &[Exits]) -> bool
 }
 
 /// The vector with one step more.
-fn with_step(v: Vector, step: Step) -> Vector
+pub(crate) fn with_step(v: Vector, step: Step) -> Vector
     requires { step.node.0 < 32 }
     ensures { result ≡ record {
       seen = bit_or v.seen (2 ^ step.node.0);

@@ -43,7 +43,7 @@ or_false true = refl
 or_false false = refl
 
 -- the value at a step that a path takes
-value_at : (e : Expr) (step : Step) (older : List Step) → LeadsTo (graph e) older (node step.at_node) → some_step (is_true_at step.at_node) (step ∷ older) ≡ step.value
+pub value_at : (e : Expr) (step : Step) (older : List Step) → LeadsTo (graph e) older (node step.at_node) → some_step (is_true_at step.at_node) (step ∷ older) ≡ step.value
 value_at e step older leads =
     rw (eq-eqb step.at_node step.at_node refl, none_past e is_true_at apart_true older step.at_node step.at_node leads (omega arith)) (or_false step.value)
 

@@ -19,7 +19,7 @@ onto [] later = later
 onto (step ∷ older) later = onto older (step ∷ later)
 
 -- a path from its earliest step on
-forward : (es : List Edges) (path later : List Step) (x y : Next) → LeadsTo es path x → Runs (next_in es) x later y → Runs (next_in es) (node 0) (onto path later) y
+pub forward : (es : List Edges) (path later : List Step) (x y : Next) → LeadsTo es path x → Runs (next_in es) x later y → Runs (next_in es) (node 0) (onto path later) y
 forward es [] later x y leads runs = subst (λ (z : Next). Runs (next_in es) z later y) leads runs
 forward es (step ∷ older) later x y leads runs =
     forward es older (step ∷ later) (node step.at_node) y leads.1
@@ -31,7 +31,7 @@ or_moves true false z = refl
 or_moves false true z = refl
 or_moves false false z = refl
 
-some_onto : (test : Step → Bool) (path later : List Step) → some_step test (onto path later) ≡ (some_step test path || some_step test later)
+pub some_onto : (test : Step → Bool) (path later : List Step) → some_step test (onto path later) ≡ (some_step test path || some_step test later)
 some_onto test [] later = refl
 some_onto test (step ∷ older) later =
     some_onto test older (step ∷ later) ∙ or_moves (test step) (some_step test older) (some_step test later)
@@ -45,7 +45,7 @@ abbrev pub AllRise : (ℕ → Bool → Next) → ℕ → Type 0
 AllRise next m = (k : ℕ) (b : Bool) (j : ℕ) → next k b ≡ node j → (k < j) × (j < m)
 
 -- a walk that is ahead of node n has no step there
-none_at : (test : ℕ → Step → Bool) → ((n : ℕ) (s : Step) → n < s.at_node → test n s ≡ false)
+pub none_at : (test : ℕ → Step → Bool) → ((n : ℕ) (s : Step) → n < s.at_node → test n s ≡ false)
     → (next : ℕ → Bool → Next) (m : ℕ) → AllRise next m → (steps : List Step) (n : ℕ) (x y : Next) → Runs next x steps y → IsAhead (suc n) x
     → some_step (test n) steps ≡ false
 none_at test apart next m rises [] n x y runs ahead = refl
@@ -61,7 +61,7 @@ none_at test apart next m rises (step ∷ later) n x y runs ahead =
 apart_at : (n : ℕ) (s : Step) → n < s.at_node → is_at n s ≡ false
 apart_at n s below = ne_eqb n s.at_node (λ e. absurd (omega arith))
 
-apart_true : (n : ℕ) (s : Step) → n < s.at_node → is_true_at n s ≡ false
+pub apart_true : (n : ℕ) (s : Step) → n < s.at_node → is_true_at n s ≡ false
 apart_true n s below = rw (ne_eqb n s.at_node (λ e. absurd (omega arith))) refl
 
 -- whether a walk is at node n
@@ -101,11 +101,11 @@ says_rest n v step later here says = record {
 }
 
 -- a walk at a leaf has no steps left
-at_leaf : (next : ℕ → Bool → Next) (steps : List Step) (x ends : Bool) → Runs next (leaf x) steps (leaf ends) → (x ≡ ends) × (steps ≡ [])
+pub at_leaf : (next : ℕ → Bool → Next) (steps : List Step) (x ends : Bool) → Runs next (leaf x) steps (leaf ends) → (x ≡ ends) × (steps ≡ [])
 at_leaf next [] x ends runs = (cc, refl)
 at_leaf next (step ∷ later) x ends runs = let off : leaf x ≡ node step.at_node = runs.0 in absurd (cc)
 
-rises_ahead : (next : ℕ → Bool → Next) (m : ℕ) → AllRise next m → (k : ℕ) (b : Bool) (x : Next) → next k b ≡ x → IsAhead (suc k) x × IsBelow m x
+pub rises_ahead : (next : ℕ → Bool → Next) (m : ℕ) → AllRise next m → (k : ℕ) (b : Bool) (x : Next) → next k b ≡ x → IsAhead (suc k) x × IsBelow m x
 rises_ahead next m rises k b (node j) is = let rise = rises k b j is in (omega (arith, rise.0), rise.1)
 rises_ahead next m rises k b (leaf ends) is = (tt, tt)
 

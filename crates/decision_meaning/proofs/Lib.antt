@@ -7,5 +7,6 @@ pub mod Shapes
 pub mod Turns
 pub mod Reached
 pub mod Pairs
+pub mod Symmetry
 pub mod Choices
 pub mod AllEdges

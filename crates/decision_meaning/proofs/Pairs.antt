@@ -35,13 +35,13 @@ not_same true b is equal = let both : true ≡ false = sym equal ∙ is in absur
 not_same false true is equal = absurd (cc equal)
 not_same false false is equal = absurd (cc is)
 
-same_swap : (a b : Bool) → same a b ≡ same b a
+pub same_swap : (a b : Bool) → same a b ≡ same b a
 same_swap true true = refl
 same_swap true false = refl
 same_swap false true = refl
 same_swap false false = refl
 
-and_swap : (a b : Bool) → (a && b) ≡ (b && a)
+pub and_swap : (a b : Bool) → (a && b) ≡ (b && a)
 and_swap true true = refl
 and_swap true false = refl
 and_swap false true = refl
@@ -217,7 +217,7 @@ others_at c (suc m) v w d all below other =
     (⊎_elim (λ is_c. absurd (at_m (eqb-true m c is_c))) (λ agree. agree) (or_cases (eqb m c) (agrees m v w) parts.0)))
     (cases_lt d m)
 
-agrees_swap : (d : ℕ) (v w : Marks) → agrees d v w ≡ agrees d w v
+pub agrees_swap : (d : ℕ) (v w : Marks) → agrees d v w ≡ agrees d w v
 agrees_swap d v w =
     ap (λ (b : Bool). not b || same (v.value d) (w.value d)) (and_swap (v.seen d) (w.seen d))
     ∙ ap (λ (b : Bool). not (w.seen d && v.seen d) || b) (same_swap (v.value d) (w.value d))

@@ -3,7 +3,9 @@ use Rattle.std.specs.Prelude.{◌≡◌, ◌<◌, ℕ, Bool, true, false, List}
 use Rattle.cov_base.specs.declared.event.Vector.{Vector}
 use Rattle.cov_base.specs.declared.position.StmtId.{StmtId}
 use Rattle.decision_meaning.specs.Expr.{Expr, size}
+use Rattle.decision_meaning.specs.Graph.{graph}
 use Rattle.decision_meaning.specs.Marks.{Marks, marks, bit, outcome}
+use Rattle.decision_meaning.specs.Path.{IsPathVector}
 use Rattle.decision_meaning.specs.Pair.{Pair, Somewhere, IsPairOf}
 
 -- a statement is covered where it was started
@@ -29,3 +31,17 @@ TakesEdge vectors k value = Somewhere (λ v. (bit v.seen k ≡ true) × (bit v.v
 -- the vectors of the list take every edge of a decision's graph
 abbrev pub TakesAllEdges : Expr → List Vector → Type 0
 TakesAllEdges e vectors = (k : ℕ) (value : Bool) → k < size e → TakesEdge vectors k value
+
+-- a vector of the list is that of a path of a decision's graph, and takes the edge of node k for this value
+abbrev pub PathTakesEdge : Expr → List Vector → ℕ → Bool → Type 0
+PathTakesEdge e vectors k value =
+    Somewhere (λ v. IsPathVector (graph e) v × (bit v.seen k ≡ true) × (bit v.value k ≡ value)) vectors
+
+-- each edge of a decision's graph lies on the path of some vector of the list: vectors that are of no path count for nothing
+abbrev pub PathsTakeAllEdges : Expr → List Vector → Type 0
+PathsTakeAllEdges e vectors = (k : ℕ) (value : Bool) → k < size e → PathTakesEdge e vectors k value
+
+-- the list has a pair that passes the test, of two vectors of paths of a decision's graph
+abbrev pub HasPairOfPaths : Expr → (test : Marks → Marks → Bool) → List Vector → Type 0
+HasPairOfPaths e test vectors =
+    (p : Pair) × IsPairOf test vectors p × IsPathVector (graph e) p.first × IsPathVector (graph e) p.second

@@ -3,12 +3,12 @@
 //! here do nothing: each carries a law of the definitions as its contract.
 #![tactic(auto)]
 
-ghost use Rattle.std.specs.Prelude.{◌≡◌, ◌<◌, ℕ, suc, Bool, true, not, List, length};
+ghost use Rattle.std.specs.Prelude.{◌≡◌, ◌<◌, ℕ, suc, Bool, true, false, not, List, length, Some};
 ghost use Rattle.cov_base.specs.declared.event.Vector.{Vector};
 ghost use Rattle.decision_meaning.specs.Expr.{Expr, size, value_of};
 ghost use Rattle.decision_meaning.specs.Graph.{graph, node, leaf, next_in, IsTree};
-ghost use Rattle.decision_meaning.specs.Marks.{marks, outcome, unmasked};
-ghost use Rattle.decision_meaning.specs.Pair.{is_unique_cause, is_masking, Everywhere};
+ghost use Rattle.decision_meaning.specs.Marks.{Marks, marks, outcome, unmasked, precedes};
+ghost use Rattle.decision_meaning.specs.Pair.{is_unique_cause, is_masking, Pair, Everywhere, IsLeastPair};
 ghost use Rattle.decision_meaning.specs.Path.{Step, LeadsTo, vector_of, IsPathVector, walked};
 ghost use Rattle.decision_meaning.specs.Turn.{can_turn};
 ghost use Rattle.decision_meaning.specs.Verdict.{TakesAllEdges, HasPair};
@@ -73,6 +73,19 @@ pub fn a_unique_cause_pair_is_a_masking_pair()
     ensures { (e : Expr) (c : ℕ) (v w : Vector) → IsPathVector (graph e) v → IsPathVector (graph e) w
         → is_unique_cause e c (marks v) (marks w) ≡ true
         → is_masking e c (marks v) (marks w) ≡ true }
+{}
+
+/// Both kinds of pairs are symmetric: a pair stays one when its vectors are exchanged. So the least
+/// pair among all ordered pairs has its lesser vector first.
+pub fn a_pair_may_be_exchanged()
+    ensures unique_cause { (e : Expr) (c : ℕ) (v w : Marks) → is_unique_cause e c v w ≡ is_unique_cause e c w v }
+    ensures masking { (e : Expr) (c : ℕ) (v w : Marks) → is_masking e c v w ≡ is_masking e c w v }
+    ensures lesser_of_unique_cause { (e : Expr) (c : ℕ) (vectors : List Vector) (p : Pair)
+        → IsLeastPair (size e) (is_unique_cause e c) vectors (Some p)
+        → precedes (size e) (marks p.second) (marks p.first) ≡ false }
+    ensures lesser_of_masking { (e : Expr) (c : ℕ) (vectors : List Vector) (p : Pair)
+        → IsLeastPair (size e) (is_masking e c) vectors (Some p)
+        → precedes (size e) (marks p.second) (marks p.first) ≡ false }
 {}
 
 /// On a tree, if the evaluations take every edge, then each condition has a pair of both kinds.

@@ -3,5 +3,5 @@ pub mod Ordering
 pub mod Lists
 pub mod Causing
 pub mod Searching
+pub mod Taking
 pub mod Spelling
-pub mod Walking

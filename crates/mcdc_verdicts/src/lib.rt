@@ -3,14 +3,17 @@
 //! The contract that the layers above use: [`statement`] says whether a statement was started,
 //! [`decision`] which outcomes a decision gave, and [`unique_cause`] and [`masking`] answer the least
 //! pair of vectors of their kind that shows a condition to matter, and none exactly where no two
-//! vectors are such a pair.
+//! vectors are such a pair. [`all_edges`] says whether the vectors take every edge of a decision's
+//! graph; where they do and the graph is a tree, each condition has pairs of both kinds.
 #![tactic(auto)]
 
+mod edges;
 mod order;
 mod pair;
 #[cfg(test)]
 mod tests;
 mod verdict;
 
+pub use edges::all_edges;
 pub use pair::{masking, unique_cause};
 pub use verdict::{Outcomes, decision, statement};

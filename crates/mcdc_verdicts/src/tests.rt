@@ -4,12 +4,12 @@ ghost use Rattle.decision_meaning.specs.Pair.{Everywhere};
 ghost use Rattle.decision_meaning.specs.Path.{IsPathVector};
 
 mod decisions;
+mod edges;
 mod given;
 mod shapes;
-mod step;
 mod table;
 
-use crate::{decision, masking, statement, unique_cause};
+use crate::{all_edges, decision, masking, statement, unique_cause};
 use condition_graph::Graph;
 use cov_base::{CondIx, StmtId, Vector};
 use given::{add_pair, are_paths, graph_of, vectors_of};
@@ -100,6 +100,36 @@ fn pairs_of_all_vectors(rt: HostRuntime) -> Result<(), Fail> {
     for row in &shapes::ROWS {
         expect_text(&rt, rt.alloc(), *row)?;
     }
+    Ok(())
+}
+
+/// Whether vectors that are given as text take all edges of a decision.
+fn take_all_edges(
+    rt: &impl Abort,
+    alloc: Global,
+    postfix: &str,
+    words: &str,
+) -> Result<bool, Fail> {
+    let dec = graph_of(rt, alloc, postfix)?;
+    let vectors = vectors_of(alloc, words)?;
+    Ok(all_edges(&dec, vectors.as_slice()))
+}
+
+#[test]
+fn edges_are_taken_by_paths(rt: HostRuntime) -> Result<(), Fail> {
+    for &(postfix, words, all) in &edges::ROWS {
+        let taken = take_all_edges(&rt, rt.alloc(), postfix, words)?;
+        assert_eq!(rt; taken, all, "{postfix} {words}");
+    }
+    // All paths take all edges.
+    for &(postfix, words, _, _, _) in &shapes::ROWS {
+        assert!(rt;
+            take_all_edges(&rt, rt.alloc(), postfix, words)?,
+            "{postfix}"
+        );
+    }
+    let dec = graph_of(&rt, rt.alloc(), "0")?;
+    assert!(rt; !all_edges(&dec, &[]));
     Ok(())
 }
 

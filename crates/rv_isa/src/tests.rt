@@ -1,8 +1,11 @@
-//! Words worked out from the manual's tables and words of GNU's assembler for RISC-V, and words that
-//! hold no instruction.
+//! Words put together by hand from the manual's listing, words of GNU's assembler for RISC-V, and words
+//! that hold no instruction.
+
+mod fields;
 
 use crate::{Imm12, Imm20, Instr, Reg, ShiftAmount, ShiftOp, decode, encode};
 use std::alloc::{AllocError, Global};
+use std::process::Abort;
 use std::test::Fail;
 
 /// An instruction's name and its fields in the order of the type, immediates as raw bits.
@@ -58,13 +61,24 @@ fn shown(alloc: Global, i: Instr) -> Result<String, AllocError> {
     }
 }
 
-#[test]
-fn reads_and_writes_each_row(rt: HostRuntime) -> Result<(), Fail> {
-    for &(word, text) in &ROWS {
+/// Reads the word of each row, and writes it again.
+fn expect_rows(rt: &impl Abort, alloc: Global, rows: &[(u32, &'static str)]) -> Result<(), Fail> {
+    for &(word, text) in rows {
         let i = decode(word).ok_or(text)?;
-        assert_eq!(rt; shown(rt.alloc(), i)?.as_str(), text);
+        assert_eq!(rt; shown(alloc, i)?.as_str(), text);
         assert_eq!(rt; encode(&i), word, "{text}");
     }
+    Ok(())
+}
+
+#[test]
+fn words_are_put_together_of_their_fields(rt: HostRuntime) -> Result<(), Fail> {
+    expect_rows(&rt, rt.alloc(), &fields::ROWS)
+}
+
+#[test]
+fn reads_and_writes_each_row(rt: HostRuntime) -> Result<(), Fail> {
+    expect_rows(&rt, rt.alloc(), &ROWS)?;
     for word in OTHER_WORDS {
         assert!(rt; decode(word).is_none(), "{word:#010x}");
     }

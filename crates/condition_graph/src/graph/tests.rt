@@ -44,6 +44,10 @@ fn holds(rt: &impl Abort, graph: &Graph, is_tree: bool, rows: &[Row]) {
         };
         assert_eq!(rt; graph.outcome(v), row.outcome, "{v:?}");
         assert_eq!(rt; graph.unmasked(v), row.unmasked, "{v:?}");
+        assert!(rt; graph.is_path(v), "{v:?}");
+        // A condition that wasn't evaluated has no value.
+        let value = !row.value;
+        assert!(rt; !graph.is_path(Vector { value, ..v }), "{v:?} {value}");
     }
 }
 

@@ -7,8 +7,7 @@ ghost use Rattle.decision_meaning.specs.Pair.{Everywhere};
 ghost use Rattle.decision_meaning.specs.Path.{IsPathVector};
 
 use crate::order::has;
-use crate::tests::step::with_step;
-use condition_graph::{Graph, Next};
+use condition_graph::Graph;
 use cov_base::{Bytes, CondIx, DecisionExpr, Vector};
 use std::alloc::{AllocError, Global};
 use std::process::Abort;
@@ -64,34 +63,12 @@ pub(crate) fn graph_of(rt: &impl Abort, alloc: Global, signs: &str) -> Result<Gr
     Ok(Graph::of(alloc, &DecisionExpr { postfix })?)
 }
 
-/// Whether a vector is of a path of the graph.
-fn is_path(dec: &Graph, v: Vector) -> bool
-    ensures { IsTrue result → IsPathVector dec.now v }
-{
-    let mut at = Next::Node(CondIx(0));
-    let mut passed = Vector { seen: 0, value: 0 };
-    for _step in 0..33u32 {
-        match at {
-            Next::Leaf(_) => return passed == v,
-            Next::Node(node) => {
-                if node.0 >= 32 || node.0 as usize >= dec.conditions() {
-                    return false;
-                }
-                let value = has(v.value, node);
-                passed = with_step(passed, node, value);
-                at = dec.next(node, value);
-            }
-        }
-    }
-    false
-}
-
 /// Whether each vector is of a path of the graph.
 pub(crate) fn are_paths(dec: &Graph, vectors: &[Vector]) -> bool
     ensures { IsTrue result → Everywhere (IsPathVector dec.now) vectors.now }
 {
     for v in vectors {
-        if !is_path(dec, *v) {
+        if !dec.is_path(*v) {
             return false;
         }
     }
