@@ -1,0 +1,15 @@
+pub mod Quiet
+pub mod QuietParts
+pub mod Growing
+pub mod Improving
+pub mod FuelExpressions
+pub mod FuelStatements
+pub mod FuelExecution
+pub mod Evaluations
+pub mod Keeping
+pub mod EventsExpressions
+pub mod EventsStatements
+pub mod EventsExecution
+pub mod CopyExpressions
+pub mod CopyStatements
+pub mod CopyExecution

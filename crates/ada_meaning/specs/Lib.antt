@@ -1,0 +1,17 @@
+pub mod Types
+pub mod Tree
+pub mod Program
+pub mod Arithmetic
+pub mod State
+pub mod Shape
+pub mod Resolved
+pub mod Calls
+pub mod Expressions
+pub mod Statements
+pub mod Execution
+pub mod Collected
+pub mod Obligations
+pub mod Refines
+pub mod Events
+pub mod Objects
+pub mod Copies

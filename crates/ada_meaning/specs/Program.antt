@@ -1,0 +1,84 @@
+-- The typed program: its subprograms, library-level objects, instances and exceptions.
+use Rattle.std.specs.Prelude.{ℕ, ℤ, List, Option}
+use Rattle.cov_base.specs.declared.position.Pos.{Pos}
+use Rattle.ada_meaning.specs.Types.{Static, Range, Subtype}
+use Rattle.ada_meaning.specs.Tree.{Block}
+
+-- the least and the greatest value of a range
+pub record Bounds : Type 0 where
+  pub low : ℤ
+  pub high : ℤ
+
+-- the modes of parameters (RM 6.2)
+pub data Mode : Type 0 where
+  in_mode : Mode
+  out_mode : Mode
+  in_out_mode : Mode
+
+-- a parameter (RM 6.1)
+pub record Parameter : Type 0 where
+  pub declaration : ℕ
+  pub mode : Mode
+  pub subtype : Subtype
+
+-- a subprogram with its body (RM 6.3)
+pub record Subprogram : Type 0 where
+  pub parameters : List Parameter
+  pub body : Block
+
+-- the initial value of an object of the library level: none, a static expression, or (others => ..)
+pub data Initial : Type 0 where
+  no_initial : Initial
+  static_initial : Static → Initial
+  others_initial : Initial → Initial
+
+-- an object that is declared in a package; `generic` is the number of the generic that it is declared in
+pub record LibraryObject : Type 0 where
+  pub declaration : ℕ
+  pub generic : Option ℕ
+  pub subtype : Subtype
+  pub initial : Initial
+
+-- what a call comes to: Test_IO's procedures, or the subprogram with this number in the instance with this number
+pub data Target : Type 0 where
+  get_target : Target
+  put_target : Target
+  body_target : ℕ → ℕ → Target
+
+-- what an instance has for a formal (RM 12.3): of a formal object the static expression and its value, of a formal type the subtype and
+-- its bounds, of a formal subprogram the subprogram
+pub data FormalActual : Type 0 where
+  actual_object : Static → ℤ → FormalActual
+  actual_type : Range → Bounds → FormalActual
+  actual_subprogram : Target → FormalActual
+
+-- an instance (RM 12.3): the name in lower case, the place of its `package`, the number of its generic, and what it has for the formals, in order
+pub record Instance : Type 0 where
+  pub name : List ℕ
+  pub place : Pos
+  pub generic : ℕ
+  pub actuals : List FormalActual
+
+-- a declaration of an exception: where it stands, the generic that it stands in, and its full name in lower case, in two parts: the
+-- unit, and what comes after the unit's name and a point
+pub record ExceptionDeclaration : Type 0 where
+  pub declaration : ℕ
+  pub place : Pos
+  pub generic : Option ℕ
+  pub unit : List ℕ
+  pub name : List ℕ
+
+-- an exception: a declaration in an instance (0: in no generic)
+pub record Raisable : Type 0 where
+  pub instance : ℕ
+  pub declaration : ℕ
+
+-- A program: subprograms are numbered by their places in their list from 0, instances from 1. The numbers of declared exceptions are
+-- their places among `exceptions`, from 5 on.
+pub record Program : Type 0 where
+  pub subprograms : List Subprogram
+  pub main : ℕ
+  pub objects : List LibraryObject
+  pub instances : List Instance
+  pub declared : List ExceptionDeclaration
+  pub exceptions : List Raisable

@@ -1,0 +1,78 @@
+//! What programs of the source language mean: typed programs as pure trees, their executions with
+//! events, output and cost, and their obligations. The definitions stand in `specs/`, by layers:
+//!
+//! - `Types`, `Tree`, `Program`: the typed program;
+//! - `State`: states, outcomes and actions; `Arithmetic`; `Shape`: scalar parts of objects;
+//! - `Resolved`: what names are in an instance; `Calls`: what calls hand over;
+//! - `Expressions`, `Statements`, `Execution`: what a program does;
+//! - `Collected`, `Obligations`, `Objects`: obligations, and the numbers in the trees;
+//! - `Copies`: copies of generics; `Refines`, `Events`: what the laws speak of.
+//!
+//! The functions here do nothing: each carries a law of the definitions as its contract.
+//!
+//! The contract that the layers above use: [`one_ending`], so that `Ends p input x` says what a
+//! program does on an input, and [`more_fuel`] beneath it.
+#![tactic(auto)]
+
+ghost use Rattle.std.specs.Prelude.{◌≡◌, ◌≤◌, ◌++◌, ℕ, ℤ, Bool, List, [], Option};
+ghost use Rattle.cov_base.specs.declared.event.Event.{Event};
+ghost use Rattle.decision_meaning.specs.Graph.{graph, leaf};
+ghost use Rattle.decision_meaning.specs.Pair.{Everywhere};
+ghost use Rattle.decision_meaning.specs.Path.{LeadsTo};
+ghost use Rattle.ada_meaning.specs.Calls.{Calls};
+ghost use Rattle.ada_meaning.specs.Copies.{block_copy, exec_copies};
+ghost use Rattle.ada_meaning.specs.Events.{IsEventOf, IsNoted};
+ghost use Rattle.ada_meaning.specs.Execution.{exec, events_at, output_at, Execution, Ends};
+ghost use Rattle.ada_meaning.specs.Expressions.{test, decides, Evaluation};
+ghost use Rattle.ada_meaning.specs.Program.{Program};
+ghost use Rattle.ada_meaning.specs.Refines.{Refines};
+ghost use Rattle.ada_meaning.specs.State.{World, Gives};
+ghost use Rattle.ada_meaning.specs.Statements.{does_block};
+ghost use Rattle.ada_meaning.specs.Tree.{Block, Label, Test, shape_of};
+
+/// With more fuel an execution that ended is the same, and one that was cut off goes on.
+#[tactic(auto, using(crate::proofs::FuelExecution::more_fuel_law))]
+pub fn more_fuel()
+    ensures { (p : Program) (fuel more : ℕ) (input : List ℤ) → fuel ≤ more
+        → Refines (exec p fuel input) (exec p more input) }
+{}
+
+/// An execution that ends has one ending, one output, one list of events and one cost.
+pub fn one_ending()
+    ensures { (p : Program) (input : List ℤ) (x y : Execution) → Ends p input x → Ends p input y → x ≡ y }
+{}
+
+/// What was observed under any fuel is the beginning of what an execution that ends shows.
+pub fn a_cut_execution_is_a_beginning()
+    ensures events { (p : Program) (fuel : ℕ) (input : List ℤ) (x : Execution) → Ends p input x
+        → (rest : List Event) × (x.events ≡ events_at p fuel input ++ rest) }
+    ensures output { (p : Program) (fuel : ℕ) (input : List ℤ) (x : Execution) → Ends p input x
+        → (rest : List ℤ) × (x.output ≡ output_at p fuel input ++ rest) }
+{}
+
+/// The steps of a completed evaluation are a path of the decision's graph to the leaf of its
+/// outcome. When a decision gives an outcome, the event is noted, with the vector of such a path,
+/// and that is the outcome of the vector.
+pub fn an_evaluation_takes_a_path()
+    ensures leads { (p : Program) (calls : Calls) (inst : ℕ) (t : Test) (w v : World) (found : Evaluation)
+        → test p calls inst t 0 [] w ≡ Gives found v
+        → LeadsTo (graph (shape_of t)) found.steps (leaf found.outcome) }
+    ensures noted { (p : Program) (calls : Calls) (inst : ℕ) (d : Label) (t : Test) (w v : World) (b : Bool)
+        → decides p calls inst d t w ≡ Gives b v → IsNoted d inst t b v }
+{}
+
+/// Each event names a statement obligation of the program, or a decision of it with the vector of a
+/// path of its graph.
+#[tactic(auto, using(crate::proofs::EventsExecution::events_law))]
+pub fn events_name_obligations()
+    ensures { (p : Program) (fuel : ℕ) (input : List ℤ) → Everywhere (IsEventOf p) (events_at p fuel input) }
+{}
+
+/// The copy of a generic's text for an instance means there what the generic's text means in the
+/// instance, and an execution where each call executes such a copy is the program's own, with the
+/// same events, output and cost.
+pub fn copies_mean_their_generic()
+    ensures blocks { (p : Program) (calls : Calls) (fuel inst : ℕ) (b : Block) (taken : Option ℕ)
+        → does_block p calls fuel inst (block_copy p inst b) taken ≡ does_block p calls fuel inst b taken }
+    ensures executions { (p : Program) (fuel : ℕ) (input : List ℤ) → exec_copies p fuel input ≡ exec p fuel input }
+{}

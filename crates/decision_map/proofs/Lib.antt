@@ -1,0 +1,14 @@
+pub mod Postfix
+pub mod Trees
+pub mod Standing
+pub mod RoleSearch
+pub mod Keeping
+pub mod Meant
+pub mod Steps
+pub mod Inside
+pub mod Shown
+pub mod Flags
+pub mod Fitting
+pub mod Needed
+pub mod Ordered
+pub mod Sound

@@ -1,0 +1,11 @@
+pub mod DecisionExamples
+pub mod NestedExamples
+pub mod LoopExamples
+pub mod ExceptionExamples
+pub mod ParameterExamples
+pub mod DepthExamples
+pub mod CompositeExamples
+pub mod GenericExamples
+pub mod ControlExamples
+pub mod ObligedExamples
+pub mod FrameExamples

@@ -1,0 +1,12 @@
+pub mod Writing
+pub mod Decisions
+pub mod Nested
+pub mod Loops
+pub mod Exceptions
+pub mod Parameters
+pub mod Depth
+pub mod Composites
+pub mod Generics
+pub mod Control
+pub mod Obliged
+pub mod Frames

@@ -1,0 +1,11 @@
+pub mod Orders
+pub mod Spelling
+pub mod Postfix
+pub mod Sets
+pub mod RowLaws
+pub mod FieldLaws
+pub mod Cycles
+pub mod RoleLaws
+pub mod FileLaws
+pub mod ReadLaws
+pub mod WriteLaws

@@ -1,0 +1,101 @@
+-- What reading an object answers.
+use Rattle.std.proofs.Common.{◌≡◌, inl, inr, ℕ, Bool, true, false, ◌&&◌, List, Result, Ok, Err, IfOk, IfErr, refl, sym, ap, subst, ◌∙◌}
+use Rattle.std.proofs.lemmas.Bool.{and_right}
+use Rattle.cov_base.specs.declared.failure.Failure.{Failure}
+use Rattle.cov_base.specs.declared.failure.Failure.TheVariants.{Fault, WantOfMemory}
+use Rattle.object_format.specs.declared.fault.ObjectFault.{ObjectFault}
+use Rattle.object_format.specs.declared.fault.ObjectFault.TheVariants.{Short, Magic, Version, Long, Damaged, Field, Decision, Row, Role}
+use Rattle.object_format.specs.declared.object.Object.{Object}
+use Rattle.object_format.specs.Checked.{IsSound, FailsFirst, IsRefusal}
+use Rattle.object_format.specs.Fields.{passes_field}
+use Rattle.object_format.specs.File.{object_bytes, structured}
+use Rattle.object_format.specs.Read.{IsObject, is_plain, passes_plain_field, IsRefusedFor, IsFailure}
+use Rattle.object_format.proofs.FileLaws.{structured_found, structured_only}
+use Rattle.spelling.specs.Laws.{IsBytes}
+use Rattle.spelling.specs.Outcome.{Delivers, Fails}
+
+-- a sound object fails no check
+sound_passes : (o : Object) (field : Bool) (f : ObjectFault) → IsSound o → field ≡ true → FailsFirst field o f → ⊥
+sound_passes o field Field s holds h = let bad : ⊥ = cc in bad
+sound_passes o field Decision s holds h = h.1 s.decision
+sound_passes o field Row s holds h = h.2 s.row
+sound_passes o field Role s holds h = h.3 s.role
+sound_passes o field Short s holds h = h
+sound_passes o field Magic s holds h = h
+sound_passes o field Version s holds h = h
+sound_passes o field Long s holds h = h
+sound_passes o field Damaged s holds h = h
+
+abbrev fine : Object → Result Object ObjectFault
+fine o = Ok o
+
+abbrev bad_one : ObjectFault → Result Object ObjectFault
+bad_one f = Err f
+
+fine_is : (a b : Object) → fine a ≡ fine b → a ≡ b
+fine_is a b e = cc
+
+apart : (o : Object) (f : ObjectFault) → fine o ≡ bad_one f → ⊥
+apart o f e = cc
+
+-- what is read is an object
+pub found : (bytes : List ℕ) (r : Result Object (Failure ObjectFault)) → IsBytes bytes → IfOk r (λ o. (structured bytes ≡ Ok o) × IsSound o)
+    → IfOk r (λ o. IsObject o × (bytes ≡ object_bytes o))
+found bytes (Ok o) are h = let is = structured_found bytes o are h.0 in (record { closed = is.0; sound = h.1 }, is.1)
+found bytes (Err failure) are h = tt
+
+pub found_plain : (bytes : List ℕ) (r : Result Object (Failure ObjectFault)) → IsBytes bytes
+    → IfOk r (λ o. (structured bytes ≡ Ok o) × IsSound o × (is_plain o ≡ true)) → IfOk r (λ o. IsObject o × (is_plain o ≡ true) × (bytes ≡ object_bytes o))
+found_plain bytes (Ok o) are h =
+    let is = structured_found bytes o are h.0 in (record { closed = is.0; sound = h.1 }, h.2, is.1)
+found_plain bytes (Err failure) are h = tt
+
+pub read_as : (bytes : List ℕ) (r : Result Object (Failure ObjectFault)) → IfOk r (λ o. (structured bytes ≡ Ok o) × IsSound o) → IfOk r (λ o. structured bytes ≡ Ok o)
+read_as bytes (Ok o) h = h.0
+read_as bytes (Err failure) h = tt
+
+pub read_plain_as : (bytes : List ℕ) (r : Result Object (Failure ObjectFault)) → IfOk r (λ o. (structured bytes ≡ Ok o) × IsSound o × (is_plain o ≡ true))
+    → IfOk r (λ o. structured bytes ≡ Ok o)
+read_plain_as bytes (Ok o) h = h.0
+read_plain_as bytes (Err failure) h = tt
+
+-- the file of an object is read as it
+pub delivered : (field : Object → Bool) (bytes : List ℕ) (r : Result Object (Failure ObjectFault)) → IfOk r (λ o. structured bytes ≡ Ok o)
+    → IfErr r (IsFailure field bytes) → (o : Object) → IsObject o → field o ≡ true → bytes ≡ object_bytes o → Delivers (λ o. o) r (Ok o)
+delivered field bytes (Ok given) read failed o is passes e = sym (ap structured e ∙ structured_only o is.closed) ∙ read
+delivered field bytes (Err WantOfMemory) read failed o is passes e = tt
+delivered field bytes (Err (Fault f)) read failed o is passes e =
+    let there : structured bytes ≡ Ok o = ap structured e ∙ structured_only o is.closed in
+    elim failed [
+      | inl layer ↦ absurd (apart o f (sym there ∙ layer))
+      | inr check ↦
+          let same = fine_is check.0 o (sym check.1 ∙ there) in
+          absurd (sound_passes o (field o) f is.sound passes (subst (λ p. FailsFirst (field p) p f) same check.2))
+    ]
+
+-- ---- at the exits
+
+pub layer_fails : (field : Object → Bool) (bytes : List ℕ) (failure : Failure ObjectFault) → Fails failure (structured bytes) → IsFailure field bytes failure
+layer_fails field bytes (Fault f) h = inl h
+layer_fails field bytes WantOfMemory h = tt
+
+pub check_fails : (bytes : List ℕ) (o : Object) (failure : Failure ObjectFault) → structured bytes ≡ Ok o → IsRefusal o failure → IsFailure passes_field bytes failure
+check_fails bytes o (Fault f) there h = inr (o, there, h)
+check_fails bytes o WantOfMemory there h = tt
+
+-- in the language of the moment the check `field` answers more
+
+plain_field : (o : Object) (f : ObjectFault) → is_plain o ≡ true → FailsFirst (passes_field o) o f → FailsFirst (passes_plain_field o) o f
+plain_field o f plain h = subst (λ b. FailsFirst b o f) (with_true (passes_field o) (is_plain o) plain) h
+  where
+    with_true : (a b : Bool) → b ≡ true → a ≡ (a && b)
+    with_true true b e = sym e
+    with_true false b e = refl
+
+pub plain_check_fails : (bytes : List ℕ) (o : Object) (failure : Failure ObjectFault) → structured bytes ≡ Ok o → is_plain o ≡ true → IsRefusal o failure
+    → IsFailure passes_plain_field bytes failure
+plain_check_fails bytes o (Fault f) there plain h = inr (o, there, plain_field o f plain h)
+plain_check_fails bytes o WantOfMemory there plain h = tt
+
+pub not_plain : (bytes : List ℕ) (o : Object) → structured bytes ≡ Ok o → is_plain o ≡ false → IsRefusedFor passes_plain_field bytes Field
+not_plain bytes o there fails = inr (o, there, and_right (passes_field o) (is_plain o) fails)

@@ -1,0 +1,13 @@
+pub mod Order
+pub mod Keys
+pub mod Text
+pub mod Fields
+pub mod Decisions
+pub mod RowCheck
+pub mod RoleCheck
+pub mod Checked
+pub mod Layout
+pub mod LayoutLaws
+pub mod Counts
+pub mod File
+pub mod Read

@@ -1,0 +1,17 @@
+//! The machine that executes an object's text, one instruction at a time.
+//!
+//! A `Machine` holds the program counter, 32 registers and 32 MiB of memory. It decodes each word
+//! when it executes it, and takes no memory once it is made.
+//!
+//! The contract that the layers above use: [`Machine::step`] and [`Machine::give`] are `step` and
+//! `given` of the crate `rv_semantics`, and a new machine is at its `start`. `image_of` and
+//! `state_of` show a machine as that crate's image and state.
+#![tactic(auto)]
+
+mod compute;
+mod machine;
+mod memory;
+#[cfg(test)]
+mod tests;
+
+pub use machine::Machine;

@@ -1,0 +1,9 @@
+pub mod TrapWords
+pub mod Layout
+pub mod Arithmetic
+pub mod Bytes
+pub mod State
+pub mod Step
+pub mod Run
+pub mod Past
+pub mod Laws

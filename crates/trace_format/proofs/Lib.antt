@@ -1,0 +1,3 @@
+pub mod TraceLaws
+pub mod Copies
+pub mod PassingLaws

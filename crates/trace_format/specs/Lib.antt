@@ -1,0 +1,3 @@
+pub mod Trace
+pub mod Formats
+pub mod Checks

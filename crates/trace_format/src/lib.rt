@@ -1,0 +1,24 @@
+//! The trace file: which blocks a run of an object executed and what its branches did, sealed by a
+//! digest.
+//!
+//! The contract that the layers above use: [`TraceView::view`] answers a view exactly of the bytes
+//! that are the file of a trace which passes the checks that need no object, and else the first check
+//! that fails. [`write_trace`] gives the one file of such a trace. `IsClosed` of `specs/Checks.antt`
+//! is the word for a trace that a view can show.
+#![tactic(auto)]
+
+mod check;
+mod fault;
+mod laws;
+mod trace;
+mod view;
+mod write;
+
+pub use fault::TraceFault;
+pub use laws::{one_trace, passing};
+pub use trace::{Block, HistoryEntry, NOT_TAKEN, TAKEN, Trace};
+pub use view::TraceView;
+pub use write::write_trace;
+
+#[cfg(test)]
+mod tests;

@@ -1,0 +1,19 @@
+pub mod Lists
+pub mod Keys
+pub mod Paths
+pub mod Readings
+pub mod Told
+pub mod Joined
+pub mod Orderly
+pub mod Flat
+pub mod Rows
+pub mod Blocks
+pub mod Sets
+pub mod Flags
+pub mod SaidLaw
+pub mod Replays
+pub mod Broken
+pub mod Kept
+pub mod Fits
+pub mod Vectors
+mod Examples
