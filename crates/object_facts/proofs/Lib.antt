@@ -1,0 +1,4 @@
+pub mod Words
+pub mod Fair
+pub mod Placed
+pub mod Agreed

@@ -1,0 +1,11 @@
+//! Runs of objects on the machine, under a budget of instructions.
+//!
+//! The contract that the layers above use: [`run`] answers as the run that `rv_semantics` defines,
+//! and leaves its transcript with the recorder and its output behind what was put before.
+#![tactic(auto)]
+
+mod emulator;
+mod input;
+mod turn;
+
+pub use emulator::{Ending, RunFault, run};
