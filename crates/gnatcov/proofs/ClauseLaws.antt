@@ -35,13 +35,13 @@ there held (Compile main object source) output h =
     ((read_there (finmap.get held source) _ output _ h).0, tt)
 there held (Run input trace object) output h =
     let first = read_there (finmap.get held object) _ output _ h in
-    let second = some_there (finmap.get held object) _ _ first.0 (passed (finmap.get held object) (λ _. ⊥) _ first.1) (λ bytes next. (read_there (finmap.get held input) _ output _ next).0) in
+    let second = some_there (finmap.get held object) _ _ first.0 (passed (finmap.get held object) (λ _. ⊥) _ first.1) (λ bytes next. (read_there (finmap.get held input) _ output _ next.2).0) in
     (first.0, (second, tt))
 there held (Coverage level annotation object None) output h =
     ((read_there (finmap.get held object) _ output _ h).0, tt)
 there held (Coverage level annotation object (Some name)) output h =
     let first = read_there (finmap.get held object) _ output _ h in
-    let second = some_there (finmap.get held object) _ _ first.0 (passed (finmap.get held object) (λ _. ⊥) _ first.1) (λ bytes next. (read_there (finmap.get held name) _ output _ next).0) in
+    let second = some_there (finmap.get held object) _ _ first.0 (passed (finmap.get held object) (λ _. ⊥) _ first.1) (λ bytes next. (read_there (finmap.get held name) _ output _ next.2).0) in
     (first.0, (second, tt))
 
 -- the same where the files may not tell

@@ -1,49 +1,109 @@
 -- What a command's answer says of the bytes that it read. This is the one place for it: what is written here is a
 -- clause of the program's public call, since `ComesTo` is made of these words and of nothing else.
-use Rattle.std.specs.Prelude.{◌≡◌, ◌≢◌, ℕ, List, []}
+use Rattle.std.specs.Prelude.{◌≡◌, ◌≢◌, ◌⊎◌, ℕ, ◌++◌, true, List, [], ◌∷◌, length, sum_by, codes, Some, None, Ok, Err}
+use Rattle.std.specs.Fmt.{decimal}
+use Rattle.std.specs.List.{AllByRecursion}
 use Rattle.cov_base.specs.declared.level.Annotation.{Annotation}
 use Rattle.cov_base.specs.declared.level.Level.{Level}
+use Rattle.decision_map.specs.declared.fault.FitFault.{FitFault}
+use Rattle.decision_map.specs.Fits.{fault_of}
 use Rattle.gnatcov.specs.declared.compiler.fault.Why.TheVariants.{Syntax}
-use Rattle.gnatcov.specs.declared.object_format.read.ObjectFault.TheVariants as object_faults
 use Rattle.gnatcov.specs.declared.status.Status.{Status}
 use Rattle.gnatcov.specs.declared.status.Status.TheVariants.{SourceRefused, ObjectRefused, TraceRefused, InputRefused, OverBudget, Trap}
-use Rattle.gnatcov.specs.declared.trace_format.TraceFault.TheVariants as trace_faults
+use Rattle.gnatcov.specs.declared.status.TraceWhy.TheVariants.{File, Fit}
+use Rattle.gnatcov.specs.Recording.{IsTraceOf}
+use Rattle.hex.specs.Hex.{encode_lower}
+use Rattle.object_format.specs.declared.fault.ObjectFault.{ObjectFault}
+use Rattle.object_format.specs.declared.object.Object.{Object}
+use Rattle.object_format.specs.File.{object_bytes, digest_of}
+use Rattle.object_format.specs.Read.{IsObject, is_plain, passes_plain_field, IsRefusedFor}
+use Rattle.sha2.specs.Sha256.{sha256}
+use Rattle.trace_format.specs.declared.fault.TraceFault.{TraceFault}
+use Rattle.trace_format.specs.Checks.{trace_of}
+use Rattle.trace_format.specs.Trace.{TraceFile}
 
 -- the bytes that a command writes, and the text that it puts
 pub record Made : Type 0 where
   pub file : List ℕ
   pub text : List ℕ
 
--- compile: the source of this name is no legal program whose main unit is called so
+-- ---- objects and traces that were read
+
+-- the bytes are the file of this object, in the language of the moment
+pub record IsFileOf (o : Object) (bytes : List ℕ) : Type 0 where
+  pub checked : IsObject o
+  pub plain : is_plain o ≡ true
+  pub spelled : bytes ≡ object_bytes o
+
+-- the bytes are the file of a trace that can be one of the object
+pub record IsTraceFor (o : Object) (bytes : List ℕ) : Type 0 where
+  pub trace : TraceFile
+  pub read : trace_of bytes ≡ Ok trace
+  pub fits : fault_of o trace ≡ None
+
+-- this is the first check of its format that the trace fails
+abbrev pub FailsAlone : List ℕ → TraceFault → Type 0
+FailsAlone bytes why = trace_of bytes ≡ Err why
+
+-- this is the first check beside the object that the trace fails, which passes those of its format
+abbrev pub FailsBeside : Object → List ℕ → FitFault → Type 0
+FailsBeside o bytes why = (trace : TraceFile) × (trace_of bytes ≡ Ok trace) × (fault_of o trace ≡ Some why)
+
+-- ---- compile
+
+-- the source of this name is no legal program whose main unit is called so
 abbrev pub RefusesSource : (main name source : List ℕ) → Status → Type 0
 RefusesSource main name source status = status ≡ SourceRefused 0 1 1 Syntax
 
--- compile: the source is a program, the file its object, and the text its counts
-abbrev pub CompilesTo : (main name source : List ℕ) → Made → Type 0
-CompilesTo main name source made = Unit {0}
+-- how many conditions the decisions of an object have
+abbrev pub condition_count : Object → ℕ
+condition_count o = sum_by (λ d. length d.conditions) o.obligations.decisions
 
--- run and coverage: the bytes are no object
+-- the lines that tell of an object: what coverage has to show, and the digest at its end
+abbrev pub object_lines : Object → List ℕ
+object_lines o =
+    codes "obligations: " ++ (decimal (length o.obligations.statements)
+    ++ (codes " statements, " ++ (decimal (length o.obligations.decisions)
+    ++ (codes " decisions, " ++ (decimal (condition_count o)
+    ++ (codes " conditions\nobject: " ++ (encode_lower (digest_of o) ++ codes "\n")))))))
+
+-- the file is that of an object which names this source alone, and the text tells that object's counts and digest
+pub record CompilesTo (main name source : List ℕ) (made : Made) : Type 0 where
+  pub object : Object
+  pub names : object.files ≡ record { name = name; sha256 = sha256 source } ∷ []
+  pub spelled : made.file ≡ object_bytes object
+  pub told : made.text ≡ object_lines object
+
+-- ---- run
+
+-- run and coverage: the bytes are no object, and this is the first check that they fail
 abbrev pub RefusesObject : (object : List ℕ) → Status → Type 0
-RefusesObject object status = status ≡ ObjectRefused object_faults.Damaged
+RefusesObject object status = (why : ObjectFault) × IsRefusedFor passes_plain_field object why × (status ≡ ObjectRefused why)
 
--- run: the bytes are no input
+-- the bytes are no input
 abbrev pub RefusesInput : (input : List ℕ) → Status → Type 0
 RefusesInput input status = (input ≢ []) × (status ≡ InputRefused 1)
 
--- run: the object's run on the input has no ending
-abbrev pub StopsRun : (object input : List ℕ) → Status → Type 0
-StopsRun object input (OverBudget count) = count ≡ 100000000
-StopsRun object input (Trap pc why) = Unit {0}
-StopsRun object input status = ⊥
+-- the object's run on the input has no ending
+abbrev pub StopsRun : Object → (input : List ℕ) → Status → Type 0
+StopsRun o input (OverBudget count) = count ≡ 100000000
+StopsRun o input (Trap pc why) = Unit {0}
+StopsRun o input status = ⊥
 
--- run: the file is the trace of the object's run on the input, and the text tells that run
-abbrev pub RunsTo : (object input : List ℕ) → Made → Type 0
-RunsTo object input made = input ≡ []
+-- the file is a trace of the object
+pub record RunsTo (o : Object) (input : List ℕ) (made : Made) : Type 0 where
+  pub empty : input ≡ []
+  pub ending : ℕ
+  pub traced : IsTraceOf o.closing ending made.file
 
--- coverage: the bytes are no trace of the object; they are those of the trace with this number, from 1
-abbrev pub RefusesTrace : ℕ → (object trace : List ℕ) → Status → Type 0
-RefusesTrace number object trace status = status ≡ TraceRefused number trace_faults.Damaged
+-- ---- coverage
 
--- coverage: the text is the report of these traces at the level
-abbrev pub Reports : Level → Annotation → (object : List ℕ) → (traces : List (List ℕ)) → (text : List ℕ) → Type 0
-Reports level annotation object traces text = Unit {0}
+-- the bytes are no trace of the object, and this is the first check that they fail; they are those of the trace with this number, from 1
+abbrev pub RefusesTrace : ℕ → Object → (trace : List ℕ) → Status → Type 0
+RefusesTrace number o trace status =
+    ((why : TraceFault) × FailsAlone trace why × (status ≡ TraceRefused number (File why)))
+    ⊎ ((why : FitFault) × FailsBeside o trace why × (status ≡ TraceRefused number (Fit why)))
+
+-- each of the files is a trace of the object; the text is the report of them at the level
+abbrev pub Reports : Level → Annotation → Object → (traces : List (List ℕ)) → (text : List ℕ) → Type 0
+Reports level annotation o traces text = AllByRecursion (IsTraceFor o) traces

@@ -3,12 +3,12 @@ use Rattle.cov_base.specs.declared.failure.Failure.{Failure}
 use Rattle.cov_base.specs.declared.failure.Failure.TheVariants.{Fault}
 use Rattle.cov_base.specs.declared.failure.Failure.TheVariants as failures
 use Rattle.gnatcov.specs.declared.compiler.fault.SourceFault.{SourceFault}
-use Rattle.gnatcov.specs.declared.object_format.read.ObjectFault.{ObjectFault}
 use Rattle.gnatcov.specs.declared.rv32_emulator.InputFault.{InputFault}
 use Rattle.gnatcov.specs.declared.rv32_emulator.RunFault.{RunFault}
 use Rattle.gnatcov.specs.declared.rv32_emulator.RunFault.TheVariants as runs
 use Rattle.gnatcov.specs.declared.status.Status.{Status}
 use Rattle.gnatcov.specs.declared.status.Status.TheVariants.{SourceRefused, ObjectRefused, InputRefused, OverBudget, Trap, WantOfMemory}
+use Rattle.object_format.specs.declared.fault.ObjectFault.{ObjectFault}
 
 abbrev pub source_status : Failure SourceFault → Status
 source_status (Fault fault) = SourceRefused fault.file fault.line fault.col fault.why

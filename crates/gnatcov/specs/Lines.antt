@@ -1,16 +1,13 @@
 -- The line that tells each status.
 use Rattle.std.specs.Prelude.{ℕ, List, [], ◌++◌, codes}
 use Rattle.std.specs.Fmt.{decimal}
-use Rattle.std.specs.Int.{w32, to_be_bytes}
-use Rattle.hex.specs.Hex.{encode_lower}
-use Rattle.gnatcov.specs.declared.object_format.read.ObjectFault.{ObjectFault}
-use Rattle.gnatcov.specs.declared.object_format.read.ObjectFault.TheVariants as object_faults
+use Rattle.object_format.specs.declared.fault.ObjectFault.{ObjectFault}
+use Rattle.object_format.specs.declared.fault.ObjectFault.TheVariants.{Short, Magic, Version, Long, Damaged, Field, Decision, Row, Role}
 use Rattle.gnatcov.specs.declared.status.Status.{Status}
 use Rattle.gnatcov.specs.declared.status.Status.TheVariants.{Done, Usage, SourceRefused, ObjectRefused, TraceRefused, InputRefused, OverBudget, Trap, ReadFault, WriteFault, WantOfMemory}
-use Rattle.gnatcov.specs.declared.trace_format.TraceFault.{TraceFault}
-use Rattle.gnatcov.specs.declared.trace_format.TraceFault.TheVariants as trace_faults
-use Rattle.gnatcov.specs.TrapWords.{trap_words}
+use Rattle.gnatcov.specs.TraceWords.{address_text, trace_text}
 use Rattle.gnatcov.specs.Why.{why_text}
+use Rattle.rv_semantics.specs.TrapWords.{trap_words}
 
 -- the exit status of the program
 abbrev pub number_of : Status → ℕ
@@ -28,15 +25,15 @@ number_of WantOfMemory = 11
 
 -- the word for why an object is refused
 abbrev pub object_word : ObjectFault → List ℕ
-object_word object_faults.Damaged = codes "damaged"
-
--- the word for why a trace is refused
-abbrev pub trace_word : TraceFault → List ℕ
-trace_word trace_faults.Damaged = codes "damaged"
-
--- eight hexadecimal digits
-abbrev pub address_text : ℕ → List ℕ
-address_text pc = encode_lower (to_be_bytes w32 pc)
+object_word Short = codes "short"
+object_word Magic = codes "magic"
+object_word Version = codes "version"
+object_word Long = codes "long"
+object_word Damaged = codes "damaged"
+object_word Field = codes "field"
+object_word Decision = codes "decision"
+object_word Row = codes "row"
+object_word Role = codes "role"
 
 -- the line that tells a status of the file of this name; where all went well there is none
 abbrev pub line_of : List ℕ → Status → List ℕ
@@ -44,7 +41,7 @@ line_of name Done = []
 line_of name Usage = codes "gnatcov: usage\n"
 line_of name (SourceRefused file line col why) = codes "gnatcov: " ++ (name ++ (codes ":" ++ (decimal line ++ (codes ":" ++ (decimal col ++ (codes ": " ++ (why_text why ++ codes "\n")))))))
 line_of name (ObjectRefused why) = codes "gnatcov: object refused: " ++ (object_word why ++ codes "\n")
-line_of name (TraceRefused index why) = codes "gnatcov: trace " ++ (decimal index ++ (codes " refused: " ++ (trace_word why ++ codes "\n")))
+line_of name (TraceRefused index why) = codes "gnatcov: trace " ++ (decimal index ++ (codes " refused: " ++ (trace_text why ++ codes "\n")))
 line_of name (InputRefused line) = codes "gnatcov: input line " ++ (decimal line ++ codes " refused\n")
 line_of name (OverBudget count) = codes "gnatcov: over budget after " ++ (decimal count ++ codes " instructions\n")
 line_of name (Trap pc why) = codes "gnatcov: trap at " ++ (address_text pc ++ (codes ": " ++ (trap_words why ++ codes "\n")))

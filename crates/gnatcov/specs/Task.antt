@@ -1,5 +1,5 @@
 -- The command words, and what they ask for.
-use Rattle.std.specs.Prelude.{ℕ, Bool, false, not, ◌&&◌, ◌==◌, nat_eq, nat_le, List, [], ◌∷◌, length, drop, codes, Option, None, Some, option_and_then, if◌then◌else◌}
+use Rattle.std.specs.Prelude.{ℕ, ◌≤◌, Bool, false, not, ◌&&◌, ◌==◌, nat_eq, nat_le, List, [], ◌∷◌, length, drop, codes, Option, None, Some, option_and_then, if◌then◌else◌}
 use Rattle.std.specs.List.{starts_with, list_all}
 use Rattle.std.specs.Str.{bytes_eq}
 use Rattle.std.specs.Option.{option_to_list, option_or}
@@ -76,6 +76,12 @@ is_short word = nat_le (length word) 4096
 abbrev pub task_of : List (List ℕ) → Option Task
 task_of [] = None
 task_of (program ∷ words) = if list_all is_short words then asked words else None
+
+-- the names of the sources that a task compiles are short enough for a command word
+abbrev pub HasShortSource : Task → Type 0
+HasShortSource (Compile main object source) = length source ≤ 4096
+HasShortSource (Run input trace object) = Unit {0}
+HasShortSource (Coverage level annotation object trace) = Unit {0}
 
 -- the names of the files that a task reads, in the order of reading
 abbrev pub files_of : Task → List (List ℕ)

@@ -4,10 +4,10 @@ ghost use Rattle.std.specs.Prelude.{◌≡◌, ◌+◌, ◌*◌, ◌<◌, ◌≤
 
 use crate::ada_syntax::{Stmt, StmtKind};
 use crate::ada_types::Program;
-use crate::line_table::{Row, Rows};
-use crate::object_format::TEXT_START;
 use cov_base::{InstId, Seq, StmtId};
+use line_table::{Row, Rows};
 use rv_isa::{Imm12, Imm20, ImmediateOp, Instr, Reg, UpperOp, encode};
+use rv_semantics::{DATA_START, TEXT_START};
 use std::alloc::{AllocError, Global};
 
 /// The number, in `a7`, of the environment call that puts the word in `a0`.
@@ -15,9 +15,6 @@ const PUT: u16 = 2;
 
 /// The number, in `a7`, of the environment call that ends the program with the number in `a0`.
 const END: u16 = 3;
-
-/// Where a program's data stand in memory, far enough behind every text.
-const DATA_START: u32 = 0x0100_0000;
 
 /// A program as it stands in memory: its text at `TEXT_START`, its first instruction at `entry`, and
 /// its data, of which there are none yet, at `init_at`.
@@ -37,6 +34,7 @@ pub fn generate(alloc: Global, program: &Program) -> Result<Image, AllocError>
     ensures limited { IfOk result (λ image. length image.text ≤ 16387) }
     ensures apart { IfOk result (λ image. image.init_at ≡ 16777216) }
     ensures rows { IfOk result (λ image. length image.rows ≡ length program.now.statements) }
+    ensures few { IfOk result (λ image. length image.rows ≤ 4096) }
 {
     let mut text = Vec::new(alloc);
     let mut rows = Vec::new(alloc);

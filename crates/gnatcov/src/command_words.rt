@@ -1,9 +1,9 @@
 //! The command words, read by hand: a command is its word, then its options and names in their order.
 
-ghost use Rattle.std.specs.Prelude.{◌≡◌, ℕ, List, map, string_bytes, option_map};
+ghost use Rattle.std.specs.Prelude.{◌≡◌, ℕ, List, map, string_bytes, option_map, IfOk};
 ghost use Rattle.std.specs.List.{list_all};
 ghost use Rattle.std.specs.Result.{result_ok};
-ghost use Rattle.gnatcov.specs.Task.{is_name, is_short, is_statement_report, value_of, compile_of, run_of, coverage_of, coverage_of_trace, asked, task_of};
+ghost use Rattle.gnatcov.specs.Task.{HasShortSource, is_name, is_short, is_statement_report, value_of, compile_of, run_of, coverage_of, coverage_of_trace, asked, task_of};
 ghost use Rattle.gnatcov.specs.Command.{task_view};
 
 use cov_base::{Annotation, Level};
@@ -37,7 +37,16 @@ pub enum Command<'a> {
 pub struct Usage;
 
 /// The command that the words are. The first word is the program's name.
+#[tactic(auto, using(crate::proofs::ShortNames::short_source))]
 pub fn words_of(words: &[String]) -> Result<Command<'_>, Usage>
+    ensures task { option_map task_view (result_ok result) ≡ task_of (map string_bytes words.now) }
+    ensures short { IfOk result (λ command. HasShortSource (task_view command)) }
+{
+    read(words)
+}
+
+/// The command that the words are.
+fn read(words: &[String]) -> Result<Command<'_>, Usage>
     ensures { option_map task_view (result_ok result) ≡ task_of (map string_bytes words.now) }
 {
     command_of(words).ok_or(Usage)

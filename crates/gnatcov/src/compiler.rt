@@ -1,16 +1,18 @@
 //! From source text to an object file.
 
-ghost use Rattle.std.specs.Prelude.{◌≡◌, IfErr, IfOk, length};
-ghost use Rattle.gnatcov.specs.Sealed.{IsSealedBy};
+ghost use Rattle.std.specs.Prelude.{◌≡◌, ◌≤◌, ◌∷◌, [], IfErr, IfOk, length};
+ghost use Rattle.std.specs.List.{All};
+ghost use Rattle.gnatcov.specs.Compiled.{IsCompiled};
 ghost use Rattle.gnatcov.specs.Refusals.{IsRefusal};
 
 use crate::ada_lexer::lex;
 use crate::ada_parser::parse;
 use crate::ada_types::{Program, check};
 use crate::codegen_rv32::generate;
-use crate::object_format::{FileEntry, Object, digest, write_with_digest};
 use crate::obligations::obligations;
 use cov_base::{Bytes, Digest, Failure, Seq, SourceFile};
+use line_table::Roles;
+use object_format::{FileEntry, Object, digest, write_parts};
 use std::alloc::{AllocError, Global};
 
 mod fault;
@@ -33,21 +35,19 @@ pub struct Compiled {
     pub closing: Digest,
 }
 
-/// Compiles the program whose main procedure has this name, where case does not count. Its sources
-/// are one file.
+/// Compiles the program whose main procedure has this name, where case does not count. Its source is
+/// one file, with a name that fits a command word.
 pub fn compile(
     alloc: Global,
-    files: &[SourceFile],
+    file: &SourceFile,
     main: &str,
 ) -> Result<Compiled, Failure<SourceFault>>
-    ensures sealed { IfOk result (λ compiled. IsSealedBy compiled.bytes compiled.closing) }
+    requires { length file.now.name ≤ 4096 }
+    ensures object { IfOk result (IsCompiled file.now.name file.now.bytes) }
     ensures decisions { IfOk result (λ compiled. compiled.decisions ≡ 0) }
     ensures conditions { IfOk result (λ compiled. compiled.conditions ≡ 0) }
     ensures refused { IfErr result IsRefusal }
 {
-    let [file] = files else {
-        return Err(Failure::Fault(REFUSED));
-    };
     let program = front_end(alloc, file, main)?;
     Ok(back_end(alloc, file, &program)?)
 }
@@ -67,7 +67,8 @@ fn front_end(alloc: Global, file: &SourceFile, main: &str) -> Result<Program, Fa
 
 /// The object file of a program.
 fn back_end(alloc: Global, file: &SourceFile, program: &Program) -> Result<Compiled, AllocError>
-    ensures sealed { IfOk result (λ compiled. IsSealedBy compiled.bytes compiled.closing) }
+    requires { length file.now.name ≤ 4096 }
+    ensures object { IfOk result (IsCompiled file.now.name file.now.bytes) }
     ensures decisions { IfOk result (λ compiled. compiled.decisions ≡ 0) }
     ensures conditions { IfOk result (λ compiled. compiled.conditions ≡ 0) }
     ensures statements { IfOk result (λ compiled. compiled.statements ≡ length program.now.statements) }
@@ -82,12 +83,14 @@ fn back_end(alloc: Global, file: &SourceFile, program: &Program) -> Result<Compi
         entry: image.entry,
         text: image.text,
         init_at: image.init_at,
+        init: Seq::from(Vec::new(alloc)),
         files: Seq::from(files),
         obligations: obligations(alloc, program)?,
         rows: image.rows,
+        roles: Roles::from(Vec::new(alloc)),
         closing: [0; 32],
     };
-    let (bytes, closing) = write_with_digest(alloc, &value)?;
+    let (bytes, closing) = write_parts(alloc, &value)?;
     Ok(Compiled {
         bytes: Bytes::from(bytes),
         statements: program.statements.len() as u32,

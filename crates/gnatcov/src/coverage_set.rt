@@ -1,14 +1,12 @@
 //! Coverage: the union of what traces show of an object's executions.
 
 ghost use Rattle.std.specs.Prelude.{◌≡◌, ◌+◌, ◌≤◌, [], length, vec_len, IfOk, OnErr};
-ghost use Rattle.gnatcov.specs.Traces.{block_count};
 
-use crate::decision_map::DecisionMap;
-use crate::object_format::Object;
-use crate::trace_format::TraceView;
 use cov_base::{Digest, Event};
+use object_format::Object;
 use std::alloc::{AllocError, Global};
 use std::marker::Model;
+use trace_format::TraceView;
 
 /// What the traces of an object's runs show: the digests of the runs, and the events of all of
 /// them. Both lists rise strictly.
@@ -42,7 +40,7 @@ impl Coverage<'_> {
 
     /// Adds what a trace shows, which fits the object. A trace that was added before changes
     /// nothing.
-    pub fn add_trace(&mut self, _map: &DecisionMap, view: &TraceView) -> Result<(), AllocError>
+    pub fn add_trace(&mut self, view: &TraceView<'_>) -> Result<(), AllocError>
         ensures one { length self.new.runs ≤ length self.old.runs + 1 }
         ensures refused { OnErr result (self.new ≡ self.old) }
     {
@@ -68,7 +66,7 @@ impl Coverage<'_> {
 
     /// The events of all runs so far and of one more: an instruction of a row inside a block starts
     /// the row's statement. Rows rise by address, and blocks by both of their ends.
-    fn events_with(&self, view: &TraceView) -> Result<Vec<Event>, AllocError> {
+    fn events_with(&self, view: &TraceView<'_>) -> Result<Vec<Event>, AllocError> {
         let mut events = self.events.clone()?;
         let mut at = 0;
         for row in self.object.rows.as_slice() {
@@ -83,8 +81,8 @@ impl Coverage<'_> {
 
 /// The first block from a place on that ends at an address or after it; the count of blocks where
 /// there is none.
-fn block_ending_from(view: &TraceView, from: u32, address: u32) -> u32
-    ensures { result ≤ block_count view.now }
+fn block_ending_from(view: &TraceView<'_>, from: u32, address: u32) -> u32
+    ensures { result ≤ length view.now.blocks }
 {
     for at in from..view.blocks() {
         if address <= view.block(at).last {

@@ -10,18 +10,11 @@ mod codegen_rv32;
 mod command_words;
 mod compiler;
 mod coverage_set;
-mod decision_map;
-mod line_table;
-mod object_format;
 mod obligations;
 mod ready;
-#[cfg(test)]
-mod run_to_report;
 mod rv32_emulator;
-mod rv_machine;
 mod status;
 mod top_call;
-mod trace_format;
 mod trace_record;
 
 use cov_io::{HostFiles, HostSink};

@@ -1,7 +1,7 @@
 //! The obligations of a program.
 
-ghost use Rattle.std.specs.Prelude.{◌≡◌, [], IfOk, map};
-ghost use Rattle.gnatcov.specs.Obliged.{statement_of};
+ghost use Rattle.std.specs.Prelude.{◌≡◌, ◌≤◌, [], ◌∷◌, IfOk, length, map};
+ghost use Rattle.gnatcov.specs.Obliged.{statement_of, outside_generics, predefined};
 
 use crate::ada_syntax::Stmt;
 use crate::ada_types::Program;
@@ -19,8 +19,11 @@ pub const PREDEFINED_EXCEPTIONS: [&str; 4] = [
 /// What coverage has to show of a program: that each statement is executed, also one after a return.
 pub fn obligations(alloc: Global, program: &Program) -> Result<Obligations, AllocError>
     ensures statements { IfOk result (λ o. o.statements ≡ map statement_of program.now.statements) }
+    ensures few { IfOk result (λ o. length o.statements ≤ 4096) }
     ensures decisions { IfOk result (λ o. o.decisions ≡ []) }
     ensures regions { IfOk result (λ o. o.regions ≡ []) }
+    ensures instances { IfOk result (λ o. o.instances ≡ outside_generics ∷ []) }
+    ensures exceptions { IfOk result (λ o. o.exceptions ≡ predefined) }
 {
     Ok(Obligations {
         statements: Seq::from(statements(alloc, program.statements.as_slice())?),
@@ -52,7 +55,9 @@ fn statement_entry(stmt: &Stmt) -> StmtEntry
 }
 
 /// All that stands in no generic, which is one instance without a name or a place.
-fn instances(alloc: Global) -> Result<Vec<InstanceEntry>, AllocError> {
+fn instances(alloc: Global) -> Result<Vec<InstanceEntry>, AllocError>
+    ensures { IfOk result (λ entries. entries.items ≡ outside_generics ∷ []) }
+{
     let name = Bytes::from(Vec::new(alloc));
     Ok(vec![in alloc;
         InstanceEntry {
@@ -64,10 +69,23 @@ fn instances(alloc: Global) -> Result<Vec<InstanceEntry>, AllocError> {
     ]?)
 }
 
-fn exceptions(alloc: Global) -> Result<Vec<ExceptionName>, AllocError> {
-    let mut names = Vec::new(alloc);
-    for name in PREDEFINED_EXCEPTIONS {
-        names.push(Bytes::from(Vec::from_slice(alloc, name.as_bytes())?))?;
-    }
-    Ok(names)
+/// The exceptions of the language itself.
+#[tactic(auto, unfolding(crate::specs::Obliged::predefined))]
+fn exceptions(alloc: Global) -> Result<Vec<ExceptionName>, AllocError>
+    ensures { IfOk result (λ names. names.items ≡ predefined) }
+{
+    let [constraint, program, storage, end] = PREDEFINED_EXCEPTIONS;
+    Ok(vec![in alloc;
+        exception(alloc, constraint)?,
+        exception(alloc, program)?,
+        exception(alloc, storage)?,
+        exception(alloc, end)?,
+    ]?)
+}
+
+/// An exception of a name.
+fn exception(alloc: Global, name: &str) -> Result<ExceptionName, AllocError>
+    ensures { IfOk result (λ text. text ≡ name.now) }
+{
+    Ok(Bytes::from(Vec::from_slice(alloc, name.as_bytes())?))
 }

@@ -3,17 +3,18 @@
 ghost use Rattle.std.specs.Prelude.{◌≡◌, OnOk, IfOk, IfErr, IfSome};
 ghost use Rattle.cov_io.specs.Outside.{Holds};
 ghost use Rattle.gnatcov.specs.Command.{task_view};
-ghost use Rattle.gnatcov.specs.Content.{RefusesObject};
+ghost use Rattle.gnatcov.specs.Content.{IsFileOf, RefusesObject};
 ghost use Rattle.gnatcov.specs.Failures.{object_status};
 ghost use Rattle.gnatcov.specs.Outcome.{Prepares};
 ghost use Rattle.gnatcov.specs.Reading.{IsUnread, UnlessMemory};
 ghost use Rattle.gnatcov.specs.Ready.{verdict_view};
+ghost use Rattle.gnatcov.specs.Task.{HasShortSource};
 
 use crate::command_words::Command;
-use crate::object_format::{Object, ObjectFault, read_object};
 use crate::status::{FileRef, Status};
 use cov_base::Failure;
 use cov_io::{FileFault, Files};
+use object_format::{Object, ObjectFault, read_object};
 use std::alloc::Global;
 
 mod compile;
@@ -40,6 +41,7 @@ pub fn prepare<'a, F: Files>(
     command: Command<'a>,
     files: &mut F,
 ) -> Result<Ready<'a>, Status>
+    requires { HasShortSource (task_view command) }
     ensures prepares { Prepares (task_view command.entry) (F.held files.old) (F.reads_failed files.old) (F.reads_failed files.new) (verdict_view result) }
     ensures same { F.held files.new ≡ F.held files.old }
     ensures writes { F.writes_failed files.new ≡ F.writes_failed files.old }
@@ -88,7 +90,8 @@ fn read_file<F: Files>(
 
 /// The object that a file holds.
 fn object_of(alloc: Global, bytes: &[u8]) -> Result<Object, Status>
-    ensures { IfErr result (UnlessMemory (RefusesObject bytes.now)) }
+    ensures read { IfOk result (λ o. IsFileOf o bytes.now) }
+    ensures refused { IfErr result (UnlessMemory (RefusesObject bytes.now)) }
 {
     match read_object(alloc, bytes) {
         Ok(object) => Ok(object),

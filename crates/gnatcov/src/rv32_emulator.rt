@@ -3,11 +3,13 @@
 ghost use Rattle.std.specs.Prelude.{◌≡◌, ◌≢◌, ◌<◌, ◌≤◌, [], IfOk, IfErr};
 ghost use Rattle.cov_base.specs.declared.failure.Failure.TheVariants.{Fault};
 ghost use Rattle.gnatcov.specs.Runs.{IsOverAt};
+ghost use Rattle.object_format.specs.Read.{IsObject};
 
-use crate::object_format::Object;
-use crate::rv_machine::{Machine, Seen, Stepped, TrapWhy};
 use crate::trace_record::Recorder;
 use cov_base::Failure;
+use object_format::Object;
+use rv_machine::Machine;
+use rv_semantics::{Seen, Stepped, TrapWhy};
 use std::alloc::{AllocError, Global};
 use thiserror::Error;
 
@@ -50,20 +52,22 @@ pub fn parse_input(alloc: Global, bytes: &[u8]) -> Result<Vec<i32>, Failure<Inpu
 }
 
 /// Runs an object on an input for at most `budget` instructions. The recorder sees each executed
-/// instruction, the ending call too, and `out` takes the words that the program puts. The machine's
-/// memory is to come from the allocator.
+/// instruction, the ending call too, and `out` takes the words that the program puts.
+#[tactic(auto, using(crate::proofs::ObjectLaws::placed))]
 pub fn run(
-    _alloc: Global,
+    alloc: Global,
     object: &Object,
     input: &[i32],
     budget: u32,
     recorder: &mut Recorder,
     out: &mut Vec<i32>,
 ) -> Result<Ending, Failure<RunFault>>
+    requires { IsObject object.now }
+    ensures object { recorder.new.object ≡ recorder.old.object }
     ensures counted { IfOk result (λ ending. (0 < ending.count) × (ending.count ≤ budget)) }
     ensures over { IfErr result (IsOverAt budget) }
 {
-    let mut machine = Machine::new(object);
+    let mut machine = Machine::new(alloc, object)?;
     let mut words = input;
     for done in 0..budget {
         match machine.step() {
@@ -91,6 +95,8 @@ pub fn run(
 }
 
 /// Shows the recorder an executed instruction.
-fn record(recorder: &mut Recorder, seen: Seen) -> Result<(), AllocError> {
+fn record(recorder: &mut Recorder, seen: Seen) -> Result<(), AllocError>
+    ensures { recorder.new.object ≡ recorder.old.object }
+{
     recorder.see(seen.pc, seen.edge, seen.x8)
 }

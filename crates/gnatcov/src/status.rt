@@ -2,19 +2,30 @@
 
 ghost use Rattle.std.specs.Prelude.{◌≡◌, Some, IfOk, string_bytes};
 ghost use Rattle.gnatcov.specs.declared.status.Status.TheVariants.{WantOfMemory};
-ghost use Rattle.gnatcov.specs.Lines.{number_of, line_of, object_word, trace_word, address_text};
+ghost use Rattle.gnatcov.specs.Lines.{number_of, line_of, object_word};
+ghost use Rattle.gnatcov.specs.TraceWords.{address_text, trace_text, place_text, fit_text};
 
 use crate::compiler::Why;
-use crate::object_format::ObjectFault;
-use crate::rv_machine::TrapWhy;
-use crate::trace_format::TraceFault;
+use decision_map::FitFault;
+use object_format::ObjectFault;
+use rv_semantics::TrapWhy;
 use std::alloc::{AllocError, Global};
+use trace_format::TraceFault;
 
 /// A file that a command reads.
 #[derive(Clone, Copy, Debug, PartialEq, Eq)]
 pub enum FileRef {
     /// A file that the command names, by its place from 0 in the order of reading.
     Word(u32),
+}
+
+/// The check that a trace file fails.
+#[derive(Clone, Copy, Debug, PartialEq, Eq)]
+pub enum TraceWhy {
+    /// One of the file alone.
+    File(TraceFault),
+    /// One of the file beside the object.
+    Fit(FitFault),
 }
 
 /// What a call comes to.
@@ -38,7 +49,7 @@ pub enum Status {
     /// The trace file with this number, from 1, fails a check.
     TraceRefused {
         index: u32,
-        why: TraceFault,
+        why: TraceWhy,
     },
     /// This line of the input file, from 1, is no number of 32 bits.
     InputRefused {
@@ -115,7 +126,7 @@ impl Status {
                 format!(in alloc; "gnatcov: object refused: {why}\n")
             }
             Status::TraceRefused { index, why } => {
-                let why = trace_word(why);
+                let why = trace_text(alloc, why)?;
                 format!(in alloc; "gnatcov: trace {index} refused: {why}\n")
             }
             Status::InputRefused { line } => {
@@ -140,17 +151,63 @@ fn object_word(why: ObjectFault) -> &'static str
     ensures { result.now ≡ object_word why }
 {
     match why {
+        ObjectFault::Short => "short",
+        ObjectFault::Magic => "magic",
+        ObjectFault::Version => "version",
+        ObjectFault::Long => "long",
         ObjectFault::Damaged => "damaged",
+        ObjectFault::Field => "field",
+        ObjectFault::Decision => "decision",
+        ObjectFault::Row => "row",
+        ObjectFault::Role => "role",
     }
 }
 
-/// The word for why a trace is refused.
-fn trace_word(why: TraceFault) -> &'static str
-    ensures { result.now ≡ trace_word why }
+/// The words for why a trace is refused.
+fn trace_text(alloc: Global, why: TraceWhy) -> Result<String, AllocError>
+    ensures { IfOk result (λ text. string_bytes text ≡ trace_text why) }
 {
     match why {
-        TraceFault::Damaged => "damaged",
+        TraceWhy::File(TraceFault::Short) => String::from_str(alloc, "short"),
+        TraceWhy::File(TraceFault::Magic) => String::from_str(alloc, "magic"),
+        TraceWhy::File(TraceFault::Version) => String::from_str(alloc, "version"),
+        TraceWhy::File(TraceFault::Long) => String::from_str(alloc, "long"),
+        TraceWhy::File(TraceFault::Damaged) => String::from_str(alloc, "damaged"),
+        TraceWhy::File(TraceFault::Order { at }) => place_text(alloc, "order", at),
+        TraceWhy::File(TraceFault::Flag { at }) => place_text(alloc, "flag", at),
+        TraceWhy::Fit(why) => fit_text(alloc, why),
     }
+}
+
+/// The words for why a trace is none of an object's runs.
+fn fit_text(alloc: Global, why: FitFault) -> Result<String, AllocError>
+    ensures { IfOk result (λ text. string_bytes text ≡ fit_text why) }
+{
+    match why {
+        FitFault::Foreign { kept, object } => {
+            let kept = hex::encode(alloc, kept.as_slice())?;
+            let object = hex::encode(alloc, object.as_slice())?;
+            format!(in alloc; "foreign: kept {kept}, object {object}")
+        }
+        FitFault::Ending => String::from_str(alloc, "flag"),
+        FitFault::NotABlock { start } => {
+            let start = address_text(alloc, start)?;
+            format!(in alloc; "not a block at {start}")
+        }
+        FitFault::Edge { start } => {
+            let start = address_text(alloc, start)?;
+            format!(in alloc; "edge at {start}")
+        }
+        FitFault::HistoryAddress { at } => place_text(alloc, "history address", at),
+        FitFault::HistoryNotFlat { at } => place_text(alloc, "history not flat", at),
+    }
+}
+
+/// The name of a check, and the entry that fails it, counted from 0 in its list.
+fn place_text(alloc: Global, name: &str, at: u32) -> Result<String, AllocError>
+    ensures { IfOk result (λ text. string_bytes text ≡ place_text name.now at) }
+{
+    format!(in alloc; "{name} at {at}")
 }
 
 /// An address in eight hexadecimal digits.

@@ -7,7 +7,7 @@ ghost use Rattle.gnatcov.specs.declared.status.Status.TheVariants.{Usage, WantOf
 ghost use Rattle.gnatcov.specs.Lines.{line_of};
 ghost use Rattle.gnatcov.specs.Outcome.{call_of, PutsText, Delivers, Because, Answers};
 ghost use Rattle.gnatcov.specs.Ready.{output_view};
-ghost use Rattle.gnatcov.specs.Task.{task_of};
+ghost use Rattle.gnatcov.specs.Task.{HasShortSource, task_of};
 ghost use Rattle.gnatcov.specs.Verdict.{name_at, name_of};
 
 use crate::command_words::{Command, words_of};
@@ -63,6 +63,7 @@ fn obey<F: Files, S: Sink>(
     files: &mut F,
     out: &mut S,
 ) -> Status
+    requires { HasShortSource (task_view command) }
     ensures { Because (task_view command.entry) (call_of F.held F.reads_failed F.writes_failed S.written S.failures files.old files.new out.old out.new) result }
 {
     match prepare(alloc, command, files) {

@@ -1,7 +1,8 @@
 //! `compile`: a source is made an object file.
 
-ghost use Rattle.std.specs.Prelude.{◌≡◌, IfErr};
-ghost use Rattle.gnatcov.specs.Content.{RefusesSource};
+ghost use Rattle.std.specs.Prelude.{◌≡◌, ◌≤◌, IfOk, IfErr, length};
+ghost use Rattle.gnatcov.specs.Compiled.{compiled_lines};
+ghost use Rattle.gnatcov.specs.Content.{CompilesTo, RefusesSource};
 ghost use Rattle.gnatcov.specs.Outcome.{Prepares};
 ghost use Rattle.gnatcov.specs.Reading.{UnlessMemory};
 ghost use Rattle.gnatcov.specs.Failures.{source_status};
@@ -23,6 +24,7 @@ pub fn prepare<'a, F: Files>(
     source: &str,
     files: &mut F,
 ) -> Result<Ready<'a>, Status>
+    requires { length source.now ≤ 4096 }
     ensures prepares { Prepares (Compile main.now object.now source.now) (F.held files.old) (F.reads_failed files.old) (F.reads_failed files.new) (verdict_view result) }
     ensures same { F.held files.new ≡ F.held files.old }
     ensures writes { F.writes_failed files.new ≡ F.writes_failed files.old }
@@ -45,13 +47,15 @@ fn compiled(
     name: &str,
     source: Vec<u8>,
 ) -> Result<(Vec<u8>, Vec<u8>), Status>
-    ensures { IfErr result (UnlessMemory (RefusesSource main.now name.now source.items)) }
+    requires { length name.now ≤ 4096 }
+    ensures made { IfOk result (λ made. CompilesTo main.now name.now source.items (record { file = made.0.items; text = made.1.items })) }
+    ensures refused { IfErr result (UnlessMemory (RefusesSource main.now name.now source.items)) }
 {
     let file = SourceFile {
         name: Bytes::from(Vec::from_slice(alloc, name.as_bytes())?),
         bytes: Bytes::from(source),
     };
-    match compile(alloc, &[file], main) {
+    match compile(alloc, &file, main) {
         Ok(compiled) => {
             let text = lines(alloc, &compiled)?;
             Ok((Vec::from(compiled.bytes), text))
@@ -61,7 +65,9 @@ fn compiled(
 }
 
 /// The lines that tell what was compiled.
-fn lines(alloc: Global, compiled: &Compiled) -> Result<Vec<u8>, AllocError> {
+fn lines(alloc: Global, compiled: &Compiled) -> Result<Vec<u8>, AllocError>
+    ensures { IfOk result (λ text. text.items ≡ compiled_lines compiled.now) }
+{
     let statements = compiled.statements;
     let decisions = compiled.decisions;
     let conditions = compiled.conditions;

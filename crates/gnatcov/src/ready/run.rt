@@ -1,23 +1,27 @@
 //! `run`: an object is executed on an input, and its trace is made.
 
-ghost use Rattle.std.specs.Prelude.{◌≡◌, ℕ, List, [], IfErr, OnOk};
+ghost use Rattle.std.specs.Prelude.{◌≡◌, ℕ, List, [], IfOk, IfErr, OnOk};
 ghost use Rattle.gnatcov.specs.Content.{RefusesInput, StopsRun};
 ghost use Rattle.gnatcov.specs.Failures.{input_status, run_status};
 ghost use Rattle.gnatcov.specs.Outcome.{Prepares};
 ghost use Rattle.gnatcov.specs.Reading.{UnlessMemory};
+ghost use Rattle.gnatcov.specs.Recording.{IsTraceOf};
 ghost use Rattle.gnatcov.specs.Ready.{verdict_view};
 ghost use Rattle.gnatcov.specs.Task.{Run};
+ghost use Rattle.object_format.specs.Read.{IsObject};
 
-use crate::object_format::Object;
 use crate::ready::{Ready, ReadyFile, object_of, read_file};
 use crate::rv32_emulator::{InputFault, RunFault, parse_input, run};
 use crate::status::Status;
-use crate::trace_format::DIGEST_BYTES;
 use crate::trace_record::Recorder;
 use cov_base::{ExceptionName, Failure};
 use cov_io::Files;
+use object_format::Object;
 use std::alloc::{AllocError, Global};
 use std::str;
+
+/// How many bytes the digest at a file's end takes.
+const DIGEST_BYTES: usize = 32;
 
 /// At most so many instructions are executed.
 const BUDGET: u32 = 100_000_000;
@@ -59,9 +63,11 @@ fn words_of(alloc: Global, input: &[u8]) -> Result<Vec<i32>, Status>
 
 /// The trace of a run, and the lines that tell of it.
 fn executed(alloc: Global, object: &Object, input: &[i32]) -> Result<(Vec<u8>, Vec<u8>), Status>
-    ensures { (bytes words : List ℕ) → IfErr result (UnlessMemory (StopsRun bytes words)) }
+    requires { IsObject object.now }
+    ensures traced { IfOk result (λ made. (ending : ℕ) × IsTraceOf object.now.closing ending made.0.items) }
+    ensures stopped { (words : List ℕ) → IfErr result (UnlessMemory (StopsRun object.now words)) }
 {
-    let mut recorder = Recorder::new(alloc, object);
+    let mut recorder = Recorder::new(alloc, object)?;
     let mut put = Vec::new(alloc);
     match run(alloc, object, input, BUDGET, &mut recorder, &mut put) {
         Ok(ending) => {

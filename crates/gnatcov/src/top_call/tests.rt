@@ -2,12 +2,13 @@
 
 use super::gnatcov;
 use crate::compiler::Why;
-use crate::object_format::ObjectFault;
-use crate::status::{FileRef, Status};
-use crate::trace_format::TraceFault;
+use crate::status::{FileRef, Status, TraceWhy};
 use cov_io::{Entry, Files, MemFiles, MemSink};
+use decision_map::FitFault;
+use object_format::ObjectFault;
 use std::alloc::{AllocError, Global};
 use std::test::Fail;
+use trace_format::TraceFault;
 
 const P1: &str = "with Test_IO;                      -- p1.adb
 procedure P1 is
@@ -489,26 +490,50 @@ const SOURCE_REFUSED: Status = Status::SourceRefused {
 };
 
 const OBJECT_REFUSED: Status = Status::ObjectRefused {
-    why: ObjectFault::Damaged,
+    why: ObjectFault::Magic,
 };
 
-const TRACE_REFUSED: Status = Status::TraceRefused {
+/// The closing digest of the object of `P1`, which it has by another reckoning.
+const P1_DIGEST: [u8; 32] = [
+    0x21, 0x75, 0x3e, 0x00, 0xcf, 0xd0, 0x83, 0x18, 0x8e, 0x17, 0x76, 0x23, 0x58, 0x6a, 0x33, 0x5c,
+    0x93, 0xf1, 0x40, 0x83, 0x63, 0xe4, 0x08, 0x3c, 0xeb, 0x9a, 0xa2, 0x3e, 0xb5, 0xa5, 0xba, 0x6c,
+];
+
+/// The same of `Z`.
+const Z_DIGEST: [u8; 32] = [
+    0xc8, 0xcf, 0x6a, 0x1f, 0x88, 0x2c, 0xe2, 0xf8, 0x11, 0xa8, 0x31, 0x89, 0x3f, 0xb9, 0xd7, 0x01,
+    0xb7, 0x34, 0x04, 0xd5, 0xd9, 0x54, 0x7f, 0xbc, 0xc0, 0xc0, 0xea, 0x5a, 0x55, 0x24, 0x19, 0x43,
+];
+
+const FOREIGN: Status = Status::TraceRefused {
     index: 1,
-    why: TraceFault::Damaged,
+    why: TraceWhy::Fit(FitFault::Foreign {
+        kept: P1_DIGEST,
+        object: Z_DIGEST,
+    }),
 };
+
+/// A trace that fails a check of its format.
+fn refused_trace(line: &'static str, why: TraceFault, put: &'static str) -> Case<'static> {
+    let status = Status::TraceRefused {
+        index: 1,
+        why: TraceWhy::File(why),
+    };
+    quiet(line, status, put)
+}
 
 fn refusals() -> [Case<'static>; 4] {
     [
         quiet(COMPILE, SOURCE_REFUSED, "gnatcov: p1.adb:1:1: syntax\n"),
         quiet(
             "gnatcov coverage --level=stmt --annotate=report --object=z.obj p1.trace",
-            TRACE_REFUSED,
-            "gnatcov: trace 1 refused: damaged\n",
+            FOREIGN,
+            "gnatcov: trace 1 refused: foreign: kept 21753e00cfd083188e177623586a335c93f1408363e4083ceb9aa23eb5a5ba6c, object c8cf6a1f882ce2f811a831893fb9d701b73404d5d9547fbcc0c0ea5a55241943\n",
         ),
         quiet(
             "gnatcov run --input=empty -o new p1.trace",
             OBJECT_REFUSED,
-            "gnatcov: object refused: damaged\n",
+            "gnatcov: object refused: magic\n",
         ),
         quiet(
             "gnatcov run --input=z.adb -o new p1.obj",
@@ -516,6 +541,49 @@ fn refusals() -> [Case<'static>; 4] {
             "gnatcov: input line 1 refused\n",
         ),
     ]
+}
+
+fn damages() -> [Case<'static>; 3] {
+    [
+        refused_trace(
+            "gnatcov coverage --level=stmt --annotate=report --object=p1.obj short",
+            TraceFault::Short,
+            "gnatcov: trace 1 refused: short\n",
+        ),
+        refused_trace(
+            "gnatcov coverage --level=stmt --annotate=report --object=p1.obj long",
+            TraceFault::Long,
+            "gnatcov: trace 1 refused: long\n",
+        ),
+        refused_trace(
+            "gnatcov coverage --level=stmt --annotate=report --object=p1.obj damaged",
+            TraceFault::Damaged,
+            "gnatcov: trace 1 refused: damaged\n",
+        ),
+    ]
+}
+
+/// Adds the trace of `P1` without its last byte, with one byte more, and with its last byte changed.
+fn add_damaged(alloc: Global, files: &mut MemFiles) -> Result<(), Fail> {
+    let mut bytes = Vec::new(alloc);
+    files.read("p1.trace", &mut bytes)?;
+    let last = bytes.pop().unwrap_or(0);
+    files.write("short", bytes.as_slice())?;
+    bytes.push(last ^ 1)?;
+    files.write("damaged", bytes.as_slice())?;
+    bytes.pop();
+    bytes.push(last)?;
+    bytes.push(0)?;
+    files.write("long", bytes.as_slice())?;
+    Ok(())
+}
+
+#[test]
+fn tells_how_a_trace_is_damaged(rt: HostRuntime) -> Result<(), Fail> {
+    let mut files = all_files(rt.alloc())?;
+    add_damaged(rt.alloc(), &mut files)?;
+    assert_eq!(rt; broken_refusal(rt.alloc(), &files, &damages())?, None);
+    Ok(())
 }
 
 #[test]
