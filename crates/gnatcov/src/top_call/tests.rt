@@ -67,8 +67,9 @@ const RUN: &str = "gnatcov run --input=empty -o new p1.obj";
 const COVERAGE: &str = "gnatcov coverage --level=stmt --annotate=report --object=p1.obj p1.trace";
 
 /// All names of files but `new` that the tests name and make.
-const NAMES: [&str; 7] = [
-    "p1.adb", "z.adb", "empty", "p1.obj", "z.obj", "p1.trace", "z.trace",
+const NAMES: [&str; 10] = [
+    "p1.adb", "z.adb", "empty", "p1.obj", "z.obj", "p1.trace", "z.trace", "short", "long",
+    "damaged",
 ];
 
 /// A command that makes a file, and tells a number between two texts, of which the second ends
