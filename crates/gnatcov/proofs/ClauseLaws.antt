@@ -1,13 +1,16 @@
 -- What a reader may use of a call, out of why its status comes.
-use Rattle.std.proofs.Common.{◌≡◌, ◌≢◌, ◌⊎◌, ℕ, List, Option, None, Some, IsSome, IfSome, MatchOption, Result, Ok, Err, inl, inr, refl, sym, ◌∙◌, ap, subst}
+use Rattle.std.proofs.Common.{◌≡◌, ◌≢◌, ◌⊎◌, ℕ, ◌+◌, List, [], ◌∷◌, Option, None, Some, IsSome, IfSome, MatchOption, Result, Ok, Err, inl, inr, refl, sym, ◌∙◌, ap, subst}
 use Rattle.std.specs.FinMap as finmap
+use Rattle.std.specs.List.{AllByRecursion}
+use Rattle.command_words.specs.Task.{Task, Compile, Run, Coverage}
 use Rattle.cov_io.specs.Outside.{Held, WhereTold, Replaces, SameBut}
 use Rattle.gnatcov.specs.declared.status.Status.{Status}
 use Rattle.gnatcov.specs.declared.status.Status.TheVariants.{Done, Usage, SourceRefused, ObjectRefused, TraceRefused, InputRefused, OverBudget, Trap, ReadFault, WriteFault, WantOfMemory}
 use Rattle.gnatcov.specs.Clauses.{UsageIsExact, AreThere, DoneIsWhole, RefusalsLeaveFiles, OthersStay, RefusalsPutOneLine, RisenReadsAreTold, ReadFaultHasCause, WriteFaultHasCause}
 use Rattle.gnatcov.specs.Outcome.{Call, Answers, Because, HasFile, HasSpoilt, IsNamed, Delivered}
-use Rattle.gnatcov.specs.Task.{Task, Compile, Run, Coverage, output_of}
-use Rattle.gnatcov.specs.Verdict.{NewFile, Output, ComesTo}
+use Rattle.gnatcov.specs.TaskFiles.{output_of}
+use Rattle.gnatcov.specs.Verdict.{NewFile, Output, AfterTraces, Covers, ComesTo}
+use Rattle.object_format.specs.declared.object.Object.{Object}
 
 -- an output, as a verdict
 abbrev succeeds : Output → Result Output Status
@@ -29,20 +32,28 @@ some_there : (held : Option (List ℕ)) (P : List ℕ → Type 0) (A : Type 0) �
 some_there None P A there h f = absurd (cc)
 some_there (Some bytes) P A there h f = f bytes h
 
+-- each trace is there where reading them came to an output
+traces_there : (held : Held) (o : Object) (number : ℕ) (names : List (List ℕ)) (Then : List (List ℕ) → Result Output Status → Type 0) (output : Output)
+    → AfterTraces held o number names Then (Ok output) → AllByRecursion (λ name. IsSome (finmap.get held name)) names
+traces_there held o number [] Then output h = tt
+traces_there held o number (name ∷ names) Then output h =
+    let first = read_there (finmap.get held name) _ output _ h in
+    let others = some_there (finmap.get held name) _ _ first.0 (passed (finmap.get held name) (λ _. ⊥) _ first.1)
+    (λ trace next. traces_there held o (number + 1) names (λ traces. Then (trace ∷ traces)) output next.1) in
+    (first.0, others)
+
 -- each file is there where the task came to an output
 there : (held : Held) (task : Task) (output : Output) → ComesTo held task (Ok output) → AreThere (Some held) task
 there held (Compile main object source) output h =
     ((read_there (finmap.get held source) _ output _ h).0, tt)
-there held (Run input trace object) output h =
+there held (Run input budget trace object) output h =
     let first = read_there (finmap.get held object) _ output _ h in
     let second = some_there (finmap.get held object) _ _ first.0 (passed (finmap.get held object) (λ _. ⊥) _ first.1) (λ bytes next. (read_there (finmap.get held input) _ output _ next.2).0) in
     (first.0, (second, tt))
-there held (Coverage level annotation object None) output h =
-    ((read_there (finmap.get held object) _ output _ h).0, tt)
-there held (Coverage level annotation object (Some name)) output h =
+there held (Coverage level annotation object traces) output h =
     let first = read_there (finmap.get held object) _ output _ h in
-    let second = some_there (finmap.get held object) _ _ first.0 (passed (finmap.get held object) (λ _. ⊥) _ first.1) (λ bytes next. (read_there (finmap.get held name) _ output _ next.2).0) in
-    (first.0, (second, tt))
+    let others = some_there (finmap.get held object) _ _ first.0 (passed (finmap.get held object) (λ _. ⊥) _ first.1) (λ bytes next. traces_there held next.0 1 traces (Covers level annotation next.0) output next.2) in
+    (first.0, others)
 
 -- the same where the files may not tell
 all_there : (held : Option Held) (task : Task) (output : Output) → IfSome held (λ told. ComesTo told task (Ok output)) → AreThere held task
@@ -53,8 +64,13 @@ pub usage_law : (task : Option Task) (call : Call) (status : Status) → Answers
 usage_law None call status a = (λ _. refl, λ _. a.0)
 usage_law (Some task) call status a = (λ e. absurd (subst (Because task call) e a), λ e. absurd (cc))
 
+-- words that are no command come to no other status
+only : (status other : Status) → (status ≡ Usage) ⊎ (status ≡ WantOfMemory) → (Usage ≡ other → ⊥) → (WantOfMemory ≡ other → ⊥) → status ≡ other → ⊥
+only status other (inl usage) no_usage no_memory e = no_usage (sym usage ∙ e)
+only status other (inr memory) no_usage no_memory e = no_memory (sym memory ∙ e)
+
 pub done_law : (task : Option Task) (call : Call) (status : Status) → Answers task call status → DoneIsWhole task call status
-done_law None call status a = λ e. absurd (cc (a.0, e))
+done_law None call status a = λ e. absurd (only status Done a.0 (λ e. cc) (λ e. cc) e)
 done_law (Some task) call status a = λ e.
     let d : Delivered task Done call = subst (Because task call) e a in
     record { reads = d.reads; writes = d.delivers.writes; failures = d.delivers.failures; there = all_there call.held task d.output d.comes }
@@ -90,7 +106,7 @@ puts_line task call (OverBudget count) a = λ d w. a.1.puts
 puts_line task call (Trap pc why) a = λ d w. a.1.puts
 
 pub line_law : (task : Option Task) (call : Call) (status : Status) → Answers task call status → RefusalsPutOneLine task call status
-line_law None call status a = λ d w. rw a.0 a.2.puts
+line_law None call status a = λ d w. elim a.0 [ inl usage ↦ rw usage (rw usage at a.2.puts) | inr memory ↦ rw memory (rw memory at a.2.puts) ]
 line_law (Some task) call status a = puts_line task call status a
 
 rises : (task : Task) (call : Call) (status : Status) → Because task call status → RisenReadsAreTold call status
@@ -123,7 +139,7 @@ read_fault_law (Some task) call status a = λ file e asked is.
     rw (← same) (b.0.0, without _ _ _ b.0.1)
 
 pub write_fault_law : (task : Option Task) (call : Call) (status : Status) → Answers task call status → WriteFaultHasCause task call status
-write_fault_law None call status a = λ e. absurd (cc (a.0, e))
+write_fault_law None call status a = λ e. absurd (only status WriteFault a.0 (λ e. cc) (λ e. cc) e)
 write_fault_law (Some task) call status a = λ e.
     let d : Delivered task WriteFault call = subst (Because task call) e a in
     record {

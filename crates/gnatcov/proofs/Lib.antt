@@ -1,7 +1,5 @@
-pub mod BlockLaws
 pub mod ClauseLaws
 pub mod ObjectLaws
-pub mod OptionValue
 pub mod RefusalLaws
-pub mod ShortNames
+pub mod RunLaws
 pub mod StopLaws

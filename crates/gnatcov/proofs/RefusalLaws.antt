@@ -1,10 +1,10 @@
 -- Where no output was made and the line of the refusal was put, that is why the status comes.
 use Rattle.std.proofs.Common.{◌≡◌, ◌⊎◌, inl, inr}
+use Rattle.command_words.specs.Task.{Task}
 use Rattle.gnatcov.specs.declared.status.Status.{Status}
 use Rattle.gnatcov.specs.declared.status.Status.TheVariants.{Done, Usage, SourceRefused, ObjectRefused, TraceRefused, InputRefused, OverBudget, Trap, ReadFault, WriteFault, WantOfMemory}
 use Rattle.gnatcov.specs.Lines.{line_of}
 use Rattle.gnatcov.specs.Outcome.{Call, PutsText, Ends, Stops, Because}
-use Rattle.gnatcov.specs.Task.{Task}
 use Rattle.gnatcov.specs.Verdict.{name_of}
 
 -- the files are as before, and the line of this status was put

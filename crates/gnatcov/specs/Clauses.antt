@@ -1,19 +1,20 @@
 -- What a reader may use of a call, one fact each. They follow from `Answers`.
-use Rattle.std.specs.Prelude.{◌≡◌, ◌≢◌, ◌↔◌, ◌⊎◌, ℕ, List, [], Option, None, Some, IsSome, IfSome}
+use Rattle.std.specs.Prelude.{◌≡◌, ◌≢◌, ◌⊎◌, ℕ, List, [], Option, None, Some, IsSome, IfSome}
 use Rattle.std.specs.List.{AllByRecursion}
 use Rattle.std.specs.FinMap as finmap
+use Rattle.command_words.specs.Task.{Task}
 use Rattle.cov_io.specs.Outside.{Held, Rose, WhereTold, IsAbsent}
 use Rattle.gnatcov.specs.declared.status.FileRef.{FileRef}
 use Rattle.gnatcov.specs.declared.status.Status.{Status}
 use Rattle.gnatcov.specs.declared.status.Status.TheVariants.{Done, Usage, ReadFault, WriteFault, WantOfMemory}
 use Rattle.gnatcov.specs.Lines.{line_of}
 use Rattle.gnatcov.specs.Outcome.{Call, PutsText}
-use Rattle.gnatcov.specs.Task.{Task, files_of, output_of}
+use Rattle.gnatcov.specs.TaskFiles.{files_of, output_of}
 use Rattle.gnatcov.specs.Verdict.{IsRead, name_at, name_of}
 
--- Usage comes exactly where the words are no command
+-- Usage comes exactly where the words are no command, want of memory aside
 abbrev pub UsageIsExact : Option Task → Status → Type 0
-UsageIsExact task status = (status ≡ Usage) ↔ (task ≡ None)
+UsageIsExact task status = (status ≡ Usage → task ≡ None) × (task ≡ None → (status ≡ Usage) ⊎ (status ≡ WantOfMemory))
 
 -- the files tell that each file which the task reads is there
 abbrev pub AreThere : Option Held → Task → Type 0

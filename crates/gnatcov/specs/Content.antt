@@ -1,6 +1,6 @@
 -- What a command's answer says of the bytes that it read. This is the one place for it: what is written here is a
 -- clause of the program's public call, since `ComesTo` is made of these words and of nothing else.
-use Rattle.std.specs.Prelude.{◌≡◌, ◌≢◌, ◌⊎◌, ℕ, ◌++◌, true, List, [], ◌∷◌, length, sum_by, codes, Some, None, Ok, Err}
+use Rattle.std.specs.Prelude.{◌≡◌, ◌⊎◌, ℕ, ℤ, ◌++◌, true, List, [], ◌∷◌, length, sum_by, codes, Some, None, Ok, Err}
 use Rattle.std.specs.Fmt.{decimal}
 use Rattle.std.specs.List.{AllByRecursion}
 use Rattle.cov_base.specs.declared.level.Annotation.{Annotation}
@@ -11,16 +11,21 @@ use Rattle.gnatcov.specs.declared.compiler.fault.Why.TheVariants.{Syntax}
 use Rattle.gnatcov.specs.declared.status.Status.{Status}
 use Rattle.gnatcov.specs.declared.status.Status.TheVariants.{SourceRefused, ObjectRefused, TraceRefused, InputRefused, OverBudget, Trap}
 use Rattle.gnatcov.specs.declared.status.TraceWhy.TheVariants.{File, Fit}
-use Rattle.gnatcov.specs.Recording.{IsTraceOf}
+use Rattle.gnatcov.specs.RunLines.{run_lines}
 use Rattle.hex.specs.Hex.{encode_lower}
 use Rattle.object_format.specs.declared.fault.ObjectFault.{ObjectFault}
 use Rattle.object_format.specs.declared.object.Object.{Object}
 use Rattle.object_format.specs.File.{object_bytes, digest_of}
 use Rattle.object_format.specs.Read.{IsObject, is_plain, passes_plain_field, IsRefusedFor}
+use Rattle.rv32_emulator.specs.InputFile.{numbers_of}
+use Rattle.rv_machine.specs.Objects.{object_run}
+use Rattle.rv_semantics.specs.Run.Outcome.{Ended, Trapped, Cut}
 use Rattle.sha2.specs.Sha256.{sha256}
 use Rattle.trace_format.specs.declared.fault.TraceFault.{TraceFault}
 use Rattle.trace_format.specs.Checks.{trace_of}
+use Rattle.trace_format.specs.Formats.{trace_spelling}
 use Rattle.trace_format.specs.Trace.{TraceFile}
+use Rattle.trace_record.specs.Written.{traced}
 
 -- the bytes that a command writes, and the text that it puts
 pub record Made : Type 0 where
@@ -80,21 +85,29 @@ pub record CompilesTo (main name source : List ℕ) (made : Made) : Type 0 where
 abbrev pub RefusesObject : (object : List ℕ) → Status → Type 0
 RefusesObject object status = (why : ObjectFault) × IsRefusedFor passes_plain_field object why × (status ≡ ObjectRefused why)
 
--- the bytes are no input
+-- the bytes are an input of these numbers
+abbrev pub IsInputOf : List ℤ → (input : List ℕ) → Type 0
+IsInputOf numbers input = numbers_of input ≡ Ok numbers
+
+-- this is the first line of the bytes that is no number
 abbrev pub RefusesInput : (input : List ℕ) → Status → Type 0
-RefusesInput input status = (input ≢ []) × (status ≡ InputRefused 1)
+RefusesInput input status = (line : ℕ) × (numbers_of input ≡ Err line) × (status ≡ InputRefused line)
 
--- the object's run on the input has no ending
-abbrev pub StopsRun : Object → (input : List ℕ) → Status → Type 0
-StopsRun o input (OverBudget count) = count ≡ 100000000
-StopsRun o input (Trap pc why) = Unit {0}
-StopsRun o input status = ⊥
+-- the object's run on the input has no ending: it had not ended after as many instructions as its budget, or an instruction trapped before
+abbrev pub StopsRun : Object → (budget : ℕ) → (input : List ℤ) → Status → Type 0
+StopsRun o budget input (OverBudget count) =
+    ((object_run o budget input).outcome ≡ Cut) × (length (object_run o budget input).entries ≡ budget) × (count ≡ budget)
+StopsRun o budget input (Trap pc why) = (object_run o budget input).outcome ≡ Trapped pc why
+StopsRun o budget input status = ⊥
 
--- the file is a trace of the object
-pub record RunsTo (o : Object) (input : List ℕ) (made : Made) : Type 0 where
-  pub empty : input ≡ []
+-- the object's run on the input ends within its budget; the file is the trace of its transcript and ending, and the text tells its output,
+-- its ending, its length and its trace's digest
+pub record RunsTo (o : Object) (budget : ℕ) (input : List ℤ) (made : Made) : Type 0 where
   pub ending : ℕ
-  pub traced : IsTraceOf o.closing ending made.file
+  pub ended : (object_run o budget input).outcome ≡ Ended ending
+  pub traced : made.file ≡ trace_spelling (traced o (object_run o budget input).entries ending)
+  pub told : made.text ≡
+      run_lines o.obligations.exceptions (object_run o budget input).output ending (length (object_run o budget input).entries) made.file
 
 -- ---- coverage
 

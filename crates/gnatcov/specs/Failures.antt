@@ -3,9 +3,9 @@ use Rattle.cov_base.specs.declared.failure.Failure.{Failure}
 use Rattle.cov_base.specs.declared.failure.Failure.TheVariants.{Fault}
 use Rattle.cov_base.specs.declared.failure.Failure.TheVariants as failures
 use Rattle.gnatcov.specs.declared.compiler.fault.SourceFault.{SourceFault}
-use Rattle.gnatcov.specs.declared.rv32_emulator.InputFault.{InputFault}
-use Rattle.gnatcov.specs.declared.rv32_emulator.RunFault.{RunFault}
-use Rattle.gnatcov.specs.declared.rv32_emulator.RunFault.TheVariants as runs
+use Rattle.rv32_emulator.specs.declared.input_file.InputFault.{InputFault}
+use Rattle.rv32_emulator.specs.declared.emulator.RunFault.{RunFault}
+use Rattle.rv32_emulator.specs.declared.emulator.RunFault.TheVariants as runs
 use Rattle.gnatcov.specs.declared.status.Status.{Status}
 use Rattle.gnatcov.specs.declared.status.Status.TheVariants.{SourceRefused, ObjectRefused, InputRefused, OverBudget, Trap, WantOfMemory}
 use Rattle.object_format.specs.declared.fault.ObjectFault.{ObjectFault}

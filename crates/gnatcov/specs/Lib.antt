@@ -1,5 +1,4 @@
 pub mod Clauses
-pub mod Command
 pub mod Compiled
 pub mod Content
 pub mod Coverage
@@ -10,10 +9,9 @@ pub mod Obliged
 pub mod Outcome
 pub mod Reading
 pub mod Ready
-pub mod Recording
 pub mod Refusals
-pub mod Runs
-pub mod Task
+pub mod RunLines
+pub mod TaskFiles
 pub mod Tokens
 pub mod TraceWords
 pub mod Verdict

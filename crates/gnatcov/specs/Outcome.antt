@@ -1,11 +1,12 @@
 -- Why a status comes, and what it leaves.
 use Rattle.std.specs.Prelude.{◌≡◌, ℕ, List, [], Option, None, Some, IfSome, IsSomeAnd, Result, Ok, Err, option_map, ◌⊎◌}
+use Rattle.command_words.specs.Task.{Task}
 use Rattle.cov_io.specs.Outside.{Held, Rose, WhereTold, IsAbsent, SameBut, Replaces, Appends, AppendsPrefix}
 use Rattle.gnatcov.specs.declared.status.FileRef.{FileRef}
 use Rattle.gnatcov.specs.declared.status.Status.{Status}
 use Rattle.gnatcov.specs.declared.status.Status.TheVariants.{Done, Usage, ReadFault, WriteFault, WantOfMemory}
 use Rattle.gnatcov.specs.Lines.{line_of}
-use Rattle.gnatcov.specs.Task.{Task, output_of}
+use Rattle.gnatcov.specs.TaskFiles.{output_of}
 use Rattle.gnatcov.specs.Verdict.{NewFile, Output, ComesTo, IsRead, name_at, name_of}
 
 -- the files and the sink before and after a call
@@ -134,7 +135,8 @@ Because task call (ReadFault file) =
 Because task call status =
     Refuses task status call.held call.reads call.reads_after × Ends (line_of (name_of task status) status) call
 
--- the same of the words: where they are no command, nothing is read
+-- the same of the words: where they are no command, or there was no memory to tell, nothing is read
 abbrev pub Answers : Option Task → Call → Status → Type 0
-Answers None call status = (status ≡ Usage) × (call.reads_after ≡ call.reads) × Ends (line_of [] Usage) call
+Answers None call status =
+    ((status ≡ Usage) ⊎ (status ≡ WantOfMemory)) × (call.reads_after ≡ call.reads) × Ends (line_of [] status) call
 Answers (Some task) call status = Because task call status

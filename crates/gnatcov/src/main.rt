@@ -7,15 +7,13 @@ mod ada_syntax;
 mod ada_types;
 mod annotated_report;
 mod codegen_rv32;
-mod command_words;
 mod compiler;
 mod coverage_set;
 mod obligations;
 mod ready;
-mod rv32_emulator;
+mod run_lines;
 mod status;
 mod top_call;
-mod trace_record;
 
 use cov_io::{HostFiles, HostSink};
 pub use status::Status;

@@ -1,17 +1,17 @@
 //! Making a command's output: all files are read and checked, and nothing is written or put yet.
 
 ghost use Rattle.std.specs.Prelude.{◌≡◌, OnOk, IfOk, IfErr, IfSome};
+ghost use Rattle.command_words.specs.Command.{task_view};
+ghost use Rattle.command_words.specs.Task.{IsWithinLimits};
 ghost use Rattle.cov_io.specs.Outside.{Holds};
-ghost use Rattle.gnatcov.specs.Command.{task_view};
 ghost use Rattle.gnatcov.specs.Content.{IsFileOf, RefusesObject};
 ghost use Rattle.gnatcov.specs.Failures.{object_status};
 ghost use Rattle.gnatcov.specs.Outcome.{Prepares};
 ghost use Rattle.gnatcov.specs.Reading.{IsUnread, UnlessMemory};
 ghost use Rattle.gnatcov.specs.Ready.{verdict_view};
-ghost use Rattle.gnatcov.specs.Task.{HasShortSource};
 
-use crate::command_words::Command;
 use crate::status::{FileRef, Status};
+use command_words::Command;
 use cov_base::Failure;
 use cov_io::{FileFault, Files};
 use object_format::{Object, ObjectFault, read_object};
@@ -38,11 +38,11 @@ pub struct Ready<'a> {
 /// Makes the output of a command, or says why there is none.
 pub fn prepare<'a, F: Files>(
     alloc: Global,
-    command: Command<'a>,
+    command: &Command<'a>,
     files: &mut F,
 ) -> Result<Ready<'a>, Status>
-    requires { HasShortSource (task_view command) }
-    ensures prepares { Prepares (task_view command.entry) (F.held files.old) (F.reads_failed files.old) (F.reads_failed files.new) (verdict_view result) }
+    requires { IsWithinLimits (task_view command.now) }
+    ensures prepares { Prepares (task_view command.now) (F.held files.old) (F.reads_failed files.old) (F.reads_failed files.new) (verdict_view result) }
     ensures same { F.held files.new ≡ F.held files.old }
     ensures writes { F.writes_failed files.new ≡ F.writes_failed files.old }
 {
@@ -54,15 +54,16 @@ pub fn prepare<'a, F: Files>(
         } => compile::prepare(alloc, main, object, source, files),
         Command::Run {
             input,
+            budget,
             trace,
             object,
-        } => run::prepare(alloc, input, trace, object, files),
+        } => run::prepare(alloc, input, *budget, trace, object, files),
         Command::Coverage {
             level,
             annotate,
             object,
-            trace,
-        } => coverage::prepare(alloc, level, annotate, object, trace, files),
+            traces,
+        } => coverage::prepare(alloc, *level, *annotate, object, traces.as_slice(), files),
     }
 }
 

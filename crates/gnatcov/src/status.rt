@@ -53,7 +53,7 @@ pub enum Status {
     },
     /// This line of the input file, from 1, is no number of 32 bits.
     InputRefused {
-        line: u32,
+        line: u64,
     },
     /// So many instructions were executed, and the run had not ended.
     OverBudget {

@@ -1,18 +1,19 @@
 //! The public call: words in, a status out.
 
-ghost use Rattle.std.specs.Prelude.{◌≡◌, ◌⊎◌, ℕ, List, map, string_bytes};
+ghost use Rattle.std.specs.Prelude.{◌≡◌, ◌⊎◌, ℕ, List, [], ◌∷◌, map, slice_get, unwrap_or, string_bytes};
+ghost use Rattle.command_words.specs.Command.{task_view};
+ghost use Rattle.command_words.specs.Task.{IsWithinLimits, task_of};
 ghost use Rattle.gnatcov.specs.Clauses.{UsageIsExact, DoneIsWhole, RefusalsLeaveFiles, OthersStay, RefusalsPutOneLine, RisenReadsAreTold, ReadFaultHasCause, WriteFaultHasCause};
-ghost use Rattle.gnatcov.specs.Command.{task_view};
 ghost use Rattle.gnatcov.specs.declared.status.Status.TheVariants.{Usage, WantOfMemory};
 ghost use Rattle.gnatcov.specs.Lines.{line_of};
 ghost use Rattle.gnatcov.specs.Outcome.{call_of, PutsText, Delivers, Because, Answers};
 ghost use Rattle.gnatcov.specs.Ready.{output_view};
-ghost use Rattle.gnatcov.specs.Task.{HasShortSource, task_of};
 ghost use Rattle.gnatcov.specs.Verdict.{name_at, name_of};
 
-use crate::command_words::{Command, words_of};
 use crate::ready::{Ready, prepare};
 use crate::status::{FileRef, OUT_OF_MEMORY_LINE, Status, USAGE_LINE, WRITE_FAULT_LINE};
+use command_words::{Command, words_of};
+use cov_base::Failure;
 use cov_io::{FileFault, Files, Sink};
 use std::alloc::Global;
 
@@ -47,11 +48,15 @@ pub fn gnatcov<F: Files, S: Sink>(
 fn answer<F: Files, S: Sink>(alloc: Global, words: &[String], files: &mut F, out: &mut S) -> Status
     ensures { Answers (task_of (map string_bytes words.now)) (call_of F.held F.reads_failed F.writes_failed S.written S.failures files.old files.new out.old out.new) result }
 {
-    match words_of(words) {
-        Ok(command) => obey(alloc, command, files, out),
-        Err(_) => {
+    match words_of(alloc, words) {
+        Ok(command) => obey(alloc, &command, files, out),
+        Err(Failure::Fault(_)) => {
             put_line(USAGE_LINE, out);
             Status::Usage
+        }
+        Err(Failure::WantOfMemory) => {
+            put_line(OUT_OF_MEMORY_LINE, out);
+            Status::WantOfMemory
         }
     }
 }
@@ -59,12 +64,12 @@ fn answer<F: Files, S: Sink>(alloc: Global, words: &[String], files: &mut F, out
 /// Obeys a command: all is read, checked and made before anything is written or put.
 fn obey<F: Files, S: Sink>(
     alloc: Global,
-    command: Command<'_>,
+    command: &Command<'_>,
     files: &mut F,
     out: &mut S,
 ) -> Status
-    requires { HasShortSource (task_view command) }
-    ensures { Because (task_view command.entry) (call_of F.held F.reads_failed F.writes_failed S.written S.failures files.old files.new out.old out.new) result }
+    requires { IsWithinLimits (task_view command.now) }
+    ensures { Because (task_view command.now) (call_of F.held F.reads_failed F.writes_failed S.written S.failures files.old files.new out.old out.new) result }
 {
     match prepare(alloc, command, files) {
         Ok(ready) => deliver(&ready, files, out),
@@ -97,11 +102,11 @@ fn deliver<F: Files, S: Sink>(ready: &Ready, files: &mut F, out: &mut S) -> Stat
 }
 
 /// Puts the line of a refusal. Where there is no memory for the line, that is the answer.
-fn refuse<S: Sink>(alloc: Global, command: Command<'_>, status: Status, out: &mut S) -> Status
+fn refuse<S: Sink>(alloc: Global, command: &Command<'_>, status: Status, out: &mut S) -> Status
     ensures status { (result ≡ status) ⊎ (result ≡ WantOfMemory) }
-    ensures puts { PutsText (line_of (name_of (task_view command.entry) result) result) (S.written out.old) (S.written out.new) (S.failures out.old) (S.failures out.new) }
+    ensures puts { PutsText (line_of (name_of (task_view command.now) result) result) (S.written out.old) (S.written out.new) (S.failures out.old) (S.failures out.new) }
 {
-    match status.line(alloc, name_of(&command, status)) {
+    match status.line(alloc, name_of(command, status)) {
         Ok(line) => {
             put_line(line.as_str(), out);
             status
@@ -129,15 +134,20 @@ fn name_at<'a>(command: &Command<'a>, file: FileRef) -> &'a str
     ensures { result.now ≡ name_at (task_view command.now) file }
 {
     let FileRef::Word(place) = file;
-    let (first, second) = match *command {
-        Command::Compile { source, .. } => (source, None),
-        Command::Run { input, object, .. } => (object, Some(input)),
-        Command::Coverage { object, trace, .. } => (object, trace),
-    };
-    match place {
-        0 => first,
-        1 => second.unwrap_or(""),
-        _ => "",
+    match command {
+        Command::Compile { source, .. } => among(place, source, &[]),
+        Command::Run { input, object, .. } => among(place, object, &[*input]),
+        Command::Coverage { object, traces, .. } => among(place, object, traces.as_slice()),
+    }
+}
+
+/// The name in a place from 0 among a first one and later ones; none has a name beyond.
+fn among<'a>(place: u32, first: &'a str, later: &[&'a str]) -> &'a str
+    ensures { result.now ≡ unwrap_or (slice_get (first.now ∷ map (λ name. name.now) later.now) place) [] }
+{
+    match place.checked_sub(1) {
+        None => first,
+        Some(place) => later.get(place as usize).copied().unwrap_or(""),
     }
 }
 

@@ -12,7 +12,8 @@ use Rattle.run_transcript.specs.Held.{instruction_at}
 use Rattle.rv_semantics.specs.declared.stepped.Seen.{Seen}
 use Rattle.transcript.specs.Trace.{Branched, branched_by, kept_at, kept_of}
 use Rattle.object_facts.specs.Kinds.{ends_piece}
-use Rattle.object_facts.specs.Object.{condition_of, image_of, facts_of}
+use Rattle.object_facts.specs.Object.{condition_of, facts_of}
+use Rattle.rv_machine.specs.Objects.{object_image}
 use Rattle.object_facts.proofs.Fair.{condition_branches}
 use Rattle.object_facts.proofs.Words.{branch_kind, transfer_kind, branch_transfers, kind_there}
 
@@ -32,14 +33,14 @@ edges_agree o pc sound = by_needed (needs_history o pc) refl
   where
     by_needed : (b : Bool) → needs_history o pc ≡ b → has_edges (cond b HistoryBranch (kind_in (kinds_of_text o.text) pc)) ≡ (facts_of o).branches pc
     by_needed true is = sym (needed_branches o pc sound is)
-    by_needed false is = ap has_edges (kind_there o.text pc) ∙ sym (branch_kind (instruction_at (image_of o) pc))
+    by_needed false is = ap has_edges (kind_there o.text pc) ∙ sym (branch_kind (instruction_at (object_image o) pc))
 
 pub transfers_agree : (o : Object) (pc : ℕ) → IsSound o → ends_piece (kind_at o pc) ≡ (facts_of o).transfers pc
 transfers_agree o pc sound = by_needed (needs_history o pc) refl
   where
     by_needed : (b : Bool) → needs_history o pc ≡ b → ends_piece (cond b HistoryBranch (kind_in (kinds_of_text o.text) pc)) ≡ (facts_of o).transfers pc
-    by_needed true is = sym (branch_transfers (instruction_at (image_of o) pc) (needed_branches o pc sound is))
-    by_needed false is = ap ends_piece (kind_there o.text pc) ∙ sym (transfer_kind (instruction_at (image_of o) pc))
+    by_needed true is = sym (branch_transfers (instruction_at (object_image o) pc) (needed_branches o pc sound is))
+    by_needed false is = ap ends_piece (kind_there o.text pc) ∙ sym (transfer_kind (instruction_at (object_image o) pc))
 
 pub kept_agree : (o : Object) (s : Seen) → kept_of (facts_of o) s ≡ cond (needs_history o s.pc) (branched_by s.pc s.x8 s.edge) None
 kept_agree o s = by_condition (condition_at o s.pc)

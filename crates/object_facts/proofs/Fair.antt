@@ -15,7 +15,8 @@ use Rattle.object_format.specs.Checked.{IsSound}
 use Rattle.object_format.specs.RowCheck.{is_in}
 use Rattle.run_transcript.specs.Held.{instruction_at, AreHeld}
 use Rattle.transcript.specs.Facts.{Row, Condition, AreFair}
-use Rattle.object_facts.specs.Object.{row_of, condition_of, image_of, facts_of}
+use Rattle.object_facts.specs.Object.{row_of, condition_of, facts_of}
+use Rattle.rv_machine.specs.Objects.{object_image}
 use Rattle.object_facts.proofs.Words.{branch_kind, branch_transfers, kind_there}
 
 -- a row stands at a multiple of 4
@@ -53,7 +54,7 @@ role_branches text (role ∷ roles) pc c each found =
 pub condition_branches : (o : Object) → IsSound o → (pc : ℕ) (c : Condition) → (facts_of o).condition pc ≡ Some c → (facts_of o).branches pc ≡ true
 condition_branches o sound pc c found =
     let kind = role_branches o.text o.roles pc c (mappable o sound.field sound.decision sound.role).branches found in
-    branch_kind (instruction_at (image_of o) pc) ∙ ap has_edges (sym (kind_there o.text pc) ∙ kind)
+    branch_kind (instruction_at (object_image o) pc) ∙ ap has_edges (sym (kind_there o.text pc) ∙ kind)
 
 pub fair : (o : Object) → IsSound o → AreFair (facts_of o)
 fair o sound = record {
@@ -61,10 +62,10 @@ fair o sound = record {
   trees = λ d is. (tree_law (graph_at o d.0)).0 is;
   rows = λ pc r found. row_aligned o.text o.rows pc r sound.row.placed found;
   conditions = λ pc c found. condition_branches o sound pc c found;
-  branches = λ pc is. branch_transfers (instruction_at (image_of o) pc) is;
+  branches = λ pc is. branch_transfers (instruction_at (object_image o) pc) is;
 }
 
-pub held : (o : Object) → IsSound o → AreHeld (facts_of o) (image_of o)
+pub held : (o : Object) → IsSound o → AreHeld (facts_of o) (object_image o)
 held o sound =
     let few = (mappable o sound.field sound.decision sound.role).few in
     record { transfers = λ pc. refl; branches = λ pc. refl; fits = omega (arith, few) }

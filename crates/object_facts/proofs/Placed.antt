@@ -19,7 +19,8 @@ use Rattle.run_transcript.proofs.Steps.{Shows, acts_so}
 use Rattle.run_transcript.proofs.Runs.{runs_good}
 use Rattle.transcript.specs.Pieces.{IsEnded}
 use Rattle.transcript.proofs.Joined.{runs_append}
-use Rattle.object_facts.specs.Object.{image_of, start_of, run_of, facts_of, ArePlaced, IsTranscript}
+use Rattle.object_facts.specs.Object.{facts_of, ArePlaced, IsTranscript}
+use Rattle.rv_machine.specs.Objects.{object_image, object_start, object_run}
 use Rattle.object_facts.proofs.Fair.{held}
 use Rattle.object_facts.proofs.Words.{kind_there}
 use Rattle.object_facts.specs.Kinds.{is_executable}
@@ -81,15 +82,15 @@ run_placed image (suc n) s input = by_word (runs image n) (run_placed image n) (
     by_word next rest None there = tt
     by_word next rest (Some word) there = by_instr next rest word there (instr_of word) refl
 
-pub run_transcript : (o : Object) (budget : ℕ) (input : List ℤ) → IsSound o → IsTranscript o (run_of o budget input).entries
+pub run_transcript : (o : Object) (budget : ℕ) (input : List ℤ) → IsSound o → IsTranscript o (object_run o budget input).entries
 run_transcript o budget input sound =
-    let good = runs_good (facts_of o) (image_of o) budget (start_of o) input (held o sound) in
-    record { runs_on = good.runs_on; edges = good.edges; placed = run_placed (image_of o) budget (start_of o) input }
+    let good = runs_good (facts_of o) (object_image o) budget (object_start o) input (held o sound) in
+    record { runs_on = good.runs_on; edges = good.edges; placed = run_placed (object_image o) budget (object_start o) input }
 
-pub run_ended : (o : Object) (budget : ℕ) (input : List ℤ) (number : ℕ) → IsSound o → (run_of o budget input).outcome ≡ Ended number
-    → IsEnded (facts_of o) (run_of o budget input).entries
+pub run_ended : (o : Object) (budget : ℕ) (input : List ℤ) (number : ℕ) → IsSound o → (object_run o budget input).outcome ≡ Ended number
+    → IsEnded (facts_of o) (object_run o budget input).entries
 run_ended o budget input number sound is =
-    (runs_good (facts_of o) (image_of o) budget (start_of o) input (held o sound)).ended number is
+    (runs_good (facts_of o) (object_image o) budget (object_start o) input (held o sound)).ended number is
 
 beginning : {X : Type 0} (P : X → Type 0) (xs ys : List X) → Everywhere P (xs ++ ys) → Everywhere P xs
 beginning P [] ys all = tt

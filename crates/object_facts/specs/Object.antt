@@ -1,5 +1,5 @@
 -- What an object says of its addresses and decisions, and what runs of it show.
-use Rattle.std.specs.Prelude.{◌≡◌, ℕ, ℤ, true, ◌==◌, List, length, find, option_map}
+use Rattle.std.specs.Prelude.{◌≡◌, ℕ, true, ◌==◌, List, find, option_map}
 use Rattle.decision_map.specs.Decisions.{graph_at, is_tree_at}
 use Rattle.decision_map.specs.Kinds.{kind_in, kinds_of_text}
 use Rattle.decision_map.specs.Roles.{condition_at}
@@ -9,8 +9,7 @@ use Rattle.line_table.specs.declared.rows.Row.{Row as Line}
 use Rattle.object_format.specs.declared.object.Object.{Object}
 use Rattle.run_transcript.specs.Held.{is_branch, is_transfer, holds, instruction_at}
 use Rattle.rv_semantics.specs.declared.stepped.Seen.{Seen}
-use Rattle.rv_semantics.specs.State.{Image, State, start}
-use Rattle.rv_semantics.specs.Run.{Run, runs}
+use Rattle.rv_machine.specs.Objects.{object_image}
 use Rattle.transcript.specs.Facts.{Facts, Row, Condition}
 use Rattle.transcript.specs.Pieces.{RunsOn}
 use Rattle.transcript.specs.Trace.{HasEdges}
@@ -24,24 +23,12 @@ row_of line = record { statement = line.statement; instance = line.instance }
 abbrev pub condition_of : Decided → Condition
 condition_of c = record { decision = c.decision; at_node = c.condition.0; when_taken = c.when_taken; instance = c.instance }
 
--- what the machine executes of an object
-abbrev pub image_of : Object → Image
-image_of o = record { text = o.text; exceptions = length o.obligations.exceptions }
-
--- the machine before the first instruction of an object
-abbrev pub start_of : Object → State
-start_of o = start (image_of o) o.entry o.init_at o.init
-
--- the run of an object on an input, for at most `budget` instructions
-abbrev pub run_of : Object → (budget : ℕ) → (input : List ℤ) → Run
-run_of o budget input = runs (image_of o) budget (start_of o) input
-
 -- the facts of an object: its text by the instructions that stand there, its rows and roles by their addresses, and the graph of each
 -- decision's expression
 abbrev pub facts_of : Object → Facts
 facts_of o = record {
-  transfers = λ pc. holds is_transfer (instruction_at (image_of o) pc);
-  branches = λ pc. holds is_branch (instruction_at (image_of o) pc);
+  transfers = λ pc. holds is_transfer (instruction_at (object_image o) pc);
+  branches = λ pc. holds is_branch (instruction_at (object_image o) pc);
   row = λ pc. option_map row_of (find (λ (line : Line). line.address == pc) o.rows);
   condition = λ pc. option_map condition_of (condition_at o pc);
   graph = λ d. graph_at o d.0;

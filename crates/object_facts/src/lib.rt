@@ -1,5 +1,5 @@
 //! What an object says of its addresses and decisions, as the functions over which coverage is told,
-//! and its runs on the machine. `specs/` gives them: `facts_of` an object, and `run_of` an object on
+//! and its runs on the machine. `specs/` gives them: `facts_of` an object, and `object_run` an object on
 //! an input. The functions here do nothing: each carries a law of the definitions as its contract.
 //!
 //! The contract that the layers above use: [`objects_have_fair_facts`] and [`runs_have_transcripts`].
@@ -18,21 +18,22 @@ ghost use Rattle.transcript.specs.Facts.{AreFair};
 ghost use Rattle.transcript.specs.Pieces.{IsEnded};
 ghost use Rattle.transcript.specs.Trace.{branched_by, kept_of};
 ghost use Rattle.object_facts.specs.Kinds.{ends_piece};
-ghost use Rattle.object_facts.specs.Object.{facts_of, image_of, run_of, IsTranscript};
+ghost use Rattle.object_facts.specs.Object.{facts_of, IsTranscript};
+ghost use Rattle.rv_machine.specs.Objects.{object_image, object_run};
 
 /// An object that passes its checks has fair facts, and they are those of its text.
 pub fn objects_have_fair_facts()
     ensures fair { (o : Object) → IsSound o → AreFair (facts_of o) }
-    ensures held { (o : Object) → IsSound o → AreHeld (facts_of o) (image_of o) }
+    ensures held { (o : Object) → IsSound o → AreHeld (facts_of o) (object_image o) }
 {}
 
 /// The instructions that a run of an object executes are a transcript. Where the run ended, the last
 /// one is a control transfer.
 pub fn runs_have_transcripts()
     ensures transcript { (o : Object) (budget : ℕ) (input : List ℤ) → IsSound o
-        → IsTranscript o (run_of o budget input).entries }
+        → IsTranscript o (object_run o budget input).entries }
     ensures ended { (o : Object) (budget : ℕ) (input : List ℤ) (number : ℕ) → IsSound o
-        → (run_of o budget input).outcome ≡ Ended number → IsEnded (facts_of o) (run_of o budget input).entries }
+        → (object_run o budget input).outcome ≡ Ended number → IsEnded (facts_of o) (object_run o budget input).entries }
 {}
 
 /// What a map of a checked object says of its words is what the facts say: which are control transfers,

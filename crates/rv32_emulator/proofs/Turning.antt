@@ -4,7 +4,8 @@ use Rattle.std.proofs.lemmas.List.{append-nil, append_assoc, length-append}
 use Rattle.object_format.specs.Checked.{IsSound}
 use Rattle.object_format.specs.declared.object.Object.{Object}
 use Rattle.object_facts.proofs.Placed.{transcript_begins, run_transcript}
-use Rattle.object_facts.specs.Object.{image_of, run_of, IsTranscript}
+use Rattle.object_facts.specs.Object.{IsTranscript}
+use Rattle.rv_machine.specs.Objects.{object_image, object_run}
 use Rattle.rv_semantics.specs.declared.stepped.Seen.{Seen}
 use Rattle.rv_semantics.specs.Run.{Run, before, after, runs, Outcome}
 use Rattle.rv_semantics.specs.Run.Outcome.{Cut}
@@ -170,13 +171,13 @@ nothing_part run r out fresh = record {
 
 -- what one instruction more asks of where the run stands
 pub ready : (o : Object) (budget : ℕ) (input first : List ℤ) (done : ℕ) (image : Image) (s : State) (words : List ℤ) (r : Recorded) (out : List ℤ)
-    → done < budget → r.object ≡ o → image ≡ image_of o → IsSound o
-    → Stands (run_of o budget input) (image_of o) (budget - done) s words r first out done
-    → IsTranscript r.object (run_of o budget input).entries
-    × Stands (run_of o budget input) image (suc (budget - (done + 1))) s words r first out done
+    → done < budget → r.object ≡ o → image ≡ object_image o → IsSound o
+    → Stands (object_run o budget input) (object_image o) (budget - done) s words r first out done
+    → IsTranscript r.object (object_run o budget input).entries
+    × Stands (object_run o budget input) image (suc (budget - (done + 1))) s words r first out done
 ready o budget input first done image s words r out less same image_is sound stands =
     let left : budget - done ≡ suc (budget - (done + 1)) = omega (arith, less) in (
-      subst (λ (x : Object). IsTranscript x (run_of o budget input).entries) (sym same) (run_transcript o budget input sound),
-      subst (λ (x : Image). Stands (run_of o budget input) x (suc (budget - (done + 1))) s words r first out done) (sym image_is)
-          (subst (λ (n : ℕ). Stands (run_of o budget input) (image_of o) n s words r first out done) left stands),
+      subst (λ (x : Object). IsTranscript x (object_run o budget input).entries) (sym same) (run_transcript o budget input sound),
+      subst (λ (x : Image). Stands (object_run o budget input) x (suc (budget - (done + 1))) s words r first out done) (sym image_is)
+          (subst (λ (n : ℕ). Stands (object_run o budget input) (object_image o) n s words r first out done) left stands),
     )

@@ -1,1 +1,2 @@
+pub mod InputFile
 pub mod Ran

@@ -1,7 +1,7 @@
 //! Runs: an object executed on an input, up to its end, a trap or a budget.
 
 ghost use Rattle.std.specs.Prelude.{◌≡◌, []};
-ghost use Rattle.object_facts.specs.Object.{run_of};
+ghost use Rattle.rv_machine.specs.Objects.{object_run};
 ghost use Rattle.object_format.specs.Checked.{IsSound};
 ghost use Rattle.trace_record.specs.Recorded.{Records};
 ghost use Rattle.rv32_emulator.specs.Ran.{Answers};
@@ -48,7 +48,8 @@ pub fn run(
     requires object { IsSound object.now }
     requires same { recorder.old.object ≡ object.now }
     requires fresh { Records recorder.old [] }
-    ensures { Answers budget (run_of object.now budget input.now) recorder.new out.old.items out.new.items result }
+    ensures answers { Answers budget (object_run object.now budget input.now) recorder.new out.old.items out.new.items result }
+    ensures object { recorder.new.object ≡ recorder.old.object }
 {
     let mut machine = Machine::new(alloc, object)?;
     let mut words = input;

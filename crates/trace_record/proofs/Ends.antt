@@ -12,7 +12,8 @@ use Rattle.decision_meaning.specs.Pair.{Somewhere, Everywhere}
 use Rattle.object_format.specs.declared.object.Object.{Object}
 use Rattle.object_facts.proofs.Words.{kind_there, transfer_kind}
 use Rattle.object_facts.specs.Kinds.{ends_piece, is_executable}
-use Rattle.object_facts.specs.Object.{facts_of, image_of, IsTranscript}
+use Rattle.object_facts.specs.Object.{facts_of, IsTranscript}
+use Rattle.rv_machine.specs.Objects.{object_image}
 use Rattle.run_transcript.specs.Held.{instruction_at}
 use Rattle.rv_semantics.specs.declared.stepped.Seen.{Seen}
 use Rattle.transcript.proofs.Blocks.{all_closed}
@@ -88,7 +89,7 @@ kind_at_place kinds place =
     ∙ unwrap_or-slice_get kinds place Stop
 
 ends_there : (o : Object) (pc : ℕ) → ends_piece (kind_in (kinds_of_text o.text) pc) ≡ (facts_of o).transfers pc
-ends_there o pc = ap ends_piece (kind_there o.text pc) ∙ sym (transfer_kind (instruction_at (image_of o) pc))
+ends_there o pc = ap ends_piece (kind_there o.text pc) ∙ sym (transfer_kind (instruction_at (object_image o) pc))
 
 module _ (o : Object) (ss : List Seen) (transcript : IsTranscript o ss) (p : Piece) (there : Somewhere (λ q. q ≡ p) (closed (facts_of o) ss)) where
   pub piece_is : IsPieceOf (facts_of o) p

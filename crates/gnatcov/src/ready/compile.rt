@@ -1,13 +1,13 @@
 //! `compile`: a source is made an object file.
 
 ghost use Rattle.std.specs.Prelude.{◌≡◌, ◌≤◌, IfOk, IfErr, length};
+ghost use Rattle.command_words.specs.Task.{Compile};
 ghost use Rattle.gnatcov.specs.Compiled.{compiled_lines};
 ghost use Rattle.gnatcov.specs.Content.{CompilesTo, RefusesSource};
 ghost use Rattle.gnatcov.specs.Outcome.{Prepares};
 ghost use Rattle.gnatcov.specs.Reading.{UnlessMemory};
 ghost use Rattle.gnatcov.specs.Failures.{source_status};
 ghost use Rattle.gnatcov.specs.Ready.{verdict_view};
-ghost use Rattle.gnatcov.specs.Task.{Compile};
 
 use crate::compiler::{Compiled, SourceFault, compile};
 use crate::ready::{Ready, ReadyFile, read_file};

@@ -1,12 +1,13 @@
 //! `coverage`: traces of an object's runs are made a report.
 
-ghost use Rattle.std.specs.Prelude.{◌≡◌, IfErr, OnOk, option_map};
+ghost use Rattle.std.specs.Prelude.{◌≡◌, ℕ, List, ◌≤◌, length, map, IfErr, IfSome, OnOk};
+ghost use Rattle.command_words.specs.Task.{Coverage as covers};
+ghost use Rattle.cov_io.specs.Outside.{Holds};
 ghost use Rattle.gnatcov.specs.Content.{IsTraceFor, RefusesTrace};
 ghost use Rattle.gnatcov.specs.declared.status.Status.TheVariants.{TraceRefused};
 ghost use Rattle.gnatcov.specs.Outcome.{Prepares};
-ghost use Rattle.gnatcov.specs.Reading.{UnlessMemory};
+ghost use Rattle.gnatcov.specs.Reading.{AreRead, StopsAt, StopsAmong, UnlessMemory};
 ghost use Rattle.gnatcov.specs.Ready.{IsText, verdict_view};
-ghost use Rattle.gnatcov.specs.Task.{Coverage as covers};
 
 use crate::annotated_report::report;
 use crate::coverage_set::Coverage;
@@ -19,29 +20,98 @@ use object_format::{FileEntry, Object};
 use std::alloc::{AllocError, Global};
 use trace_format::TraceView;
 
-/// Reads the object and the trace, where one is named, and makes the report.
+/// Reads the object, then the traces, each of which is checked before the next is read, and makes
+/// the report.
 pub fn prepare<'a, F: Files>(
     alloc: Global,
     level: Level,
     annotate: Annotation,
     object: &str,
-    trace: Option<&str>,
+    traces: &[&str],
     files: &mut F,
 ) -> Result<Ready<'a>, Status>
-    ensures prepares { Prepares (covers level annotate object.now (option_map (λ name. name.now) trace.entry)) (F.held files.old) (F.reads_failed files.old) (F.reads_failed files.new) (verdict_view result) }
+    requires { length traces.now ≤ 4096 }
+    ensures prepares { Prepares (covers level annotate object.now (map (λ name. name.now) traces.now)) (F.held files.old) (F.reads_failed files.old) (F.reads_failed files.new) (verdict_view result) }
     ensures same { F.held files.new ≡ F.held files.old }
     ensures writes { F.writes_failed files.new ≡ F.writes_failed files.old }
 {
     let bytes = read_file(alloc, 0, object, files)?;
     let object = object_of(alloc, bytes.as_slice())?;
-    let map = DecisionMap::of(alloc, &object)?;
+    let decisions = DecisionMap::of(alloc, &object)?;
     let mut coverage = Coverage::new(alloc, &object);
-    if let Some(name) = trace {
-        let bytes = read_file(alloc, 1, name, files)?;
-        add_trace(&map, bytes.as_slice(), &mut coverage)?;
-        return reported(alloc, level, annotate, &object, &coverage);
-    }
+    add_traces(alloc, &decisions, traces, files, &mut coverage)?;
     reported(alloc, level, annotate, &object, &coverage)
+}
+
+/// Adds what the traces of these names tell of runs of the object, in their order.
+fn add_traces<F: Files>(
+    alloc: Global,
+    decisions: &DecisionMap<'_>,
+    names: &[&str],
+    files: &mut F,
+    coverage: &mut Coverage<'_>,
+) -> Result<(), Status>
+    requires { length names.now ≤ 4096 }
+    ensures read { OnOk result ((traces : List (List ℕ)) × AreRead (F.held files.old) decisions.now (map (λ name. name.now) names.now) traces) }
+    ensures reads { OnOk result (F.reads_failed files.new ≡ F.reads_failed files.old) }
+    ensures stopped { IfErr result (StopsAmong decisions.now (map (λ name. name.now) names.now) (F.held files.old) (F.reads_failed files.old) (F.reads_failed files.new)) }
+    ensures same { F.held files.new ≡ F.held files.old }
+    ensures writes { F.writes_failed files.new ≡ F.writes_failed files.old }
+{
+    for place in 0..names.len() {
+        add_file(
+            alloc,
+            decisions,
+            place as u32 + 1,
+            names[place],
+            files,
+            coverage,
+        )?;
+    }
+    Ok(())
+}
+
+/// Adds what the trace file of this name tells, which has this number among the traces.
+fn add_file<F: Files>(
+    alloc: Global,
+    decisions: &DecisionMap<'_>,
+    number: u32,
+    name: &str,
+    files: &mut F,
+    coverage: &mut Coverage<'_>,
+) -> Result<(), Status>
+    ensures read { OnOk result ((trace : List ℕ) × IfSome (F.held files.old) (Holds name.now trace) × IsTraceFor decisions.now trace) }
+    ensures reads { OnOk result (F.reads_failed files.new ≡ F.reads_failed files.old) }
+    ensures stopped { IfErr result (StopsAt number decisions.now name.now (F.held files.old) (F.reads_failed files.old) (F.reads_failed files.new)) }
+    ensures same { F.held files.new ≡ F.held files.old }
+    ensures writes { F.writes_failed files.new ≡ F.writes_failed files.old }
+{
+    let bytes = read_file(alloc, number, name, files)?;
+    add_trace(decisions, number, bytes.as_slice(), coverage)
+}
+
+/// Adds what a trace file tells of a run of the object.
+fn add_trace(
+    decisions: &DecisionMap<'_>,
+    number: u32,
+    trace: &[u8],
+    coverage: &mut Coverage<'_>,
+) -> Result<(), Status>
+    ensures fits { OnOk result (IsTraceFor decisions.now trace.now) }
+    ensures refused { IfErr result (UnlessMemory (RefusesTrace number decisions.now trace.now)) }
+{
+    let view = TraceView::view(trace).map_err(|why| refusal(number, TraceWhy::File(why)))?;
+    decisions
+        .fit(&view)
+        .map_err(|why| refusal(number, TraceWhy::Fit(why)))?;
+    Ok(coverage.add_trace(&view)?)
+}
+
+/// The status of the trace with this number, where it fails a check.
+fn refusal(number: u32, why: TraceWhy) -> Status
+    ensures { result ≡ TraceRefused number why }
+{
+    Status::TraceRefused { index: number, why }
 }
 
 /// The report of what was covered.
@@ -56,23 +126,6 @@ fn reported<'a>(
 {
     let text = report_of(alloc, level, annotate, object, coverage)?;
     Ok(Ready { file: None, text })
-}
-
-/// Adds what a trace file tells of a run of the map's object.
-fn add_trace(map: &DecisionMap<'_>, trace: &[u8], coverage: &mut Coverage<'_>) -> Result<(), Status>
-    ensures fits { OnOk result (IsTraceFor map.now trace.now) }
-    ensures refused { IfErr result (UnlessMemory (RefusesTrace 1 map.now trace.now)) }
-{
-    let view = TraceView::view(trace).map_err(|why| refusal(TraceWhy::File(why)))?;
-    map.fit(&view).map_err(|why| refusal(TraceWhy::Fit(why)))?;
-    Ok(coverage.add_trace(&view)?)
-}
-
-/// The status of the one trace, where it fails a check.
-fn refusal(why: TraceWhy) -> Status
-    ensures { result ≡ TraceRefused 1 why }
-{
-    Status::TraceRefused { index: 1, why }
 }
 
 /// The report in the form that is asked for. So far there is one form.

@@ -1,121 +1,82 @@
 //! `run`: an object is executed on an input, and its trace is made.
 
-ghost use Rattle.std.specs.Prelude.{◌≡◌, ℕ, List, [], IfOk, IfErr, OnOk};
-ghost use Rattle.gnatcov.specs.Content.{RefusesInput, StopsRun};
+ghost use Rattle.std.specs.Prelude.{◌≡◌, IfOk, IfErr};
+ghost use Rattle.command_words.specs.Task.{Run};
+ghost use Rattle.gnatcov.specs.Content.{IsInputOf, RefusesInput, RunsTo, StopsRun};
 ghost use Rattle.gnatcov.specs.Failures.{input_status, run_status};
 ghost use Rattle.gnatcov.specs.Outcome.{Prepares};
 ghost use Rattle.gnatcov.specs.Reading.{UnlessMemory};
-ghost use Rattle.gnatcov.specs.Recording.{IsTraceOf};
 ghost use Rattle.gnatcov.specs.Ready.{verdict_view};
-ghost use Rattle.gnatcov.specs.Task.{Run};
-ghost use Rattle.object_format.specs.Read.{IsObject};
+ghost use Rattle.object_format.specs.Checked.{IsSound};
 
 use crate::ready::{Ready, ReadyFile, object_of, read_file};
-use crate::rv32_emulator::{InputFault, RunFault, parse_input, run};
+use crate::run_lines::run_lines;
 use crate::status::Status;
-use crate::trace_record::Recorder;
-use cov_base::{ExceptionName, Failure};
+use cov_base::Failure;
 use cov_io::Files;
 use object_format::Object;
-use std::alloc::{AllocError, Global};
-use std::str;
+use rv32_emulator::{InputFault, RunFault, parse_input, run};
+use std::alloc::Global;
+use trace_record::Recorder;
 
-/// How many bytes the digest at a file's end takes.
-const DIGEST_BYTES: usize = 32;
-
-/// At most so many instructions are executed.
-const BUDGET: u32 = 100_000_000;
-
-/// Reads the object and the input, runs the one on the other, and makes the trace and the lines
-/// that tell of the run.
+/// Reads the object and the input, runs the one on the other for at most `budget` instructions, and
+/// makes the trace and the lines that tell of the run.
 pub fn prepare<'a, F: Files>(
     alloc: Global,
     input: &str,
+    budget: u32,
     trace: &'a str,
     object: &str,
     files: &mut F,
 ) -> Result<Ready<'a>, Status>
-    ensures prepares { Prepares (Run input.now trace.now object.now) (F.held files.old) (F.reads_failed files.old) (F.reads_failed files.new) (verdict_view result) }
+    ensures prepares { Prepares (Run input.now budget trace.now object.now) (F.held files.old) (F.reads_failed files.old) (F.reads_failed files.new) (verdict_view result) }
     ensures same { F.held files.new ≡ F.held files.old }
     ensures writes { F.writes_failed files.new ≡ F.writes_failed files.old }
 {
     let bytes = read_file(alloc, 0, object, files)?;
     let object = object_of(alloc, bytes.as_slice())?;
     let bytes = read_file(alloc, 1, input, files)?;
-    let words = words_of(alloc, bytes.as_slice())?;
-    let (bytes, text) = executed(alloc, &object, words.as_slice())?;
+    let numbers = numbers_of(alloc, bytes.as_slice())?;
+    let (bytes, text) = executed(alloc, &object, budget, numbers.as_slice())?;
     Ok(Ready {
         file: Some(ReadyFile { name: trace, bytes }),
         text,
     })
 }
 
-/// The words of an input file.
-fn words_of(alloc: Global, input: &[u8]) -> Result<Vec<i32>, Status>
-    ensures read { OnOk result (input.now ≡ []) }
+/// The numbers of an input file.
+fn numbers_of(alloc: Global, input: &[u8]) -> Result<Vec<i32>, Status>
+    ensures read { IfOk result (λ numbers. IsInputOf numbers.items input.now) }
     ensures refused { IfErr result (UnlessMemory (RefusesInput input.now)) }
 {
     match parse_input(alloc, input) {
-        Ok(words) => Ok(words),
+        Ok(numbers) => Ok(numbers),
         Err(failure) => Err(refused_input(failure)),
     }
 }
 
 /// The trace of a run, and the lines that tell of it.
-fn executed(alloc: Global, object: &Object, input: &[i32]) -> Result<(Vec<u8>, Vec<u8>), Status>
-    requires { IsObject object.now }
-    ensures traced { IfOk result (λ made. (ending : ℕ) × IsTraceOf object.now.closing ending made.0.items) }
-    ensures stopped { (words : List ℕ) → IfErr result (UnlessMemory (StopsRun object.now words)) }
+fn executed(
+    alloc: Global,
+    object: &Object,
+    budget: u32,
+    input: &[i32],
+) -> Result<(Vec<u8>, Vec<u8>), Status>
+    requires { IsSound object.now }
+    ensures ran { IfOk result (λ made. RunsTo object.now budget input.now (record { file = made.0.items; text = made.1.items })) }
+    ensures stopped { IfErr result (UnlessMemory (StopsRun object.now budget input.now)) }
 {
     let mut recorder = Recorder::new(alloc, object)?;
     let mut put = Vec::new(alloc);
-    match run(alloc, object, input, BUDGET, &mut recorder, &mut put) {
+    match run(alloc, object, input, budget, &mut recorder, &mut put) {
         Ok(ending) => {
             let trace = recorder.trace(alloc, ending.number)?;
             let exceptions = object.obligations.exceptions.as_slice();
-            let mut text = put_lines(alloc, put.as_slice())?;
-            push_ending(alloc, exceptions, ending.number, &mut text)?;
-            push_run(alloc, ending.count, trace.as_slice(), &mut text)?;
-            Ok((trace, text.into_bytes()))
+            let text = run_lines(alloc, exceptions, put.as_slice(), ending, trace.as_slice())?;
+            Ok((trace, text))
         }
         Err(failure) => Err(stopped(failure)),
     }
-}
-
-/// A line for each word that the program put.
-fn put_lines(alloc: Global, words: &[i32]) -> Result<String, AllocError> {
-    let mut text = String::new(alloc);
-    for word in words {
-        let line = format!(in alloc; "put: {word}\n")?;
-        text.push_str(line.as_str())?;
-    }
-    Ok(text)
-}
-
-/// The line that tells how the run ended.
-fn push_ending(
-    alloc: Global,
-    exceptions: &[ExceptionName],
-    number: u32,
-    text: &mut String,
-) -> Result<(), AllocError> {
-    let place = (number as usize).checked_sub(1);
-    match place.and_then(|place| exceptions.get(place)) {
-        Some(name) => {
-            let name = String::from_utf8_lossy(alloc, name.as_slice())?;
-            let line = format!(in alloc; "ending: exception {name}\n")?;
-            text.push_str(line.as_str())
-        }
-        None => text.push_str("ending: return\n"),
-    }
-}
-
-/// The lines that tell how long the run was and which it is.
-fn push_run(alloc: Global, count: u32, trace: &[u8], text: &mut String) -> Result<(), AllocError> {
-    let closing = &trace[trace.len().saturating_sub(DIGEST_BYTES)..];
-    let closing = hex::encode(alloc, closing)?;
-    let lines = format!(in alloc; "instructions: {count}\nrun: {closing}\n")?;
-    text.push_str(lines.as_str())
 }
 
 /// The status of an input that is refused.

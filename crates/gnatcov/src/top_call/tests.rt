@@ -66,10 +66,14 @@ const RUN: &str = "gnatcov run --input=empty -o new p1.obj";
 
 const COVERAGE: &str = "gnatcov coverage --level=stmt --annotate=report --object=p1.obj p1.trace";
 
+/// Of which the second is refused, once it is read.
+const TWO_TRACES: &str =
+    "gnatcov coverage --level=stmt --annotate=report --object=p1.obj p1.trace z.trace";
+
 /// All names of files but `new` that the tests name and make.
-const NAMES: [&str; 10] = [
-    "p1.adb", "z.adb", "empty", "p1.obj", "z.obj", "p1.trace", "z.trace", "short", "long",
-    "damaged",
+const NAMES: [&str; 13] = [
+    "p1.adb", "z.adb", "empty", "signed", "great", "least", "p1.obj", "z.obj", "p1.trace",
+    "z.trace", "short", "long", "damaged",
 ];
 
 /// A command that makes a file, and tells a number between two texts, of which the second ends
@@ -101,6 +105,12 @@ const P1_TRACE: Making = Making {
     file: "p1.trace",
     before: "put: 1\nending: return\ninstructions: ",
     after: "\nrun: ",
+};
+
+/// The same where the budget is just enough, and an input that is not read by the program.
+const P1_TRACE_AGAIN: Making = Making {
+    line: "gnatcov run --budget 7 -o p1.trace --input least p1.obj",
+    ..P1_TRACE
 };
 
 const Z_TRACE: Making = Making {
@@ -241,10 +251,20 @@ fn entry(alloc: Global, name: &str, bytes: &[u8]) -> Result<Entry, AllocError> {
     })
 }
 
-/// The two sources and an empty input.
+/// The two sources, and inputs: an empty one, and three of which the last alone is one.
+const SOURCES: [(&str, &str); 6] = [
+    ("p1.adb", P1),
+    ("z.adb", Z),
+    ("empty", ""),
+    ("signed", "1\n+2"),
+    ("great", "2147483648"),
+    ("least", "-2147483648"),
+];
+
+/// The sources and inputs.
 fn sources(alloc: Global) -> Result<MemFiles, AllocError> {
     let mut contents = Vec::new(alloc);
-    for (name, text) in [("p1.adb", P1), ("z.adb", Z), ("empty", "")] {
+    for (name, text) in SOURCES {
         contents.push(entry(alloc, name, text.as_bytes())?)?;
     }
     Ok(MemFiles::new(contents, Vec::new(alloc)))
@@ -406,45 +426,18 @@ fn is_looked_for(alloc: Global, before: &MemFiles, length: usize) -> Result<bool
     holds(alloc, before, &case)
 }
 
-const USAGE: [&str; 33] = [
+const USAGE: [&str; 11] = [
     "",
     "gnatcov",
     "gnatcov compile",
-    // A word too many.
-    "gnatcov run --input=empty -o new p1.obj p1.obj",
-    "gnatcov compile --main=P1 -o new p1.adb z.adb",
-    "gnatcov coverage --level=stmt --annotate=report --object=p1.obj p1.trace p1.trace",
-    "gnatcov run --input=empty --budget=5 -o new p1.obj",
-    // An option or a name that is missing.
+    "gnatcov Compile --main=P1 -o new p1.adb",
     "gnatcov compile -o new p1.adb",
-    "gnatcov compile --main=P1 new p1.adb",
-    "gnatcov compile --main=P1 -o new",
-    "gnatcov run -o new p1.obj",
-    "gnatcov run --input=empty p1.obj",
-    "gnatcov coverage --annotate=report --object=p1.obj",
-    "gnatcov coverage --level=stmt --object=p1.obj",
-    "gnatcov coverage --level=stmt --annotate=report p1.trace",
-    // A value that is not known.
+    "gnatcov compile --main=P1 -o new p1.adb z.adb",
+    "gnatcov run --input=empty --budget=0 -o new p1.obj",
+    "gnatcov run --input=empty --help -o new p1.obj",
     "gnatcov coverage --level=branch --annotate=report --object=p1.obj",
-    "gnatcov coverage --level=stmt+mcdc --annotate=report --object=p1.obj",
     "gnatcov coverage --level=stmt --annotate=xcov --object=p1.obj",
     "gnatcov consolidate --object=p1.obj -o new p1.trace",
-    "gnatcov Compile --main=P1 -o new p1.adb",
-    // A name that begins with `-` or is empty.
-    "gnatcov compile --main=-P1 -o new p1.adb",
-    "gnatcov compile --main=P1 -o -new p1.adb",
-    "gnatcov compile --main=P1 -o new -p1.adb",
-    "gnatcov run --input=-empty -o new p1.obj",
-    "gnatcov coverage --level=stmt --annotate=report --object=p1.obj -p1.trace",
-    "gnatcov compile --main= -o new p1.adb",
-    "gnatcov compile --main=P1 -o new ",
-    "gnatcov run --input= -o new p1.obj",
-    "gnatcov coverage --level=stmt --annotate=report --object=",
-    // Another order or form.
-    "gnatcov compile -o new --main=P1 p1.adb",
-    "gnatcov run -o new --input=empty p1.obj",
-    "gnatcov coverage --annotate=report --level=stmt --object=p1.obj",
-    "gnatcov compile --main P1 -o new p1.adb",
 ];
 
 #[test]
@@ -453,16 +446,22 @@ fn goes_from_sources_to_a_report(rt: HostRuntime) -> Result<(), Fail> {
     let mut files = sources(alloc)?;
     assert_eq!(rt; number_by(alloc, &P1_OBJECT, &mut files)?, Some(3));
     assert_eq!(rt; number_by(alloc, &Z_OBJECT, &mut files)?, Some(1));
-    assert!(rt; number_by(alloc, &P1_TRACE, &mut files)?.is_some());
-    assert!(rt; number_by(alloc, &Z_TRACE, &mut files)?.is_some());
+    assert_eq!(rt; number_by(alloc, &P1_TRACE, &mut files)?, Some(7));
+    assert_eq!(rt; number_by(alloc, &P1_TRACE_AGAIN, &mut files)?, Some(7));
+    assert_eq!(rt; number_by(alloc, &Z_TRACE, &mut files)?, Some(4));
     let report = put_by(alloc, COVERAGE, &mut files)?;
     assert_eq!(rt; report.as_str(), P1_REPORT);
     Ok(())
 }
 
-fn reports() -> [Case<'static>; 3] {
+fn reports() -> [Case<'static>; 4] {
     [
         quiet(COVERAGE, Status::Done, P1_REPORT),
+        quiet(
+            "gnatcov coverage --level stmt --annotate report --object p1.obj p1.trace p1.trace",
+            Status::Done,
+            P1_REPORT,
+        ),
         quiet(
             "gnatcov coverage --level=stmt --annotate=report --object=z.obj z.trace",
             Status::Done,
@@ -514,6 +513,14 @@ const FOREIGN: Status = Status::TraceRefused {
     }),
 };
 
+const FOREIGN_SECOND: Status = Status::TraceRefused {
+    index: 2,
+    why: TraceWhy::Fit(FitFault::Foreign {
+        kept: Z_DIGEST,
+        object: P1_DIGEST,
+    }),
+};
+
 /// A trace that fails a check of its format.
 fn refused_trace(line: &'static str, why: TraceFault, put: &'static str) -> Case<'static> {
     let status = Status::TraceRefused {
@@ -523,7 +530,7 @@ fn refused_trace(line: &'static str, why: TraceFault, put: &'static str) -> Case
     quiet(line, status, put)
 }
 
-fn refusals() -> [Case<'static>; 4] {
+fn refusals() -> [Case<'static>; 8] {
     [
         quiet(COMPILE, SOURCE_REFUSED, "gnatcov: p1.adb:1:1: syntax\n"),
         quiet(
@@ -537,9 +544,29 @@ fn refusals() -> [Case<'static>; 4] {
             "gnatcov: object refused: magic\n",
         ),
         quiet(
+            TWO_TRACES,
+            FOREIGN_SECOND,
+            "gnatcov: trace 2 refused: foreign: kept c8cf6a1f882ce2f811a831893fb9d701b73404d5d9547fbcc0c0ea5a55241943, object 21753e00cfd083188e177623586a335c93f1408363e4083ceb9aa23eb5a5ba6c\n",
+        ),
+        quiet(
             "gnatcov run --input=z.adb -o new p1.obj",
             Status::InputRefused { line: 1 },
             "gnatcov: input line 1 refused\n",
+        ),
+        quiet(
+            "gnatcov run --input=signed -o new p1.obj",
+            Status::InputRefused { line: 2 },
+            "gnatcov: input line 2 refused\n",
+        ),
+        quiet(
+            "gnatcov run --input=great -o new p1.obj",
+            Status::InputRefused { line: 1 },
+            "gnatcov: input line 1 refused\n",
+        ),
+        quiet(
+            "gnatcov run --input=empty --budget=6 -o new p1.obj",
+            Status::OverBudget { count: 6 },
+            "gnatcov: over budget after 6 instructions\n",
         ),
     ]
 }
@@ -595,7 +622,7 @@ fn refuses_what_fails_its_checks(rt: HostRuntime) -> Result<(), Fail> {
     Ok(())
 }
 
-fn file_faults() -> [Case<'static>; 7] {
+fn file_faults() -> [Case<'static>; 8] {
     [
         unread(COMPILE, 0, &[0], "gnatcov: cannot read p1.adb\n"),
         unwritten(COMPILE, &[1]),
@@ -604,6 +631,7 @@ fn file_faults() -> [Case<'static>; 7] {
         unwritten(RUN, &[2]),
         unread(COVERAGE, 0, &[0], "gnatcov: cannot read p1.obj\n"),
         unread(COVERAGE, 1, &[1], "gnatcov: cannot read p1.trace\n"),
+        unread(TWO_TRACES, 2, &[2], "gnatcov: cannot read z.trace\n"),
     ]
 }
 
@@ -635,7 +663,7 @@ fn absent(line: &'static str, place: u32) -> Case<'static> {
     quiet(line, unread_status(place), "gnatcov: cannot read none\n")
 }
 
-fn absences() -> [Case<'static>; 5] {
+fn absences() -> [Case<'static>; 6] {
     [
         absent("gnatcov compile --main=P1 -o new none", 0),
         absent("gnatcov run --input=empty -o new none", 0),
@@ -647,6 +675,10 @@ fn absences() -> [Case<'static>; 5] {
         absent(
             "gnatcov coverage --level=stmt --annotate=report --object=p1.obj none",
             1,
+        ),
+        absent(
+            "gnatcov coverage --level=stmt --annotate=report --object=p1.obj p1.trace none",
+            2,
         ),
     ]
 }

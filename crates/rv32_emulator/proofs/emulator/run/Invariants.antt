@@ -1,5 +1,5 @@
 use Rattle.std.proofs.Common.{◌≡◌, ◌≤◌, ◌-◌}
-use Rattle.object_facts.specs.Object.{image_of as object_image, run_of}
+use Rattle.rv_machine.specs.Objects.{object_image, object_run}
 use Rattle.rv_machine.specs.Machine.{image_of, state_of}
 use Rattle.rv32_emulator.specs.Ran.{Stands}
 use Rattle.rv32_emulator.proofs.emulator.run.Given as goal
@@ -10,5 +10,5 @@ invariant-loop-done l = record {
   within : l.done ≤ l.budget;
   object : l.recorder.object ≡ l.object;
   image : image_of l.machine ≡ object_image l.object;
-  stands : Stands (run_of l.object l.budget l.fn.input) (object_image l.object) (l.budget - l.done) (state_of l.machine) l.words l.recorder l.fn.out.items l.out.items l.done;
+  stands : Stands (object_run l.object l.budget l.fn.input) (object_image l.object) (l.budget - l.done) (state_of l.machine) l.words l.recorder l.fn.out.items l.out.items l.done;
 }

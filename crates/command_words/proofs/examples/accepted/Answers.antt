@@ -1,0 +1,5 @@
+use Rattle.command_words.proofs.ExampleLaws.{compiles, covers, runs}
+use Rattle.command_words.proofs.examples.accepted.Goals as goal
+
+pub returns : goal.returns
+returns c = record { compile = compiles; run = runs; coverage = covers }

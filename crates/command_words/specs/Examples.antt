@@ -1,0 +1,69 @@
+-- Worked examples: command lines, and what they ask for.
+use Rattle.std.specs.Prelude.{◌≡◌, ℕ, List, [], ◌∷◌, Option, Some, None, codes}
+use Rattle.cov_base.specs.declared.level.Level.TheVariants.{Stmt}
+use Rattle.cov_base.specs.declared.level.Annotation.TheVariants.{Report}
+use Rattle.command_words.specs.Task.{Task, Compile, Run, Coverage, task_of}
+
+-- the words of `gnatcov compile`, of `gnatcov run` and of `gnatcov coverage`, with more words after them
+abbrev pub compile : List (List ℕ) → List (List ℕ)
+compile words = codes "gnatcov" ∷ codes "compile" ∷ words
+
+abbrev pub run : List (List ℕ) → List (List ℕ)
+run words = codes "gnatcov" ∷ codes "run" ∷ words
+
+abbrev pub coverage : List (List ℕ) → List (List ℕ)
+coverage words = codes "gnatcov" ∷ codes "coverage" ∷ words
+
+abbrev pub ran : ℕ → Option Task
+ran budget = Some (Run (codes "I") budget (codes "T") (codes "O"))
+
+-- options in any order, before and behind the source; a value in a word of its own, behind `=` or behind its letter; `--` before a name
+abbrev pub Compiles : Type 0
+Compiles =
+    let made = Some (Compile (codes "M") (codes "O") (codes "S")) in
+    (task_of (compile (codes "--main=M" ∷ codes "-o" ∷ codes "O" ∷ codes "S" ∷ [])) ≡ made)
+    × (task_of (compile (codes "S" ∷ codes "-oO" ∷ codes "--main" ∷ codes "M" ∷ [])) ≡ made)
+    × (task_of (compile (codes "--main=M" ∷ codes "-o=O" ∷ codes "--" ∷ codes "S" ∷ [])) ≡ made)
+    × (task_of (compile (codes "--main=" ∷ codes "-o" ∷ codes "O" ∷ codes "--" ∷ codes "-S" ∷ [])) ≡ Some (Compile [] (codes "O") (codes "-S")))
+
+-- the budget is 100000000 where none is given, and goes from 1 to 4294967295
+abbrev pub Runs : Type 0
+Runs =
+    (task_of (run (codes "--input=I" ∷ codes "-o" ∷ codes "T" ∷ codes "O" ∷ [])) ≡ ran 100000000)
+    × (task_of (run (codes "--input=I" ∷ codes "--budget=1" ∷ codes "-o" ∷ codes "T" ∷ codes "O" ∷ [])) ≡ ran 1)
+    × (task_of (run (codes "--budget=4294967295" ∷ codes "--input=I" ∷ codes "-o" ∷ codes "T" ∷ codes "O" ∷ [])) ≡ ran 4294967295)
+
+-- no trace, and two
+abbrev pub Covers : Type 0
+Covers =
+    (task_of (coverage (codes "--level=stmt" ∷ codes "--annotate=report" ∷ codes "--object=O" ∷ [])) ≡ Some (Coverage Stmt Report (codes "O") []))
+    × (task_of (coverage (codes "T" ∷ codes "--level" ∷ codes "stmt" ∷ codes "--annotate=report" ∷ codes "--object=O" ∷ codes "U" ∷ []))
+    ≡ Some (Coverage Stmt Report (codes "O") (codes "T" ∷ codes "U" ∷ [])))
+
+-- help and version, in any form
+abbrev pub Asks : Type 0
+Asks =
+    (task_of (codes "gnatcov" ∷ codes "--help" ∷ []) ≡ None)
+    × (task_of (codes "gnatcov" ∷ codes "help" ∷ []) ≡ None)
+    × (task_of (run (codes "--help" ∷ [])) ≡ None)
+    × (task_of (run (codes "--input=I" ∷ codes "-o" ∷ codes "T" ∷ codes "O" ∷ codes "-h" ∷ [])) ≡ None)
+    × (task_of (run (codes "--input=I" ∷ codes "-o" ∷ codes "T" ∷ codes "O" ∷ codes "--version" ∷ [])) ≡ None)
+
+-- no words, no command, no option that has to be given, and one that is given twice
+abbrev pub Lacks : Type 0
+Lacks =
+    (task_of [] ≡ None)
+    × (task_of (codes "gnatcov" ∷ []) ≡ None)
+    × (task_of (codes "gnatcov" ∷ codes "compiles" ∷ []) ≡ None)
+    × (task_of (compile (codes "-o" ∷ codes "O" ∷ codes "S" ∷ [])) ≡ None)
+    × (task_of (compile (codes "--main=M" ∷ codes "-o" ∷ codes "O" ∷ [])) ≡ None)
+    × (task_of (run (codes "--input=I" ∷ codes "--input=I" ∷ codes "-o" ∷ codes "T" ∷ codes "O" ∷ [])) ≡ None)
+
+-- two sources, a budget out of its range, and a level and a form that there are not yet
+abbrev pub Exceeds : Type 0
+Exceeds =
+    (task_of (compile (codes "--main=M" ∷ codes "-o" ∷ codes "O" ∷ codes "S" ∷ codes "S2" ∷ [])) ≡ None)
+    × (task_of (run (codes "--input=I" ∷ codes "--budget=0" ∷ codes "-o" ∷ codes "T" ∷ codes "O" ∷ [])) ≡ None)
+    × (task_of (run (codes "--input=I" ∷ codes "--budget=4294967296" ∷ codes "-o" ∷ codes "T" ∷ codes "O" ∷ [])) ≡ None)
+    × (task_of (coverage (codes "--level=stmt+decision" ∷ codes "--annotate=report" ∷ codes "--object=O" ∷ [])) ≡ None)
+    × (task_of (coverage (codes "--level=stmt" ∷ codes "--annotate=xcov" ∷ codes "--object=O" ∷ [])) ≡ None)

@@ -1,0 +1,34 @@
+//! The commands, and the one fault of words.
+
+use cov_base::{Annotation, Level};
+use thiserror::Error;
+
+/// What the words ask for. Names are names of files, but for `main`, the main unit's.
+#[derive(Debug, Drop)]
+pub enum Command<'a> {
+    /// `compile --main=MAIN -o OBJECT SOURCE`
+    Compile {
+        main: &'a str,
+        object: &'a str,
+        source: &'a str,
+    },
+    /// `run --input=INPUT [--budget=BUDGET] -o TRACE OBJECT`; the budget counts instructions.
+    Run {
+        input: &'a str,
+        budget: u32,
+        trace: &'a str,
+        object: &'a str,
+    },
+    /// `coverage --level=LEVEL --annotate=ANNOTATE --object=OBJECT [TRACE...]`
+    Coverage {
+        level: Level,
+        annotate: Annotation,
+        object: &'a str,
+        traces: Vec<&'a str>,
+    },
+}
+
+/// The words are no command.
+#[derive(Clone, Copy, Debug, PartialEq, Eq, Error)]
+#[error("usage")]
+pub struct Usage;

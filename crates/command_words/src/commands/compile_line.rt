@@ -1,0 +1,47 @@
+//! `compile --main=MAIN -o OBJECT SOURCE`
+
+ghost use Rattle.std.specs.Prelude.{◌≡◌, map, string_bytes, IfOk};
+ghost use Rattle.clap.specs.Words.{app_of};
+ghost use Rattle.command_words.specs.Gives.{Gives};
+ghost use Rattle.command_words.specs.Lines.{compile_app};
+ghost use Rattle.command_words.specs.Task.{IsWithinLimits, compile_of};
+ghost use Rattle.command_words.specs.Command.{task_view};
+
+use crate::command::{Command, Usage};
+use crate::limits::is_short;
+use crate::matches::{read, text};
+use clap::Arg;
+use cov_base::Failure;
+use std::alloc::{AllocError, Global};
+
+/// The command that the words ask for, of which the first is `compile`.
+#[tactic(auto, unfolding(crate::specs::Task::compile_of))]
+pub fn compile<'a>(alloc: Global, words: &'a [String]) -> Result<Command<'a>, Failure<Usage>>
+    ensures command { Gives task_view (compile_of (map string_bytes words.now)) result }
+    ensures limits { IfOk result (λ command. IsWithinLimits (task_view command)) }
+{
+    let matches = read(compile_line(alloc)?, words)?;
+    let main = text(&matches, "main")?;
+    let object = text(&matches, "object")?;
+    let source = text(&matches, "source")?;
+    // A name is a word or the end of one. It is tested once more by itself, so that the limit is known
+    // of the command without a look into how the words were read.
+    if !is_short(source) {
+        return Err(Failure::Fault(Usage));
+    }
+    Ok(Command::Compile {
+        main,
+        object,
+        source,
+    })
+}
+
+/// The options and names of the command, as `clap` is told of them.
+fn compile_line<'a>(alloc: Global) -> Result<clap::Command<'a>, AllocError>
+    ensures { IfOk result (λ line. app_of line ≡ compile_app) }
+{
+    clap::Command::new(alloc, "compile")
+        .arg(Arg::new(alloc, "main").long("main").required(true))?
+        .arg(Arg::new(alloc, "object").short('o').required(true))?
+        .arg(Arg::new(alloc, "source").required(true))
+}

@@ -1,0 +1,68 @@
+//! `coverage --level=LEVEL --annotate=ANNOTATE --object=OBJECT [TRACE...]`
+
+ghost use Rattle.std.specs.Prelude.{◌≡◌, map, string_bytes, IfOk};
+ghost use Rattle.clap.specs.Words.{app_of};
+ghost use Rattle.command_words.specs.Gives.{Gives};
+ghost use Rattle.command_words.specs.Lines.{coverage_app};
+ghost use Rattle.command_words.specs.Task.{IsWithinLimits, annotation_named, coverage_of, level_named};
+ghost use Rattle.command_words.specs.Command.{task_view};
+
+use crate::command::{Command, Usage};
+use crate::limits::are_few;
+use crate::matches::{read, text, texts};
+use clap::{Arg, ArgAction};
+use cov_base::{Annotation, Failure, Level};
+use std::alloc::{AllocError, Global};
+
+/// The command that the words ask for, of which the first is `coverage`.
+#[tactic(auto, unfolding(crate::specs::Task::coverage_of))]
+pub fn coverage<'a>(alloc: Global, words: &'a [String]) -> Result<Command<'a>, Failure<Usage>>
+    ensures command { Gives task_view (coverage_of (map string_bytes words.now)) result }
+    ensures limits { IfOk result (λ command. IsWithinLimits (task_view command)) }
+{
+    let matches = read(coverage_line(alloc)?, words)?;
+    let level = level_named(text(&matches, "level")?)?;
+    let annotate = annotation_named(text(&matches, "annotate")?)?;
+    let object = text(&matches, "object")?;
+    let traces = texts(alloc, &matches, "trace")?;
+    if !are_few(traces.as_slice()) {
+        return Err(Failure::Fault(Usage));
+    }
+    Ok(Command::Coverage {
+        level,
+        annotate,
+        object,
+        traces,
+    })
+}
+
+/// The level of that name. There is one so far.
+fn level_named(name: &str) -> Result<Level, Failure<Usage>>
+    ensures { Gives (λ level. level) (level_named name.now) result }
+{
+    match name {
+        "stmt" => Ok(Level::Stmt),
+        _ => Err(Failure::Fault(Usage)),
+    }
+}
+
+/// The form of a report of that name. There is one so far.
+fn annotation_named(name: &str) -> Result<Annotation, Failure<Usage>>
+    ensures { Gives (λ annotation. annotation) (annotation_named name.now) result }
+{
+    match name {
+        "report" => Ok(Annotation::Report),
+        _ => Err(Failure::Fault(Usage)),
+    }
+}
+
+/// The options and names of the command, as `clap` is told of them.
+fn coverage_line<'a>(alloc: Global) -> Result<clap::Command<'a>, AllocError>
+    ensures { IfOk result (λ line. app_of line ≡ coverage_app) }
+{
+    clap::Command::new(alloc, "coverage")
+        .arg(Arg::new(alloc, "level").long("level").required(true))?
+        .arg(Arg::new(alloc, "annotate").long("annotate").required(true))?
+        .arg(Arg::new(alloc, "object").long("object").required(true))?
+        .arg(Arg::new(alloc, "trace").action(ArgAction::Append))
+}

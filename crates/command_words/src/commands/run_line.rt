@@ -1,0 +1,58 @@
+//! `run --input=INPUT [--budget=BUDGET] -o TRACE OBJECT`
+
+ghost use Rattle.std.specs.Prelude.{◌≡◌, map, string_bytes, IfOk};
+ghost use Rattle.clap.specs.Words.{app_of};
+ghost use Rattle.command_words.specs.Gives.{Gives};
+ghost use Rattle.command_words.specs.Lines.{run_app};
+ghost use Rattle.command_words.specs.Task.{IsWithinLimits, run_of};
+ghost use Rattle.command_words.specs.Command.{task_view};
+
+use crate::command::{Command, Usage};
+use crate::matches::{number, read, text};
+use clap::Arg;
+use cov_base::Failure;
+use std::alloc::{AllocError, Global};
+
+/// At least so many instructions may be executed.
+const LEAST_BUDGET: u32 = 1;
+
+/// The command that the words ask for, of which the first is `run`.
+#[tactic(auto, unfolding(crate::specs::Task::run_of))]
+pub fn run<'a>(alloc: Global, words: &'a [String]) -> Result<Command<'a>, Failure<Usage>>
+    ensures command { Gives task_view (run_of (map string_bytes words.now)) result }
+    ensures limits { IfOk result (λ command. IsWithinLimits (task_view command)) }
+{
+    let matches = read(run_line(alloc)?, words)?;
+    let input = text(&matches, "input")?;
+    let budget = number(&matches, "budget")?;
+    let trace = text(&matches, "trace")?;
+    let object = text(&matches, "object")?;
+    // The line takes no smaller number. It is tested once more by itself, so that the limit is known of
+    // the command without a look into how the words were read.
+    if budget < LEAST_BUDGET {
+        return Err(Failure::Fault(Usage));
+    }
+    Ok(Command::Run {
+        input,
+        budget,
+        trace,
+        object,
+    })
+}
+
+/// The options and names of the command, as `clap` is told of them.
+fn run_line<'a>(alloc: Global) -> Result<clap::Command<'a>, AllocError>
+    ensures { IfOk result (λ line. app_of line ≡ run_app) }
+{
+    let budgets = clap::value_parser!(u32).range(1..);
+    clap::Command::new(alloc, "run")
+        .arg(Arg::new(alloc, "input").long("input").required(true))?
+        .arg(
+            Arg::new(alloc, "budget")
+                .long("budget")
+                .default_value("100000000")
+                .value_parser(budgets),
+        )?
+        .arg(Arg::new(alloc, "trace").short('o').required(true))?
+        .arg(Arg::new(alloc, "object").required(true))
+}
