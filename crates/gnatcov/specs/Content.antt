@@ -7,11 +7,12 @@ use Rattle.cov_base.specs.declared.level.Annotation.{Annotation}
 use Rattle.cov_base.specs.declared.level.Level.{Level}
 use Rattle.decision_map.specs.declared.fault.FitFault.{FitFault}
 use Rattle.decision_map.specs.Fits.{fault_of}
-use Rattle.gnatcov.specs.declared.compiler.fault.Why.TheVariants.{Syntax}
+use Rattle.gnatcov.specs.declared.compiler.fault.SourceFault.{SourceFault}
 use Rattle.gnatcov.specs.declared.status.Status.{Status}
 use Rattle.gnatcov.specs.declared.status.Status.TheVariants.{SourceRefused, ObjectRefused, TraceRefused, InputRefused, OverBudget, Trap}
 use Rattle.gnatcov.specs.declared.status.TraceWhy.TheVariants.{File, Fit}
 use Rattle.gnatcov.specs.RunLines.{run_lines}
+use Rattle.gnatcov.specs.Sources.{early_fault, first_fault}
 use Rattle.hex.specs.Hex.{encode_lower}
 use Rattle.object_format.specs.declared.fault.ObjectFault.{ObjectFault}
 use Rattle.object_format.specs.declared.object.Object.{Object}
@@ -56,9 +57,13 @@ FailsBeside o bytes why = (trace : TraceFile) × (trace_of bytes ≡ Ok trace) �
 
 -- ---- compile
 
--- the source of this name is no legal program whose main unit is called so
+-- a fault of a source, as a status
+abbrev pub refused_for : SourceFault → Status
+refused_for fault = SourceRefused fault.file fault.line fault.col fault.why
+
+-- the source of this name is no legal program whose main unit is called so, and this is its first fault
 abbrev pub RefusesSource : (main name source : List ℕ) → Status → Type 0
-RefusesSource main name source status = status ≡ SourceRefused 0 1 1 Syntax
+RefusesSource main name source status = status ≡ refused_for (first_fault source)
 
 -- how many conditions the decisions of an object have
 abbrev pub condition_count : Object → ℕ
@@ -72,8 +77,10 @@ object_lines o =
     ++ (codes " decisions, " ++ (decimal (condition_count o)
     ++ (codes " conditions\nobject: " ++ (encode_lower (digest_of o) ++ codes "\n")))))))
 
--- the file is that of an object which names this source alone, and the text tells that object's counts and digest
+-- the source is not too large, has tokens, and they don't nest too deep; the file is that of an object which names this source alone, and the
+-- text tells that object's counts and digest
 pub record CompilesTo (main name source : List ℕ) (made : Made) : Type 0 where
+  pub early : early_fault source ≡ None
   pub object : Object
   pub names : object.files ≡ record { name = name; sha256 = sha256 source } ∷ []
   pub spelled : made.file ≡ object_bytes object

@@ -9,10 +9,9 @@ pub mod Obliged
 pub mod Outcome
 pub mod Reading
 pub mod Ready
-pub mod Refusals
 pub mod RunLines
+pub mod Sources
 pub mod TaskFiles
-pub mod Tokens
 pub mod TraceWords
 pub mod Verdict
 pub mod Why

@@ -3,8 +3,8 @@
 ghost use Rattle.std.specs.Prelude.{◌≡◌, ◌+◌, ◌-◌, ◌^◌, ◌<◌, ◌≤◌, IfOk, OnOk, length, min};
 ghost use Rattle.std.specs.Bool.{OnTrue, OnFalse};
 
-use crate::ada_lexer::{Token, TokenKind, numeral_value};
 use crate::ada_syntax::{Name, Stmt, StmtKind, Unit};
+use ada_lexer::{Lexeme, Token};
 use cov_base::{Bytes, Failure, Pos, Seq};
 use std::alloc::Global;
 use thiserror::Error;
@@ -66,13 +66,68 @@ impl<'a> Cursor<'a> {
         Failure::Fault(SyntaxFault { pos: self.pos() })
     }
 
-    /// Takes a token that counts as a node, where the next one is of this kind.
-    fn take(&mut self, kind: TokenKind) -> Result<&'a Token, Failure<SyntaxFault>>
+    /// Takes this reserved word where it is the next token.
+    fn accept_word(&mut self, word: Lexeme) -> bool
+        ensures shorter { OnTrue result (length self.new.rest.now < length self.old.rest.now) }
+        ensures counted { OnTrue result (min (self.old.nodes + 1) (2 ^ 32 - 1) ≤ self.new.nodes) }
+        ensures same { OnFalse result (self.new.rest.now ≡ self.old.rest.now) }
+        ensures same_count { OnFalse result (self.new.nodes ≡ self.old.nodes) }
+    {
+        match self.rest {
+            [token, rest @ ..] if token.lexeme == word => {
+                self.rest = rest;
+                self.nodes = self.nodes.saturating_add(1);
+                true
+            }
+            _ => false,
+        }
+    }
+
+    fn expect_word(&mut self, word: Lexeme) -> Result<(), Failure<SyntaxFault>>
+        ensures shorter { OnOk result (length self.new.rest.now < length self.old.rest.now) }
+        ensures counted { OnOk result (min (self.old.nodes + 1) (2 ^ 32 - 1) ≤ self.new.nodes) }
+    {
+        if self.accept_word(word) {
+            Ok(())
+        } else {
+            Err(self.fault())
+        }
+    }
+
+    /// Takes a delimiter where it is the next token. None of those that stand in a procedure counts
+    /// as a node.
+    fn accept_delimiter(&mut self, delimiter: Lexeme) -> bool
+        ensures shorter { OnTrue result (length self.new.rest.now < length self.old.rest.now) }
+        ensures same { OnFalse result (self.new.rest.now ≡ self.old.rest.now) }
+        ensures same_count { self.new.nodes ≡ self.old.nodes }
+    {
+        match self.rest {
+            [token, rest @ ..] if token.lexeme == delimiter => {
+                self.rest = rest;
+                true
+            }
+            _ => false,
+        }
+    }
+
+    fn expect_delimiter(&mut self, delimiter: Lexeme) -> Result<(), Failure<SyntaxFault>>
+        ensures shorter { OnOk result (length self.new.rest.now < length self.old.rest.now) }
+        ensures same_count { self.new.nodes ≡ self.old.nodes }
+    {
+        if self.accept_delimiter(delimiter) {
+            Ok(())
+        } else {
+            Err(self.fault())
+        }
+    }
+
+    /// Takes the next token where it is an identifier.
+    fn take_identifier(&mut self) -> Result<&'a Token, Failure<SyntaxFault>>
         ensures shorter { OnOk result (length self.new.rest.now < length self.old.rest.now) }
         ensures counted { OnOk result (min (self.old.nodes + 1) (2 ^ 32 - 1) ≤ self.new.nodes) }
     {
         match self.rest {
-            [token, rest @ ..] if token.kind == kind => {
+            [token, rest @ ..] if token.lexeme == Lexeme::Identifier => {
                 self.rest = rest;
                 self.nodes = self.nodes.saturating_add(1);
                 Ok(token)
@@ -81,80 +136,11 @@ impl<'a> Cursor<'a> {
         }
     }
 
-    /// Takes a reserved word where it is the next token.
-    fn accept_reserved(&mut self, word: &str) -> bool
-        ensures shorter { OnTrue result (length self.new.rest.now < length self.old.rest.now) }
-        ensures counted { OnTrue result (min (self.old.nodes + 1) (2 ^ 32 - 1) ≤ self.new.nodes) }
-        ensures same { OnFalse result (self.new.rest.now ≡ self.old.rest.now) }
-        ensures same_count { OnFalse result (self.new.nodes ≡ self.old.nodes) }
-    {
-        match self.rest {
-            [token, rest @ ..] if token.is(TokenKind::Reserved, word) => {
-                self.rest = rest;
-                self.nodes = self.nodes.saturating_add(1);
-                true
-            }
-            _ => false,
-        }
-    }
-
-    fn expect_reserved(&mut self, word: &str) -> Result<(), Failure<SyntaxFault>>
-        ensures shorter { OnOk result (length self.new.rest.now < length self.old.rest.now) }
-        ensures counted { OnOk result (min (self.old.nodes + 1) (2 ^ 32 - 1) ≤ self.new.nodes) }
-    {
-        if self.accept_reserved(word) {
-            Ok(())
-        } else {
-            Err(self.fault())
-        }
-    }
-
-    /// Takes an identifier that has to be this one.
-    fn expect_word(&mut self, word: &str) -> Result<(), Failure<SyntaxFault>>
-        ensures shorter { OnOk result (length self.new.rest.now < length self.old.rest.now) }
-        ensures counted { OnOk result (min (self.old.nodes + 1) (2 ^ 32 - 1) ≤ self.new.nodes) }
-    {
-        match self.rest {
-            [token, ..] if token.is(TokenKind::Word, word) => {
-                self.take(TokenKind::Word)?;
-                Ok(())
-            }
-            _ => Err(self.fault()),
-        }
-    }
-
-    /// Takes a delimiter where it is the next token. None of those that stand in a procedure counts
-    /// as a node.
-    fn accept_delimiter(&mut self, text: &str) -> bool
-        ensures shorter { OnTrue result (length self.new.rest.now < length self.old.rest.now) }
-        ensures same { OnFalse result (self.new.rest.now ≡ self.old.rest.now) }
-        ensures same_count { self.new.nodes ≡ self.old.nodes }
-    {
-        match self.rest {
-            [token, rest @ ..] if token.is(TokenKind::Delimiter, text) => {
-                self.rest = rest;
-                true
-            }
-            _ => false,
-        }
-    }
-
-    fn expect_delimiter(&mut self, text: &str) -> Result<(), Failure<SyntaxFault>>
-        ensures shorter { OnOk result (length self.new.rest.now < length self.old.rest.now) }
-        ensures same_count { self.new.nodes ≡ self.old.nodes }
-    {
-        if self.accept_delimiter(text) {
-            Ok(())
-        } else {
-            Err(self.fault())
-        }
-    }
-
     fn identifier(&mut self, alloc: Global) -> Result<Name, Failure<SyntaxFault>>
         ensures shorter { OnOk result (length self.new.rest.now < length self.old.rest.now) }
         ensures counted { OnOk result (min self.old.nodes (2 ^ 32 - 1) ≤ self.new.nodes) }
     {
-        let token = self.take(TokenKind::Word)?;
+        let token = self.take_identifier()?;
         let text = Vec::from_slice(alloc, token.text.as_slice())?;
         Ok(Name {
             pos: token.pos,
@@ -162,24 +148,45 @@ impl<'a> Cursor<'a> {
         })
     }
 
+    /// Takes an identifier that has to be this one, where case does not count.
+    fn expect_name(&mut self, name: &str) -> Result<(), Failure<SyntaxFault>>
+        ensures shorter { OnOk result (length self.new.rest.now < length self.old.rest.now) }
+        ensures counted { OnOk result (min (self.old.nodes + 1) (2 ^ 32 - 1) ≤ self.new.nodes) }
+    {
+        let token = self.take_identifier()?;
+        if token.text.as_slice().eq_ignore_ascii_case(name.as_bytes()) {
+            Ok(())
+        } else {
+            Err(self.fault())
+        }
+    }
+
     /// `numeral`
     fn numeral(&mut self) -> Result<u32, Failure<SyntaxFault>>
         ensures shorter { OnOk result (length self.new.rest.now < length self.old.rest.now) }
         ensures counted { OnOk result (min (self.old.nodes + 1) (2 ^ 32 - 1) ≤ self.new.nodes) }
     {
-        let pos = self.pos();
-        let token = self.take(TokenKind::Numeral)?;
-        numeral_value(token.text.as_slice()).ok_or(Failure::Fault(SyntaxFault { pos }))
+        match self.rest {
+            [token, rest @ ..] => match token.lexeme {
+                Lexeme::Numeral(value) => {
+                    self.rest = rest;
+                    self.nodes = self.nodes.saturating_add(1);
+                    Ok(value)
+                }
+                _ => Err(self.fault()),
+            },
+            [] => Err(self.fault()),
+        }
     }
 
     /// `{with id {, id} ;} procedure id is begin stmt {stmt} end [id] ;`
     fn unit(&mut self, alloc: Global) -> Result<Unit, Failure<SyntaxFault>> {
         let pos = self.pos();
         let withs = self.withs(alloc)?;
-        self.expect_reserved("procedure")?;
+        self.expect_word(Lexeme::Procedure)?;
         let name = self.identifier(alloc)?;
-        self.expect_reserved("is")?;
-        self.expect_reserved("begin")?;
+        self.expect_word(Lexeme::Is)?;
+        self.expect_word(Lexeme::Begin)?;
         let statements = self.statements(alloc)?;
         let end_name = self.end_name(alloc)?;
         Ok(Unit {
@@ -195,12 +202,12 @@ impl<'a> Cursor<'a> {
     /// `{with id {, id} ;}`
     fn withs(&mut self, alloc: Global) -> Result<Vec<Name>, Failure<SyntaxFault>> {
         let mut names = Vec::new(alloc);
-        while self.accept_reserved("with") {
+        while self.accept_word(Lexeme::With) {
             names.push(self.identifier(alloc)?)?;
-            while self.accept_delimiter(",") {
+            while self.accept_delimiter(Lexeme::Comma) {
                 names.push(self.identifier(alloc)?)?;
             }
-            self.expect_delimiter(";")?;
+            self.expect_delimiter(Lexeme::Semicolon)?;
         }
         Ok(names)
     }
@@ -211,7 +218,7 @@ impl<'a> Cursor<'a> {
     {
         let mut statements = Vec::new(alloc);
         statements.push(self.statement()?)?;
-        while !self.accept_reserved("end") {
+        while !self.accept_word(Lexeme::End) {
             statements.push(self.statement()?)?;
         }
         Ok(statements)
@@ -223,7 +230,7 @@ impl<'a> Cursor<'a> {
     {
         let pos = self.pos();
         let kind = self.statement_kind()?;
-        self.expect_delimiter(";")?;
+        self.expect_delimiter(Lexeme::Semicolon)?;
         Ok(Stmt { pos, kind })
     }
 
@@ -231,9 +238,9 @@ impl<'a> Cursor<'a> {
         ensures shorter { OnOk result (length self.new.rest.now < length self.old.rest.now) }
         ensures counted { OnOk result (min (self.old.nodes + 1) (2 ^ 32 - 1) ≤ self.new.nodes) }
     {
-        if self.accept_reserved("null") {
+        if self.accept_word(Lexeme::Null) {
             Ok(StmtKind::Null)
-        } else if self.accept_reserved("return") {
+        } else if self.accept_word(Lexeme::Return) {
             Ok(StmtKind::Return)
         } else {
             self.put()
@@ -245,12 +252,12 @@ impl<'a> Cursor<'a> {
         ensures shorter { OnOk result (length self.new.rest.now < length self.old.rest.now) }
         ensures counted { OnOk result (min (self.old.nodes + 1) (2 ^ 32 - 1) ≤ self.new.nodes) }
     {
-        self.expect_word("test_io")?;
-        self.expect_delimiter(".")?;
-        self.expect_word("put")?;
-        self.expect_delimiter("(")?;
+        self.expect_name("test_io")?;
+        self.expect_delimiter(Lexeme::Dot)?;
+        self.expect_name("put")?;
+        self.expect_delimiter(Lexeme::LeftParenthesis)?;
         let value = self.numeral()?;
-        self.expect_delimiter(")")?;
+        self.expect_delimiter(Lexeme::RightParenthesis)?;
         Ok(StmtKind::Put { value })
     }
 
@@ -258,11 +265,11 @@ impl<'a> Cursor<'a> {
     fn end_name(&mut self, alloc: Global) -> Result<Option<Name>, Failure<SyntaxFault>>
         ensures { OnOk result (min self.old.nodes (2 ^ 32 - 1) ≤ self.new.nodes) }
     {
-        if self.accept_delimiter(";") {
+        if self.accept_delimiter(Lexeme::Semicolon) {
             return Ok(None);
         }
         let name = self.identifier(alloc)?;
-        self.expect_delimiter(";")?;
+        self.expect_delimiter(Lexeme::Semicolon)?;
         Ok(Some(name))
     }
 }

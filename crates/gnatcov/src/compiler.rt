@@ -1,16 +1,15 @@
 //! From source text to an object file.
 
-ghost use Rattle.std.specs.Prelude.{◌≡◌, ◌≤◌, ◌∷◌, [], IfErr, IfOk, length};
-ghost use Rattle.std.specs.List.{All};
+ghost use Rattle.std.specs.Prelude.{◌≡◌, ◌≤◌, IfErr, IfOk, OnOk, None, length};
 ghost use Rattle.gnatcov.specs.Compiled.{IsCompiled};
-ghost use Rattle.gnatcov.specs.Refusals.{IsRefusal};
+ghost use Rattle.gnatcov.specs.Sources.{early_fault, fault_at, lexical_fault, IsBeginning, IsEarly, IsRefusal};
 
-use crate::ada_lexer::lex;
 use crate::ada_parser::parse;
 use crate::ada_types::{Program, check};
 use crate::codegen_rv32::generate;
 use crate::obligations::obligations;
-use cov_base::{Bytes, Digest, Failure, Seq, SourceFile};
+use ada_lexer::{LexFault, Token, lex, nested};
+use cov_base::{Bytes, Digest, Failure, Pos, Seq, SourceFile};
 use line_table::Roles;
 use object_format::{FileEntry, Object, digest, write_parts};
 use std::alloc::{AllocError, Global};
@@ -46,7 +45,8 @@ pub fn compile(
     ensures object { IfOk result (IsCompiled file.now.name file.now.bytes) }
     ensures decisions { IfOk result (λ compiled. compiled.decisions ≡ 0) }
     ensures conditions { IfOk result (λ compiled. compiled.conditions ≡ 0) }
-    ensures refused { IfErr result IsRefusal }
+    ensures early { OnOk result (early_fault file.now.bytes ≡ None) }
+    ensures refused { IfErr result (IsRefusal file.now.bytes) }
 {
     let program = front_end(alloc, file, main)?;
     Ok(back_end(alloc, file, &program)?)
@@ -54,15 +54,28 @@ pub fn compile(
 
 /// The program of a source file.
 fn front_end(alloc: Global, file: &SourceFile, main: &str) -> Result<Program, Failure<SourceFault>>
-    ensures { IfErr result IsRefusal }
+    ensures early { OnOk result (early_fault file.now.bytes ≡ None) }
+    ensures refused { IfErr result (IsRefusal file.now.bytes) }
 {
-    let bytes = file.bytes.as_slice();
-    if bytes.len() > MAX_SOURCE {
-        return Err(Failure::Fault(REFUSED));
-    }
-    let tokens = lex(alloc, 0, bytes).map_err(refusal)?;
+    let tokens = tokens_of(alloc, file.bytes.as_slice())?;
     let units = parse(alloc, tokens.as_slice()).map_err(refusal)?;
     check(alloc, units.as_slice(), main).map_err(refusal)
+}
+
+/// The tokens of a source, which is not too large, and whose tokens don't nest too deep.
+#[tactic(auto, unfolding(crate::specs::Sources::early_fault))]
+fn tokens_of(alloc: Global, bytes: &[u8]) -> Result<Vec<Token>, Failure<SourceFault>>
+    ensures early { OnOk result (early_fault bytes.now ≡ None) }
+    ensures refused { IfErr result (IsEarly bytes.now) }
+{
+    if bytes.len() > MAX_SOURCE {
+        return Err(Failure::Fault(fault_at(BEGINNING, Why::Limit)));
+    }
+    let tokens = lex(alloc, 0, bytes).map_err(lexical)?;
+    match nested(tokens.as_slice()) {
+        Some(pos) => Err(Failure::Fault(fault_at(pos, Why::Limit))),
+        None => Ok(tokens),
+    }
 }
 
 /// The object file of a program.
@@ -100,20 +113,41 @@ fn back_end(alloc: Global, file: &SourceFile, program: &Program) -> Result<Compi
     })
 }
 
-/// The one place and reason that are given for every source that is no legal program.
-const REFUSED: SourceFault = SourceFault {
+/// Where a source begins.
+const BEGINNING: Pos = Pos {
     file: 0,
     line: 1,
     col: 1,
-    why: Why::Syntax,
 };
 
-/// The answer for a fault of any step.
-fn refusal<F: Drop>(failure: Failure<F>) -> Failure<SourceFault>
-    ensures { IsRefusal result }
+/// A fault for this reason at a place of the source.
+fn fault_at(pos: Pos, why: Why) -> SourceFault
+    ensures { result ≡ fault_at pos why }
+{
+    SourceFault {
+        file: pos.file,
+        line: pos.line,
+        col: pos.col,
+        why,
+    }
+}
+
+/// The answer for a source that has no tokens.
+fn lexical(failure: Failure<LexFault>) -> Failure<SourceFault>
+    ensures { result ≡ lexical_fault failure }
 {
     match failure {
-        Failure::Fault(_) => Failure::Fault(REFUSED),
+        Failure::Fault(LexFault { pos }) => Failure::Fault(fault_at(pos, Why::Lexical)),
+        Failure::WantOfMemory => Failure::WantOfMemory,
+    }
+}
+
+/// The answer for a fault of a later step, for which one place and one reason are given so far.
+fn refusal<F: Drop>(failure: Failure<F>) -> Failure<SourceFault>
+    ensures { IsBeginning result }
+{
+    match failure {
+        Failure::Fault(_) => Failure::Fault(fault_at(BEGINNING, Why::Syntax)),
         Failure::WantOfMemory => Failure::WantOfMemory,
     }
 }

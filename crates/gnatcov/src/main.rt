@@ -1,7 +1,6 @@
 //! gnatcov: structural coverage of programs from the traces of their runs.
 #![tactic(auto)]
 
-mod ada_lexer;
 mod ada_parser;
 mod ada_syntax;
 mod ada_types;

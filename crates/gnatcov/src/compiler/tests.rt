@@ -1,6 +1,6 @@
 ghost use Rattle.std.specs.Prelude.{◌≤◌, IfOk, length};
 
-use super::{Why, compile};
+use super::{SourceFault, Why, compile};
 use cov_base::{Bytes, Failure, SourceFile, StmtEntry};
 use object_format::{Object, read_object};
 use std::alloc::{AllocError, Global};
@@ -23,24 +23,29 @@ const TEXT: [u32; 14] = [
 ];
 
 /// Sources of a procedure P that are no programs of this language.
-const REFUSED: [&str; 17] = [
-    "",
+const REFUSED: [&str; 12] = [
     "procedure P is begin null end P;",
     "procedure P is begin null; end Q;",
     "procedure Q is begin null; end Q;",
     "procedure P is begin end P;",
     "procedure P is begin Test_IO.Put (1); end P;",
     "with Test_IO; procedure P is begin Put (1); end P;",
-    "with Test_IO; procedure P is begin Test_IO.Put (2147483648); end P;",
-    "with Test_IO; procedure P is begin Test_IO.Put (1__0); end P;",
     "with Text_IO; procedure P is begin null; end P;",
     "procedure P is begin null; end P; procedure P is begin null; end P;",
-    "procedure P is begin null; # end P;",
     "procedure P is begin null; end P",
-    "procedure P_ is begin null; end P_;",
     "procedure Begin is begin null; end;",
     "with P; procedure P is begin null; end P;",
     "with Test_IO procedure P is begin null; end P;",
+];
+
+/// Sources with a place where no token stands.
+const NO_TOKENS: [(&str, u32, u32); 6] = [
+    ("procedure P is\nbegin\n   Put (2147483648);\nend P;", 3, 9),
+    ("procedure P is begin Put (1__0); end P;", 1, 27),
+    ("procedure P is begin null; # end P;", 1, 28),
+    ("procedure P_ is begin null; end P_;", 1, 11),
+    ("procedure P is begin null; end P; \"", 1, 35),
+    ("\r\n\t**", 2, 2),
 ];
 
 /// Sources of a procedure P with one statement.
@@ -96,6 +101,25 @@ fn makes_the_code(rt: HostRuntime) -> Result<(), Fail> {
     Ok(())
 }
 
+/// The place and the reason for which a source is refused.
+fn refusal_of(alloc: Global, text: &str) -> Result<Option<SourceFault>, Fail> {
+    match compile(alloc, &source(alloc, text)?, "p") {
+        Ok(_) => Ok(None),
+        Err(Failure::Fault(fault)) => Ok(Some(fault)),
+        Err(Failure::WantOfMemory) => Err(Fail::from(AllocError)),
+    }
+}
+
+/// A fault of the first source.
+fn fault(line: u32, col: u32, why: Why) -> Option<SourceFault> {
+    Some(SourceFault {
+        file: 0,
+        line,
+        col,
+        why,
+    })
+}
+
 #[test]
 fn takes_and_refuses_sources(rt: HostRuntime) -> Result<(), Fail> {
     let alloc = rt.alloc();
@@ -106,14 +130,42 @@ fn takes_and_refuses_sources(rt: HostRuntime) -> Result<(), Fail> {
             "{text}"
         );
     }
+    assert_eq!(rt; refusal_of(alloc, "")?, fault(1, 1, Why::Syntax));
     for text in REFUSED {
-        match compile(alloc, &source(alloc, text)?, "p") {
-            Err(Failure::Fault(fault)) => {
-                assert_eq!(rt; (fault.file, fault.line, fault.col), (0, 1, 1));
-                assert_eq!(rt; fault.why, Why::Syntax);
-            }
-            _ => panic!(rt; "taken: {text}"),
-        }
+        assert_eq!(rt;
+            refusal_of(alloc, text)?,
+            fault(1, 1, Why::Syntax),
+            "{text}"
+        );
+    }
+    for (text, line, col) in NO_TOKENS {
+        assert_eq!(rt;
+            refusal_of(alloc, text)?,
+            fault(line, col, Why::Lexical),
+            "{text}"
+        );
+    }
+    Ok(())
+}
+
+/// A source of `P` with so many bytes, most of them in a comment.
+fn long_source(alloc: Global, length: usize) -> Result<String, AllocError> {
+    let mut text = String::from_str(alloc, "procedure P is begin null; end P;--")?;
+    let filling = "-".repeat(alloc, length.saturating_sub(text.len()))?;
+    text.push_str(filling.as_str())?;
+    Ok(text)
+}
+
+#[test]
+fn keeps_to_its_limits(rt: HostRuntime) -> Result<(), Fail> {
+    let alloc = rt.alloc();
+    let text = long_source(alloc, 1_048_576)?;
+    assert_eq!(rt; refusal_of(alloc, text.as_str())?, None);
+    let text = long_source(alloc, 1_048_577)?;
+    assert_eq!(rt; refusal_of(alloc, text.as_str())?, fault(1, 1, Why::Limit));
+    for (depth, why, col) in [(64, Why::Syntax, 1), (65, Why::Limit, 65)] {
+        let text = "(".repeat(alloc, depth)?;
+        assert_eq!(rt; refusal_of(alloc, text.as_str())?, fault(1, col, why));
     }
     Ok(())
 }

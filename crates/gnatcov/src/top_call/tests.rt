@@ -71,8 +71,8 @@ const TWO_TRACES: &str =
     "gnatcov coverage --level=stmt --annotate=report --object=p1.obj p1.trace z.trace";
 
 /// All names of files but `new` that the tests name and make.
-const NAMES: [&str; 13] = [
-    "p1.adb", "z.adb", "empty", "signed", "great", "least", "p1.obj", "z.obj", "p1.trace",
+const NAMES: [&str; 14] = [
+    "p1.adb", "z.adb", "odd", "empty", "signed", "great", "least", "p1.obj", "z.obj", "p1.trace",
     "z.trace", "short", "long", "damaged",
 ];
 
@@ -251,10 +251,12 @@ fn entry(alloc: Global, name: &str, bytes: &[u8]) -> Result<Entry, AllocError> {
     })
 }
 
-/// The two sources, and inputs: an empty one, and three of which the last alone is one.
-const SOURCES: [(&str, &str); 6] = [
+/// The two sources, bytes that are no tokens, and inputs: an empty one, and three of which the last alone
+/// is one.
+const SOURCES: [(&str, &str); 7] = [
     ("p1.adb", P1),
     ("z.adb", Z),
+    ("odd", " #"),
     ("empty", ""),
     ("signed", "1\n+2"),
     ("great", "2147483648"),
@@ -482,6 +484,13 @@ fn reports_and_writes_no_file(rt: HostRuntime) -> Result<(), Fail> {
     Ok(())
 }
 
+const NO_TOKEN: Status = Status::SourceRefused {
+    file: 0,
+    line: 1,
+    col: 2,
+    why: Why::Lexical,
+};
+
 const SOURCE_REFUSED: Status = Status::SourceRefused {
     file: 0,
     line: 1,
@@ -530,9 +539,14 @@ fn refused_trace(line: &'static str, why: TraceFault, put: &'static str) -> Case
     quiet(line, status, put)
 }
 
-fn refusals() -> [Case<'static>; 8] {
+fn refusals() -> [Case<'static>; 9] {
     [
         quiet(COMPILE, SOURCE_REFUSED, "gnatcov: p1.adb:1:1: syntax\n"),
+        quiet(
+            "gnatcov compile --main=P1 -o new odd",
+            NO_TOKEN,
+            "gnatcov: odd:1:2: lexical\n",
+        ),
         quiet(
             "gnatcov coverage --level=stmt --annotate=report --object=z.obj p1.trace",
             FOREIGN,

@@ -1,0 +1,6 @@
+pub mod Tables
+pub mod Numerals
+pub mod Places
+pub mod Cutting
+pub mod Delimiters
+mod Examples

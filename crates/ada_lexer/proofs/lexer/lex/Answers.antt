@@ -1,0 +1,53 @@
+use Rattle.std.proofs.Common.{◌≡◌, ◌<◌, ◌≤◌, Some, length, take}
+use Rattle.ada_lexer.specs.declared.cut.Cut.TheVariants as cut
+use Rattle.ada_lexer.specs.Cut.{cut_of}
+use Rattle.ada_lexer.proofs.Places.{line_fits, col_fits}
+use Rattle.ada_lexer.proofs.Cutting.{IsAt-within, blank_step, token_step}
+use Rattle.ada_lexer.proofs.lexer.lex.Goals as goal
+
+pub pos_after-pos-requires-clause-line : goal.pos_after-pos-requires-clause-line
+pos_after-pos-requires-clause-line c =
+    let at = c.loop-rest.invariant in
+    let n = c.in-Some-Blank.length in
+    let fits : n ≤ length c.loop-rest.rest.now = rw c.in-Some-Blank.field-0-is at c.in-Some-Blank.ensures.within in
+    rw c.split_at.ensures.front_len (line_fits c.args.file c.args.source.now c.loop-rest.from n c.loop-rest.pos at.place (IsAt-within at n fits) c.requires)
+
+pub pos_after-pos-requires-clause-column : goal.pos_after-pos-requires-clause-column
+pos_after-pos-requires-clause-column c =
+    let at = c.loop-rest.invariant in
+    let n = c.in-Some-Blank.length in
+    let fits : n ≤ length c.loop-rest.rest.now = rw c.in-Some-Blank.field-0-is at c.in-Some-Blank.ensures.within in
+    rw c.split_at.ensures.front_len (col_fits c.args.file c.args.source.now c.loop-rest.from n c.loop-rest.pos at.place (IsAt-within at n fits) c.requires)
+
+pub loop-rest-preserved-in-Some-Blank : goal.loop-rest-preserved-in-Some-Blank
+loop-rest-preserved-in-Some-Blank c =
+    let n = c.in-Some-Blank.length in
+    let e : cut_of c.loop-rest.rest.now ≡ Some (cut.Blank n) = cc c.in-Some-Blank.ensures.cut in
+    let fits : n ≤ length c.loop-rest.rest.now = rw c.in-Some-Blank.field-0-is at c.in-Some-Blank.ensures.within in
+    let some : 0 < n = rw c.in-Some-Blank.field-0-is at c.in-Some-Blank.ensures.some in
+    let h = c.split_at.ensures in
+    rw (c.pos_after-pos.ensures, h.front, h.back) (blank_step c.loop-rest.invariant n e some fits)
+
+pub pos_after-pos-requires-in-Some-Token-clause-line : goal.pos_after-pos-requires-in-Some-Token-clause-line
+pos_after-pos-requires-in-Some-Token-clause-line c =
+    let at = c.loop-rest.invariant in
+    let n = c.in-Some-Token.length in
+    let fits : n ≤ length c.loop-rest.rest.now = rw c.in-Some-Token.field-0-is at c.in-Some-Token.ensures.within in
+    rw c.split_at-in-Some-Token.ensures.front_len (line_fits c.args.file c.args.source.now c.loop-rest.from n c.loop-rest.pos at.place (IsAt-within at n fits) c.requires)
+
+pub pos_after-pos-requires-in-Some-Token-clause-column : goal.pos_after-pos-requires-in-Some-Token-clause-column
+pos_after-pos-requires-in-Some-Token-clause-column c =
+    let at = c.loop-rest.invariant in
+    let n = c.in-Some-Token.length in
+    let fits : n ≤ length c.loop-rest.rest.now = rw c.in-Some-Token.field-0-is at c.in-Some-Token.ensures.within in
+    rw c.split_at-in-Some-Token.ensures.front_len (col_fits c.args.file c.args.source.now c.loop-rest.from n c.loop-rest.pos at.place (IsAt-within at n fits) c.requires)
+
+pub loop-rest-preserved : goal.loop-rest-preserved
+loop-rest-preserved c =
+    let n = c.in-Some-Token.length in
+    let e : cut_of c.loop-rest.rest.now ≡ Some (cut.Token c.in-Some-Token.lexeme n) = cc c.in-Some-Token.ensures.cut in
+    let fits : n ≤ length c.loop-rest.rest.now = rw c.in-Some-Token.field-0-is at c.in-Some-Token.ensures.within in
+    let some : 0 < n = rw c.in-Some-Token.field-0-is at c.in-Some-Token.ensures.some in
+    let h = c.split_at-in-Some-Token.ensures in
+    let text : c.from-text.result ≡ take n c.loop-rest.rest.now = cc (c.from-text.ensures, h.front, c.in_ok-from_slice-in-Some-Token.ensures.items) in
+    rw (c.in_ok-push-in-Some-Token.ensures.items, c.pos_after-pos-in-Some-Token.ensures, text, h.front, h.back) (token_step c.loop-rest.invariant n c.in-Some-Token.lexeme e some fits)

@@ -1,0 +1,21 @@
+use Rattle.std.proofs.Common.{◌≡◌, ◌∙◌, List, Some, ap, sym}
+use Rattle.exemptions.specs.declared.mark.Mark.{Mark}
+use Rattle.exemptions.specs.declared.mark.Mark.TheVariants as mark
+use Rattle.exemptions.specs.Marks.{mark_of, marks_of}
+use Rattle.exemptions.specs.Regions.{paired}
+use Rattle.exemptions.specs.Open.{paired_behind}
+use Rattle.exemptions.proofs.Turns.{with_regions, with_regions-push, marks_of-front}
+use Rattle.exemptions.proofs.pairing.regions.Goals as goal
+
+pub loop-after-preserved : goal.loop-after-preserved
+loop-after-preserved c =
+    let done = c.loop-after.regions.items in
+    let after = c.in-Some.after.now in
+    let off = mark.Off c.in-Some-Off.to in
+    let found : mark_of c.loop-after.rest.now ≡ Some off = cc c.in_ok-mark_at.ensures in
+    let front = marks_of-front c.in-Some.field-0-0.now after c.loop-after.rest.now off c.in-Some.ensures.cases.0 found in
+    rw c.in_ok-push-in-Some-Off.ensures.items
+    (with_regions-push done c.in_ok-ended-in-Some-Off.field-0 (paired (marks_of after))
+    ∙ ap (with_regions done) (sym (c.in_ok-ended-in-Some-Off.ensures (marks_of after)))
+    ∙ ap (λ (ms : List Mark). with_regions done (paired_behind c.loop-after.opened ms)) (sym front)
+    ∙ c.loop-after.invariant)

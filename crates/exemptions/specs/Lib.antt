@@ -1,0 +1,4 @@
+pub mod Marks
+pub mod Regions
+pub mod Open
+pub mod Table
