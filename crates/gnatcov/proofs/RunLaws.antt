@@ -1,5 +1,5 @@
 -- What a run leaves, and the lines that tell of it.
-use Rattle.std.proofs.Common.{◌≡◌, ℕ, ℤ, zero, ◌+◌, ◌-◌, ◌^◌, ◌<◌, ◌≤◌, List, [], ◌∷◌, ◌++◌, drop, length, map, get_or, slice_get, unwrap_or, Option, Result, Ok, Err, OnOk, suc, refl, sym, ap, ◌∙◌, subst, arith}
+use Rattle.std.proofs.Common.{◌≡◌, ℕ, ℤ, zero, ◌+◌, ◌-◌, ◌≤◌, List, [], ◌∷◌, ◌++◌, drop, length, map, get_or, slice_get, unwrap_or, Option, Result, Ok, Err, OnOk, suc, refl, sym, ap, ◌∙◌, subst, arith}
 use Rattle.std.proofs.lemmas.List.{append_assoc}
 use Rattle.std.proofs.lemmas.Option.{unwrap_or-slice_get}
 use Rattle.std.specs.Bool.{if◌then◌else◌}
@@ -12,14 +12,10 @@ use Rattle.object_facts.proofs.Placed.{run_ended}
 use Rattle.object_format.specs.Checked.{IsSound}
 use Rattle.object_format.specs.declared.object.Object.{Object}
 use Rattle.rv32_emulator.specs.Ran.{HoldsAll}
-use Rattle.rv_machine.specs.Objects.{object_image, object_start, object_run}
-use Rattle.rv_semantics.proofs.Runs.{counts_instructions}
-use Rattle.rv_semantics.specs.Laws.{IsCounted}
-use Rattle.rv_semantics.specs.Run.{Outcome}
+use Rattle.rv_machine.specs.Objects.{object_run}
 use Rattle.rv_semantics.specs.Run.Outcome.{Ended}
 use Rattle.trace_format.specs.Formats.{trace_spelling}
-use Rattle.trace_record.proofs.Histories.{short_history}
-use Rattle.trace_record.specs.Recorded.{Recorded, Records}
+use Rattle.trace_record.specs.Recorded.{Recorded}
 use Rattle.trace_record.specs.Written.{traced}
 use Rattle.transcript.specs.Pieces.{IsEnded}
 
@@ -51,14 +47,6 @@ pub ended : (o : Object) (budget : ℕ) (input : List ℤ) (number : ℕ) (r : R
     → IsEnded (facts_of r.object) (object_run o budget input).entries
 ended o budget input number r sound is same =
     subst (λ (x : Object). IsEnded (facts_of x) (object_run o budget input).entries) (sym same) (run_ended o budget input number sound is)
-
--- its history is short enough for the file of a trace
-pub few_entries : (o : Object) (budget : ℕ) (input : List ℤ) (number : ℕ) (r : Recorded) → budget < 2 ^ 32 → (object_run o budget input).outcome ≡ Ended number
-    → Records r (object_run o budget input).entries → length r.history < 2 ^ 32
-few_entries o budget input number r small is records =
-    let counted = subst (λ (outcome : Outcome). IsCounted budget (length (object_run o budget input).entries) outcome) is
-    (counts_instructions (object_image o) budget (object_start o) input) in
-    omega (arith, small, counted.1, short_history r (object_run o budget input).entries records)
 
 -- its trace and its lines
 pub ran : (o : Object) (budget : ℕ) (input : List ℤ) (number count : ℕ) (r : Recorded) (first put : List ℤ) (file text : List ℕ) (exceptions : List (List ℕ))

@@ -1,7 +1,8 @@
-use Rattle.std.proofs.Common.{◌∙◌, ℕ, ℤ, List, ap}
+use Rattle.std.proofs.Common.{◌∙◌, ℕ, ℤ, List, ap, arith}
 use Rattle.gnatcov.specs.RunLines.{run_lines}
 use Rattle.rv_machine.specs.Objects.{object_run}
-use Rattle.gnatcov.proofs.RunLaws.{ended, few_entries, ran}
+use Rattle.rv32_emulator.proofs.Traced.{holds_short}
+use Rattle.gnatcov.proofs.RunLaws.{ended, ran}
 use Rattle.gnatcov.proofs.ready.run.executed.Goals as goal
 
 pub trace-requires-clause-recorded : goal.trace-requires-clause-recorded
@@ -15,8 +16,8 @@ trace-requires-clause-recorded c =
 
 pub trace-requires-clause-short_history : goal.trace-requires-clause-short_history
 trace-requires-clause-short_history c =
-    let a = c.in-Ok.ensures.answers in
-    few_entries c.args.object.now c.args.budget c.args.input.now c.in-Ok.ending.number c.run.new.recorder c.ranges.budget.fits a.0 a.2.recorded
+    let short = holds_short c.args.object.now c.args.budget c.args.input.now c.run.new.recorder c.new-put.result.items c.run.new.out.items c.in-Ok.ensures.answers.2 in
+    omega (arith, short, c.ranges.budget.fits)
 
 pub returns-in-Ok-clause-ran : goal.returns-in-Ok-clause-ran
 returns-in-Ok-clause-ran c =

@@ -1,0 +1,4 @@
+pub mod NodeLaws
+pub mod Places
+pub mod SizeLaws
+pub mod StatementSizeLaws

@@ -1,0 +1,9 @@
+pub mod Tree
+pub mod TreeCode
+pub mod TreeView
+pub mod TreeSize
+pub mod StatementTree
+pub mod StatementCode
+pub mod StatementView
+pub mod StatementSize
+pub mod Nodes

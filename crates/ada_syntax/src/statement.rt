@@ -1,0 +1,150 @@
+//! Statements (Ada RM 2012, 5, 6.4, 6.5, 11.2, 11.3).
+
+use crate::declaration::{Bounds, Declaration, DiscreteRange, Initial, Pragma};
+use crate::expr::Expr;
+use crate::name::{Identifier, Name};
+use cov_base::{Pos, Seq};
+use std::marker::Model;
+
+/// A statement, and the place of its first token.
+#[derive(Debug, Drop)]
+#[cycle(statement)]
+pub struct Statement {
+    pub pos: Pos,
+    pub kind: StatementKind,
+}
+
+impl Model for Statement {
+    ghost use Rattle.ada_syntax.specs.StatementTree as tree;
+    ghost use Rattle.ada_syntax.specs.StatementCode.{coded_statement};
+
+    ghost Value = { tree.Statement };
+
+    ghost coded = { coded_statement };
+
+    ghost use Rattle.ada_syntax.specs.StatementView.{statement_of};
+
+    ghost view = { statement_of };
+
+    ghost size = { tree.statement_size };
+
+    ghost use Rattle.ada_syntax.specs.StatementSize.{statement_is_larger};
+
+    ghost size_decreases = { λ a h. statement_is_larger a };
+}
+
+/// The forms of a statement. A list of statements has at least one.
+#[derive(Debug, Drop)]
+#[cycle(statement)]
+pub enum StatementKind {
+    /// `NULL ;`
+    Null,
+    /// `name := init ;`
+    Assignment(Name, Initial),
+    /// `name ;`: a call of a procedure.
+    Call(Name),
+    /// A pragma.
+    Pragma(Pragma),
+    /// `IF expr THEN stmts {ELSIF expr THEN stmts} [ELSE stmts] END IF ;`: the first branch, the
+    /// others, and the statements of the else part, of which there is none where there is no such
+    /// part.
+    If(Branch, Vec<Branch>, Vec<Statement>),
+    /// `CASE expr IS alt {alt} END CASE ;`
+    Case(Expr, Vec<Alternative>),
+    /// `[WHILE expr | FOR id IN [REVERSE] range] LOOP stmts END LOOP ;`
+    Loop(LoopScheme, Vec<Statement>),
+    /// `EXIT [WHEN expr] ;`
+    Exit(Option<Expr>),
+    /// `RETURN [expr] ;`
+    Return(Option<Expr>),
+    /// `RAISE [name] ;`
+    Raise(Option<Name>),
+    /// `[DECLARE {ldecl}] BEGIN stmts [handlers] END ;`
+    Block(Option<Seq<Declaration>>, HandledStatements),
+}
+
+/// `stmts [handlers]`: statements, and what handles their exceptions (RM 11.2). Without an exception
+/// part there is no handler.
+#[derive(Debug, Drop)]
+#[cycle(statement)]
+pub struct HandledStatements {
+    pub statements: Vec<Statement>,
+    pub handlers: Vec<Handler>,
+}
+
+impl Model for HandledStatements {
+    ghost use Rattle.ada_syntax.specs.StatementTree as tree;
+    ghost use Rattle.ada_syntax.specs.StatementCode.{coded_handled};
+
+    ghost Value = { tree.Handled };
+
+    ghost coded = { coded_handled };
+
+    ghost use Rattle.ada_syntax.specs.StatementView.{handled_of};
+
+    ghost view = { handled_of };
+
+    ghost size = { tree.handled_size };
+
+    ghost use Rattle.ada_syntax.specs.StatementSize.{handled_is_larger};
+
+    ghost size_decreases = { λ a h. handled_is_larger a };
+}
+
+/// A condition, and the statements under it.
+#[derive(Debug, Drop)]
+#[cycle(statement)]
+pub struct Branch {
+    pub condition: Expr,
+    pub statements: Vec<Statement>,
+}
+
+/// `WHEN choice {| choice} => stmts` (RM 5.4).
+#[derive(Debug, Drop)]
+#[cycle(statement)]
+pub struct Alternative {
+    pub choices: Seq<Choice>,
+    pub statements: Vec<Statement>,
+}
+
+/// `simple [.. simple] | OTHERS` (RM 3.8.1).
+#[derive(Debug, Drop)]
+pub enum Choice {
+    Value(Expr),
+    Range(Bounds),
+    Others(Pos),
+}
+
+/// How a loop goes on (RM 5.5).
+#[derive(Debug, Drop)]
+pub enum LoopScheme {
+    /// Without a scheme.
+    Forever,
+    /// `WHILE expr`
+    While(Expr),
+    /// `FOR id IN [REVERSE] range`
+    For(Identifier, Direction, DiscreteRange),
+}
+
+/// The order in which a loop parameter takes its values.
+#[derive(Clone, Copy, Debug, PartialEq, Eq)]
+pub enum Direction {
+    Forward,
+    /// With the word `reverse`.
+    Reverse,
+}
+
+/// `WHEN exch {| exch} => stmts` (RM 11.2).
+#[derive(Debug, Drop)]
+#[cycle(statement)]
+pub struct Handler {
+    pub choices: Seq<ExceptionChoice>,
+    pub statements: Vec<Statement>,
+}
+
+/// `name | OTHERS` (RM 11.2).
+#[derive(Debug, Drop)]
+pub enum ExceptionChoice {
+    Named(Name),
+    Others(Pos),
+}

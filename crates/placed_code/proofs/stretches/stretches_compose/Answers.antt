@@ -1,0 +1,8 @@
+use Rattle.placed_code.proofs.StretchLaws.{nothing_leads, leads_on}
+use Rattle.placed_code.proofs.stretches.stretches_compose.Goals as goal
+
+pub returns-clause-nothing : goal.returns-clause-nothing
+returns-clause-nothing c = nothing_leads
+
+pub returns-clause-both : goal.returns-clause-both
+returns-clause-both c = leads_on
