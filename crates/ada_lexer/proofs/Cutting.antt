@@ -1,5 +1,5 @@
 -- How a source is cut, a turn at a time.
-use Rattle.std.proofs.Common.{◌≡◌, ◌∙◌, ℕ, suc, zero, ◌+◌, ◌-◌, ◌<◌, ◌≤◌, List, [], ◌∷◌, ◌++◌, Option, Some, None, Ok, Err, length, drop, refl, ap, arith, append_assoc, append-nil, sym, take, length-drop, All, AllPairs, get_or}
+use Rattle.std.proofs.Common.{◌≡◌, ◌∙◌, ℕ, suc, zero, ◌+◌, ◌-◌, ◌<◌, ◌≤◌, List, [], ◌∷◌, ◌++◌, Option, Some, None, Ok, Err, length, drop, refl, ap, arith, append_assoc, append-nil, sym, take, length-drop, All, AllPairs, get_or, IsAscii}
 use Rattle.std.specs.List.{AllByRecursion}
 use Rattle.std.proofs.lemmas.List.Elements.{All-push, All-from_recursion}
 use Rattle.std.proofs.lemmas.List.Quantifiers.{all_pairs_push}
@@ -10,8 +10,9 @@ use Rattle.ada_lexer.specs.declared.token.Token.{Token}
 use Rattle.ada_lexer.specs.declared.cut.Cut.{Cut}
 use Rattle.ada_lexer.specs.declared.cut.Cut.TheVariants as cut
 use Rattle.ada_lexer.specs.Cut.{cut_of}
-use Rattle.ada_lexer.specs.Tokens.{Tokens, tokens_at, tokens_from, with_token, token_at, tokens_of, place_at, place_after, IsSliceOf, StandBetween, IsBefore}
-use Rattle.ada_lexer.proofs.Places.{place_at-more, place_at-before}
+use Rattle.ada_lexer.specs.Tokens.{Tokens, tokens_at, tokens_from, with_token, token_of, token_at, tokens_of, place_at, place_after, IsTokenOf, StandBetween, IsBefore}
+use Rattle.ada_lexer.proofs.Places.{place_at-more, place_at-before, file-place_at, counted-place_at}
+use Rattle.ada_lexer.proofs.AsciiTexts.{token_ascii}
 
 -- tokens before others
 abbrev pub with_tokens : List Token → Tokens → Tokens
@@ -87,18 +88,14 @@ each_before from (token ∷ tokens) to stand =
     (omega (arith, stand.1, StandBetween-le token.to tokens to stand.2), each_before token.to tokens to stand.2)
 
 -- a token that begins at the last offset stands behind each
-pub places_push : (file : ℕ) (source : List ℕ) (tokens : List Token) (token : Token) → All (IsSliceOf file source) tokens → StandBetween 0 tokens token.from → AllPairs (λ (a b : Token). IsBefore a.pos b.pos) tokens → token.pos ≡ place_at file source token.from → token.from ≤ length source → AllPairs (λ (a b : Token). IsBefore a.pos b.pos) (tokens ++ token ∷ [])
+pub places_push : (file : ℕ) (source : List ℕ) (tokens : List Token) (token : Token) → All (IsTokenOf file source) tokens → StandBetween 0 tokens token.from → AllPairs (λ (a b : Token). IsBefore a.pos b.pos) tokens → token.pos ≡ place_at file source token.from → token.from ≤ length source → AllPairs (λ (a b : Token). IsBefore a.pos b.pos) (tokens ++ token ∷ [])
 places_push file source tokens token slices stand places place within =
     all_pairs_push (λ (a b : Token). IsBefore a.pos b.pos) tokens token places
     (λ k d h.
     let earlier = get_or tokens k d in
-    let slice : IsSliceOf file source earlier = slices k d h in
+    let slice : IsTokenOf file source earlier = slices k d h in
     let begins : earlier.from < token.from = All-from_recursion (λ (t : Token). t.from < token.from) tokens (each_before 0 tokens token.from stand) k d h in
     rw (slice.place, place) (place_at-before file source earlier.from token.from begins within))
-
--- a token of its parts
-abbrev pub token_of : Lexeme → Pos → ℕ → ℕ → List ℕ → Token
-token_of lexeme pos from to text = record { lexeme = lexeme; pos = pos; from = from; to = to; text = text }
 
 -- the state of the lexer: the tokens so far, and the place, the offset and the bytes of what is left
 pub record IsAt (file : ℕ) (source : List ℕ) (tokens : List Token) (pos : Pos) (from : ℕ) (rest : List ℕ) : Type 0 where
@@ -106,7 +103,7 @@ pub record IsAt (file : ℕ) (source : List ℕ) (tokens : List Token) (pos : Po
   pub left : rest ≡ drop from source
   pub place : pos ≡ place_at file source from
   pub all : with_tokens tokens (tokens_from file source from 0 rest) ≡ tokens_of file source
-  pub slices : All (IsSliceOf file source) tokens
+  pub each : All (IsTokenOf file source) tokens
   pub stand : StandBetween 0 tokens from
   pub places : AllPairs (λ (a b : Token). IsBefore a.pos b.pos) tokens
 
@@ -128,9 +125,14 @@ made : (file : ℕ) (source : List ℕ) (from n : ℕ) (rest : List ℕ) (pos : 
 made file source from n rest pos lexeme place left =
     let less : from + n - from ≡ n = omega arith in rw (place, left, less) refl
 
-slice_made : (file : ℕ) (source : List ℕ) (from n : ℕ) (rest : List ℕ) (pos : Pos) (lexeme : Lexeme) → pos ≡ place_at file source from → rest ≡ drop from source → IsSliceOf file source (token_of lexeme pos from (from + n) (take n rest))
-slice_made file source from n rest pos lexeme place left =
-    let less : from + n - from ≡ n = omega arith in record { text = rw (left, less) refl; place = place }
+-- and a token of the source
+token_made : (file : ℕ) (source : List ℕ) (from n : ℕ) (rest : List ℕ) (pos : Pos) (lexeme : Lexeme) → pos ≡ place_at file source from → rest ≡ drop from source → IsAscii (take n rest) → IsTokenOf file source (token_of lexeme pos from (from + n) (take n rest))
+token_made file source from n rest pos lexeme place left ascii =
+    let less : from + n - from ≡ n = omega arith in
+    let file_at : pos.file ≡ file = rw place (file-place_at file source from) in
+    let line_at : 0 < pos.line = rw place (counted-place_at file source from).0 in
+    let col_at : 0 < pos.col = rw place (counted-place_at file source from).1 in
+    record { text = rw (left, less) refl; ascii = ascii; place = place; in_file = file_at; line = line_at; column = col_at }
 
 -- a separator or a comment leads on
 pub blank_step : {file : ℕ} {source : List ℕ} {tokens : List Token} {pos : Pos} {from : ℕ} {rest : List ℕ} → IsAt file source tokens pos from rest → (n : ℕ) → cut_of rest ≡ Some (cut.Blank n) → 0 < n → n ≤ length rest → IsAt file source tokens (place_after pos (take n rest)) (from + n) (drop n rest)
@@ -139,7 +141,7 @@ blank_step {file} {source} {tokens} {pos} {from} {rest} is n e some fits = recor
   left = further source from n rest is.left;
   place = placed file source from n rest pos is.place is.left;
   all = ap (with_tokens tokens) (sym (tokens_from-blank file source from n rest e some)) ∙ is.all;
-  slices = is.slices;
+  each = is.each;
   stand = StandBetween-later 0 tokens from (from + n) is.stand (omega arith);
   places = is.places;
 }
@@ -155,9 +157,9 @@ token_step {file} {source} {tokens} {pos} {from} {rest} is n lexeme e some fits 
       ∙ ap (λ (t : Token). with_tokens tokens (with_token t (tokens_from file source (from + n) 0 (drop n rest)))) (made file source from n rest pos lexeme is.place is.left)
       ∙ ap (with_tokens tokens) (sym (tokens_from-token file source from n lexeme rest e some))
       ∙ is.all;
-  slices = All-push (IsSliceOf file source) tokens (token_of lexeme pos from (from + n) (take n rest)) is.slices (slice_made file source from n rest pos lexeme is.place is.left);
+  each = All-push (IsTokenOf file source) tokens (token_of lexeme pos from (from + n) (take n rest)) is.each (token_made file source from n rest pos lexeme is.place is.left (token_ascii rest lexeme n e));
   stand = StandBetween-push 0 tokens from (token_of lexeme pos from (from + n) (take n rest)) is.stand (omega arith) (omega arith);
-  places = places_push file source tokens (token_of lexeme pos from (from + n) (take n rest)) is.slices is.stand is.places is.place is.within;
+  places = places_push file source tokens (token_of lexeme pos from (from + n) (take n rest)) is.each is.stand is.places is.place is.within;
 }
 
 -- at nothing of the language the source has that fault

@@ -4,3 +4,4 @@ pub mod Places
 pub mod Cutting
 pub mod Delimiters
 mod Examples
+pub mod AsciiTexts

@@ -79,3 +79,30 @@ place_at-before file source at later less within =
     let more : later ≡ at + (later - at) = omega arith in
     let some : 0 < length (take (later - at) (drop at source)) = omega (arith, length-take (later - at) (drop at source), length-drop at source) in
     rw (more, place_at-more file source at (later - at)) (after_before (place_at file source at) (take (later - at) (drop at source)) some)
+
+file_step : (b : Bool) (p : Pos) → (if b then record p { line = p.line + 1; col = 1 } else record p { col = p.col + 1 }).file ≡ p.file
+file_step true p = refl
+file_step false p = refl
+
+-- no byte leads to another file
+file-place_after : (place : Pos) (bytes : List ℕ) → (place_after place bytes).file ≡ place.file
+file-place_after place [] = refl
+file-place_after place (byte ∷ bytes) = file-place_after (place_behind place byte) bytes ∙ file_step (byte == 10) place
+
+pub file-place_at : (file : ℕ) (source : List ℕ) (at : ℕ) → (place_at file source at).file ≡ file
+file-place_at file source at =
+    let start : Pos = record { file = file; line = 1; col = 1 } in file-place_after start (take at source)
+
+counted_step : (b : Bool) (p : Pos) → 0 < p.line → 0 < p.col → (0 < (if b then record p { line = p.line + 1; col = 1 } else record p { col = p.col + 1 }).line) × (0 < (if b then record p { line = p.line + 1; col = 1 } else record p { col = p.col + 1 }).col)
+counted_step true p line col = (omega arith, omega arith)
+counted_step false p line col = (omega arith, omega arith)
+
+-- lines and columns count from 1
+counted : (place : Pos) (bytes : List ℕ) → 0 < place.line → 0 < place.col → (0 < (place_after place bytes).line) × (0 < (place_after place bytes).col)
+counted place [] line col = (line, col)
+counted place (byte ∷ bytes) line col =
+    let step = counted_step (byte == 10) place line col in counted (place_behind place byte) bytes step.0 step.1
+
+pub counted-place_at : (file : ℕ) (source : List ℕ) (at : ℕ) → (0 < (place_at file source at).line) × (0 < (place_at file source at).col)
+counted-place_at file source at =
+    let start : Pos = record { file = file; line = 1; col = 1 } in counted start (take at source) (omega arith) (omega arith)

@@ -1,38 +1,42 @@
 -- What a token is (Ada RM 2012, 2.2 to 2.9), and how each word and delimiter is spelled.
-use Rattle.std.specs.Prelude.{ℕ, List, [], ◌∷◌, Option, Some, None, codes}
+use Rattle.std.specs.Prelude.{ℕ, List, [], ◌∷◌, Bool, true, false, if◌then◌else◌, Option, Some, None, codes}
 use Rattle.ada_lexer.specs.declared.token.Lexeme.{Lexeme}
 use Rattle.ada_lexer.specs.declared.token.Lexeme.TheVariants as lexeme
 use Rattle.ada_lexer.specs.declared.token.TokenKind.{TokenKind}
 use Rattle.ada_lexer.specs.declared.token.TokenKind.TheVariants as kind
+
+-- whether a lexeme is a delimiter
+abbrev pub is_delimiter : Lexeme → Bool
+is_delimiter lexeme.LeftParenthesis = true
+is_delimiter lexeme.RightParenthesis = true
+is_delimiter lexeme.Comma = true
+is_delimiter lexeme.Semicolon = true
+is_delimiter lexeme.Colon = true
+is_delimiter lexeme.Dot = true
+is_delimiter lexeme.Tick = true
+is_delimiter lexeme.Plus = true
+is_delimiter lexeme.Minus = true
+is_delimiter lexeme.Star = true
+is_delimiter lexeme.Slash = true
+is_delimiter lexeme.Equal = true
+is_delimiter lexeme.Less = true
+is_delimiter lexeme.Greater = true
+is_delimiter lexeme.Bar = true
+is_delimiter lexeme.Arrow = true
+is_delimiter lexeme.Becomes = true
+is_delimiter lexeme.DoubleDot = true
+is_delimiter lexeme.NotEqual = true
+is_delimiter lexeme.LessOrEqual = true
+is_delimiter lexeme.GreaterOrEqual = true
+is_delimiter lexeme.Box = true
+is_delimiter _ = false
 
 -- a lexeme's kind
 abbrev pub kind_of : Lexeme → TokenKind
 kind_of lexeme.Identifier = kind.Word
 kind_of (lexeme.Numeral value) = kind.Numeral
 kind_of lexeme.Text = kind.Text
-kind_of lexeme.LeftParenthesis = kind.Delimiter
-kind_of lexeme.RightParenthesis = kind.Delimiter
-kind_of lexeme.Comma = kind.Delimiter
-kind_of lexeme.Semicolon = kind.Delimiter
-kind_of lexeme.Colon = kind.Delimiter
-kind_of lexeme.Dot = kind.Delimiter
-kind_of lexeme.Tick = kind.Delimiter
-kind_of lexeme.Plus = kind.Delimiter
-kind_of lexeme.Minus = kind.Delimiter
-kind_of lexeme.Star = kind.Delimiter
-kind_of lexeme.Slash = kind.Delimiter
-kind_of lexeme.Equal = kind.Delimiter
-kind_of lexeme.Less = kind.Delimiter
-kind_of lexeme.Greater = kind.Delimiter
-kind_of lexeme.Bar = kind.Delimiter
-kind_of lexeme.Arrow = kind.Delimiter
-kind_of lexeme.Becomes = kind.Delimiter
-kind_of lexeme.DoubleDot = kind.Delimiter
-kind_of lexeme.NotEqual = kind.Delimiter
-kind_of lexeme.LessOrEqual = kind.Delimiter
-kind_of lexeme.GreaterOrEqual = kind.Delimiter
-kind_of lexeme.Box = kind.Delimiter
-kind_of _ = kind.Reserved
+kind_of other = if is_delimiter other then kind.Delimiter else kind.Reserved
 
 -- the reserved words, in lower case (2.9)
 abbrev pub reserved_words : List (List ℕ × Lexeme)

@@ -1,5 +1,5 @@
 -- The tokens of a source.
-use Rattle.std.specs.Prelude.{◌≡◌, ℕ, zero, suc, ◌+◌, ◌-◌, ◌<◌, ◌≤◌, List, [], ◌∷◌, ◌==◌, Option, Some, None, Result, Ok, Err, if◌then◌else◌, length, take, ◌⊎◌}
+use Rattle.std.specs.Prelude.{◌≡◌, ℕ, zero, suc, ◌+◌, ◌-◌, ◌<◌, ◌≤◌, List, [], ◌∷◌, ◌==◌, Option, Some, None, Result, Ok, Err, if◌then◌else◌, length, take, ◌⊎◌, IsAscii}
 use Rattle.std.specs.List.{slice_range}
 use Rattle.cov_base.specs.declared.failure.Failure.{Failure}
 use Rattle.cov_base.specs.declared.failure.Failure.TheVariants.{Fault, WantOfMemory}
@@ -25,10 +25,13 @@ place_after place (byte ∷ bytes) = place_after (place_behind place byte) bytes
 abbrev pub place_at : ℕ → List ℕ → ℕ → Pos
 place_at file source at = place_after (record { file = file; line = 1; col = 1 }) (take at source)
 
+-- a token of its parts
+abbrev pub token_of : Lexeme → Pos → ℕ → ℕ → List ℕ → Token
+token_of lexeme pos from to text = record { lexeme = lexeme; pos = pos; from = from; to = to; text = text }
+
 -- a token is a slice of its source
 abbrev pub token_at : ℕ → List ℕ → Lexeme → ℕ → ℕ → Token
-token_at file source lexeme from to =
-    record { lexeme = lexeme; pos = place_at file source from; from = from; to = to; text = slice_range source from to }
+token_at file source lexeme from to = token_of lexeme (place_at file source from) from to (slice_range source from to)
 
 -- tokens, or the place where there is none
 abbrev pub Tokens : Type 0
@@ -57,10 +60,14 @@ tokens_from file source from (suc within) (byte ∷ left) = tokens_from file sou
 abbrev pub tokens_of : ℕ → List ℕ → Tokens
 tokens_of file source = tokens_from file source 0 0 source
 
--- a token's text is the slice of the source between its offsets, and its place is that of its first byte
-pub record IsSliceOf (file : ℕ) (source : List ℕ) (token : Token) : Type 0 where
+-- a token of a source: its text is the slice between its offsets, in ASCII, and its place is that of its first byte, in the file, line and column from 1
+pub record IsTokenOf (file : ℕ) (source : List ℕ) (token : Token) : Type 0 where
   pub text : token.text ≡ slice_range source token.from token.to
+  pub ascii : IsAscii token.text
   pub place : token.pos ≡ place_at file source token.from
+  pub in_file : token.pos.file ≡ file
+  pub line : 0 < token.pos.line
+  pub column : 0 < token.pos.col
 
 -- tokens stand one behind the other between two offsets, each with a byte at least
 abbrev pub StandBetween : ℕ → List Token → ℕ → Type 0

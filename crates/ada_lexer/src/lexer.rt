@@ -2,18 +2,19 @@
 
 ghost use Rattle.std.specs.Prelude.{◌≡◌, ◌+◌, ◌-◌, ◌^◌, ◌<◌, length, All, AllPairs, IfOk, IfErr};
 ghost use Rattle.ada_lexer.specs.Tokens.{
+  token_of,
   place_after,
   tokens_of,
-  IsSliceOf,
+  IsTokenOf,
   StandBetween,
   IsBefore,
   Fails,
 };
 
 use crate::cut::{Cut, cut_off};
-use crate::token::Token;
+use crate::token::{Lexeme, Token};
 use cov_base::{Bytes, Failure, Pos};
-use std::alloc::Global;
+use std::alloc::{AllocError, Global};
 use thiserror::Error;
 
 /// A source has no tokens: nothing of the language stands at this place.
@@ -30,7 +31,7 @@ pub struct LexFault {
 pub fn lex(alloc: Global, file: u32, source: &[u8]) -> Result<Vec<Token>, Failure<LexFault>>
     requires { length source.now < 2 ^ 32 - 1 }
     ensures tokens { IfOk result (λ tokens. tokens_of file source.now ≡ Ok tokens.items) }
-    ensures slices { IfOk result (λ tokens. All (IsSliceOf file source.now) tokens.items) }
+    ensures each { IfOk result (λ tokens. All (IsTokenOf file source.now) tokens.items) }
     ensures rising { IfOk result (λ tokens. StandBetween 0 tokens.items (length source.now)) }
     ensures places { IfOk result (λ tokens. AllPairs (λ a b. IsBefore a.pos b.pos) tokens.items) }
     ensures fault { IfErr result (λ failure. Fails failure (tokens_of file source.now)) }
@@ -54,22 +55,34 @@ pub fn lex(alloc: Global, file: u32, source: &[u8]) -> Result<Vec<Token>, Failur
             }
             Some(Cut::Token(lexeme, length)) => {
                 let (bytes, after) = rest.split_at(length);
-                let to = from + length as u32;
-                let text = Bytes::from(Vec::from_slice(alloc, bytes)?);
-                tokens.push(Token {
-                    lexeme,
-                    pos,
-                    from,
-                    to,
-                    text,
-                })?;
+                tokens.push(make_token(alloc, lexeme, pos, from, bytes)?)?;
                 pos = pos_after(pos, bytes);
-                from = to;
+                from += length as u32;
                 rest = after;
             }
         }
     }
     Ok(tokens)
+}
+
+/// The token that bytes are which begin at `pos` and at the offset `from`.
+fn make_token(
+    alloc: Global,
+    lexeme: Lexeme,
+    pos: Pos,
+    from: u32,
+    bytes: &[u8],
+) -> Result<Token, AllocError>
+    requires { from + length bytes.now < 2 ^ 32 }
+    ensures { IfOk result (λ t. t ≡ token_of lexeme pos from (from + length bytes.now) bytes.now) }
+{
+    Ok(Token {
+        lexeme,
+        pos,
+        from,
+        to: from + bytes.len() as u32,
+        text: Bytes::from(Vec::from_slice(alloc, bytes)?),
+    })
 }
 
 /// The place behind bytes that begin at `pos`.

@@ -1,7 +1,7 @@
 //! The tokens of a source text: what each is, where it stands, and its text.
 
 ghost use Rattle.std.specs.Prelude.{◌≡◌};
-ghost use Rattle.ada_lexer.specs.Lexeme.{kind_of};
+ghost use Rattle.ada_lexer.specs.Lexeme.{is_delimiter, kind_of};
 
 use cov_base::{Bytes, Pos};
 
@@ -158,30 +158,40 @@ impl Lexeme {
             Lexeme::Identifier => TokenKind::Word,
             Lexeme::Numeral(_) => TokenKind::Numeral,
             Lexeme::Text => TokenKind::Text,
-            Lexeme::LeftParenthesis
-            | Lexeme::RightParenthesis
-            | Lexeme::Comma
-            | Lexeme::Semicolon
-            | Lexeme::Colon
-            | Lexeme::Dot
-            | Lexeme::Tick
-            | Lexeme::Plus
-            | Lexeme::Minus
-            | Lexeme::Star
-            | Lexeme::Slash
-            | Lexeme::Equal
-            | Lexeme::Less
-            | Lexeme::Greater
-            | Lexeme::Bar
-            | Lexeme::Arrow
-            | Lexeme::Becomes
-            | Lexeme::DoubleDot
-            | Lexeme::NotEqual
-            | Lexeme::LessOrEqual
-            | Lexeme::GreaterOrEqual
-            | Lexeme::Box => TokenKind::Delimiter,
+            delimiter if delimiter.is_delimiter() => TokenKind::Delimiter,
             _ => TokenKind::Reserved,
         }
+    }
+
+    /// Whether the lexeme is a delimiter.
+    fn is_delimiter(self) -> bool
+        ensures { result ≡ is_delimiter self }
+    {
+        matches!(
+            self,
+            Lexeme::LeftParenthesis
+                | Lexeme::RightParenthesis
+                | Lexeme::Comma
+                | Lexeme::Semicolon
+                | Lexeme::Colon
+                | Lexeme::Dot
+                | Lexeme::Tick
+                | Lexeme::Plus
+                | Lexeme::Minus
+                | Lexeme::Star
+                | Lexeme::Slash
+                | Lexeme::Equal
+                | Lexeme::Less
+                | Lexeme::Greater
+                | Lexeme::Bar
+                | Lexeme::Arrow
+                | Lexeme::Becomes
+                | Lexeme::DoubleDot
+                | Lexeme::NotEqual
+                | Lexeme::LessOrEqual
+                | Lexeme::GreaterOrEqual
+                | Lexeme::Box
+        )
     }
 }
 

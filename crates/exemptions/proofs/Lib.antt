@@ -1,3 +1,4 @@
 pub mod Turns
 pub mod Spellings
 mod Examples
+pub mod Places

@@ -1,5 +1,5 @@
 -- The regions of a source that are exempt from coverage.
-use Rattle.std.specs.Prelude.{◌≡◌, ℕ, List, [], ◌∷◌, ◌==◌, ◌&&◌, ◌||◌, Bool, true, false, Result, Ok, Err, if◌then◌else◌, nat_lt}
+use Rattle.std.specs.Prelude.{◌≡◌, ℕ, List, [], ◌∷◌, ◌==◌, ◌&&◌, ◌||◌, Bool, true, false, Result, Ok, Err, if◌then◌else◌, nat_lt, ◌<◌, All, AllPairs, IsAscii}
 use Rattle.std.specs.List.{list_any}
 use Rattle.cov_base.specs.declared.failure.Failure.{Failure}
 use Rattle.cov_base.specs.declared.failure.Failure.TheVariants.{Fault, WantOfMemory}
@@ -9,6 +9,7 @@ use Rattle.ada_lexer.specs.declared.token.Token.{Token}
 use Rattle.exemptions.specs.declared.mark.Mark.{Mark}
 use Rattle.exemptions.specs.declared.mark.Mark.TheVariants as mark
 use Rattle.exemptions.specs.declared.pairing.Unpaired.{Unpaired}
+use Rattle.ada_lexer.specs.Tokens.{IsTokenOf, IsBefore}
 use Rattle.exemptions.specs.Marks.{marks_of}
 
 -- regions, or the pragma that pairs with none
@@ -60,6 +61,37 @@ is_inside pos region =
 -- whether one of the regions holds a place
 abbrev pub is_exempt : List Region → Pos → Bool
 is_exempt regions pos = list_any (is_inside pos) regions
+
+-- where a region begins, and where it ends
+abbrev pub start_of : Region → Pos
+start_of region = record { file = region.file; line = region.from_line; col = region.from_column }
+
+abbrev pub end_of : Region → Pos
+end_of region = record { file = region.file; line = region.to_line; col = region.to_column }
+
+-- a region of a file ends behind its beginning, counts lines and columns from 1, and says why in ASCII
+pub record IsRegionOf (file : ℕ) (region : Region) : Type 0 where
+  pub in_file : region.file ≡ file
+  pub from_line : 0 < region.from_line
+  pub from_column : 0 < region.from_column
+  pub to_line : 0 < region.to_line
+  pub to_column : 0 < region.to_column
+  pub ordered : IsBefore (start_of region) (end_of region)
+  pub ascii : IsAscii region.why
+
+-- the tokens of a file, in their order
+pub record AreTokensOf (file : ℕ) (source : List ℕ) (tokens : List Token) : Type 0 where
+  pub each : All (IsTokenOf file source) tokens
+  pub places : AllPairs (λ a b. IsBefore a.pos b.pos) tokens
+
+-- regions of a file, each of which begins behind the end of those before it
+pub record AreRegionsOf (file : ℕ) (regions : List Region) : Type 0 where
+  pub each : All (IsRegionOf file) regions
+  pub apart : AllPairs (λ a b. IsBefore (end_of a) (start_of b)) regions
+
+-- where tokens are those of a file, these regions are regions of the file
+abbrev pub ArePlaced : List Token → List Region → Type 0
+ArePlaced tokens regions = (file : ℕ) (source : List ℕ) → AreTokensOf file source tokens → AreRegionsOf file regions
 
 -- a failed call met this fault, where memory wasn't refused
 abbrev pub Fails : Failure Unpaired → Paired → Type 0

@@ -10,6 +10,7 @@ ghost use Rattle.exemptions.specs.Regions.{
   is_before,
   is_inside,
   is_exempt,
+  ArePlaced,
   Fails,
 };
 ghost use Rattle.exemptions.specs.Open.{paired_behind, IsEndOf, IsClosed};
@@ -100,6 +101,7 @@ fn region(from: Pos, why: Bytes, to: Pos) -> Region
 /// one, or an On that no Off follows.
 pub fn regions(alloc: Global, tokens: &[Token]) -> Result<Vec<Region>, Failure<Unpaired>>
     ensures regions { IfOk result (λ regions. regions_of tokens.now ≡ Ok regions.items) }
+    ensures placed { IfOk result (λ regions. ArePlaced tokens.now regions.items) }
     ensures fault { IfErr result (λ failure. Fails failure (regions_of tokens.now)) }
 {
     let mut regions = Vec::new(alloc);

@@ -1,4 +1,4 @@
-use Rattle.std.proofs.Common.{◌≡◌, ◌<◌, ◌≤◌, Some, length, take}
+use Rattle.std.proofs.Common.{◌≡◌, ◌<◌, ◌≤◌, Some, length}
 use Rattle.ada_lexer.specs.declared.cut.Cut.TheVariants as cut
 use Rattle.ada_lexer.specs.Cut.{cut_of}
 use Rattle.ada_lexer.proofs.Places.{line_fits, col_fits}
@@ -49,5 +49,4 @@ loop-rest-preserved c =
     let fits : n ≤ length c.loop-rest.rest.now = rw c.in-Some-Token.field-0-is at c.in-Some-Token.ensures.within in
     let some : 0 < n = rw c.in-Some-Token.field-0-is at c.in-Some-Token.ensures.some in
     let h = c.split_at-in-Some-Token.ensures in
-    let text : c.from-text.result ≡ take n c.loop-rest.rest.now = cc (c.from-text.ensures, h.front, c.in_ok-from_slice-in-Some-Token.ensures.items) in
-    rw (c.in_ok-push-in-Some-Token.ensures.items, c.pos_after-pos-in-Some-Token.ensures, text, h.front, h.back) (token_step c.loop-rest.invariant n c.in-Some-Token.lexeme e some fits)
+    rw (c.in_ok-push-in-Some-Token.ensures.items, c.in_ok-make_token-in-Some-Token.ensures, c.pos_after-pos-in-Some-Token.ensures, h.front_len, h.front, h.back) (token_step c.loop-rest.invariant n c.in-Some-Token.lexeme e some fits)

@@ -1,10 +1,11 @@
-use Rattle.std.proofs.Common.{◌≡◌, ◌∙◌, List, Some, ap, sym}
+use Rattle.std.proofs.Common.{◌≡◌, ◌∙◌, List, Some, ap, sym, length}
 use Rattle.exemptions.specs.declared.mark.Mark.{Mark}
 use Rattle.exemptions.specs.declared.mark.Mark.TheVariants as mark
 use Rattle.exemptions.specs.Marks.{mark_of, marks_of}
 use Rattle.exemptions.specs.Regions.{paired}
 use Rattle.exemptions.specs.Open.{paired_behind}
-use Rattle.exemptions.proofs.Turns.{with_regions, with_regions-push, marks_of-front}
+use Rattle.exemptions.proofs.Turns.{with_regions, with_regions-push, marks_of-front, all_done}
+use Rattle.exemptions.proofs.Places.{regions_of-placed}
 use Rattle.exemptions.proofs.pairing.regions.Goals as goal
 
 pub loop-after-preserved : goal.loop-after-preserved
@@ -19,3 +20,9 @@ loop-after-preserved c =
     ∙ ap (with_regions done) (sym (c.in_ok-ended-in-Some-Off.ensures (marks_of after)))
     ∙ ap (λ (ms : List Mark). with_regions done (paired_behind c.loop-after.opened ms)) (sym front)
     ∙ c.loop-after.invariant)
+
+pub returns-clause-placed : goal.returns-clause-placed
+returns-clause-placed c =
+    let none : length c.loop-after.rest.now ≡ 0 = c.in_default.ensures.cases in
+    let all = all_done c.loop-after.regions.items c.loop-after.opened c.loop-after.rest.now c.args.tokens.now c.loop-after.invariant none c.in_ok-closed.ensures in
+    regions_of-placed c.args.tokens.now c.loop-after.regions.items all
