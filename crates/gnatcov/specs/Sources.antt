@@ -1,5 +1,5 @@
 -- Why a source is refused, and where.
-use Rattle.std.specs.Prelude.{◌≡◌, ℕ, List, length, nat_le, Option, Some, None, Result, Ok, Err, option_map, unwrap_or, if◌then◌else◌}
+use Rattle.std.specs.Prelude.{◌≡◌, ℕ, List, length, nat_le, Option, Some, Result, Ok, Err, option_map, unwrap_or, if◌then◌else◌}
 use Rattle.ada_lexer.specs.declared.lexer.LexFault.{LexFault}
 use Rattle.ada_lexer.specs.declared.token.Token.{Token}
 use Rattle.ada_lexer.specs.Nesting.{nested_of}
