@@ -1,0 +1,4 @@
+pub mod Placed
+pub mod Reach
+pub mod Laws
+pub mod Marks
