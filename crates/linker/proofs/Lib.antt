@@ -1,0 +1,4 @@
+pub mod Places
+pub mod Gathering
+pub mod Roles
+pub mod Rises
