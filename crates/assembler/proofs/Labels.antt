@@ -50,7 +50,7 @@ labels_follow pieces k piece j is_piece within =
     let (has, is) = label_follows base piece.items j within in
     (subst (λ ls. j < length ls) (sym own) has, ap (λ ls. slice_index ls j) own ∙ is)
 
-lies_from : (address : ℕ) (pieces : List Piece) (k j : ℕ) → address % 4 ≡ 0 → HasLabel (labels_from address pieces) k j → (address_of (labels_from address pieces) k j % 4 ≡ 0) × (address ≤ address_of (labels_from address pieces) k j) × (address_of (labels_from address pieces) k j ≤ address + 4 * words_in pieces)
+pub lies_from : (address : ℕ) (pieces : List Piece) (k j : ℕ) → address % 4 ≡ 0 → HasLabel (labels_from address pieces) k j → (address_of (labels_from address pieces) k j % 4 ≡ 0) × (address ≤ address_of (labels_from address pieces) k j) × (address_of (labels_from address pieces) k j ≤ address + 4 * words_in pieces)
 lies_from address [] k j aligned has = absurd (omega arith)
 lies_from address (p ∷ ps) zero j aligned has =
     let (multiple, behind, before) = label_lies address p.items j aligned has in

@@ -1,4 +1,7 @@
 pub mod Places
 pub mod Gathering
 pub mod Roles
-pub mod Rises
+pub mod Rising
+pub mod Words
+pub mod RowMarks
+pub mod RoleMarks

@@ -10,7 +10,7 @@ use Rattle.object_format.specs.Text.{is_in_text}
 use Rattle.assembler.proofs.Labels.{first_begins}
 use Rattle.assembler.proofs.Codes.{pieces_length}
 use Rattle.linker.specs.Linked.{HasWord}
-use Rattle.linker.specs.Laws.{IsEntered}
+use Rattle.linker.specs.Laws.{IsEntered, LinkedArePlaced}
 
 pub labels_count : (address : ℕ) (pieces : List Piece) → length (labels_from address pieces) ≡ length pieces
 labels_count address [] = refl
@@ -39,3 +39,7 @@ is_entered pieces init has_word =
     let words = text_words pieces in
     ap (is_in_text (map word (code pieces))) (entry_is pieces has_word)
     ∙ begins_in (map word (code pieces)) (omega arith)
+
+pub linked_are_placed : LinkedArePlaced
+linked_are_placed pieces init exceptions items in_reach in_time =
+    record { text = refl; items = items; in_reach = in_reach; in_time = in_time }

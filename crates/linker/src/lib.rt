@@ -13,5 +13,5 @@ mod linking;
 mod tests;
 
 pub use image::Image;
-pub use laws::linked_marks_are_whole;
+pub use laws::{items_have_their_marks, linked_marks_are_whole};
 pub use linking::link;

@@ -4,7 +4,7 @@ ghost use Rattle.std.specs.Prelude.{◌≡◌, IfOk};
 ghost use Rattle.assembler.specs.Reach.{AreInReach, EndInTime};
 ghost use Rattle.linker.specs.Linked.{HasWord};
 
-use crate::{link, linked_marks_are_whole};
+use crate::{items_have_their_marks, link, linked_marks_are_whole};
 use assembler::{Item, Label, Mark, Piece, PieceId};
 use cov_base::{CondIx, DecId, InstId, Seq, StmtId};
 use line_table::RoleKind;
@@ -88,6 +88,7 @@ fn pieces(alloc: Global) -> Result<Vec<Piece>, AllocError>
 #[test]
 fn marks_have_the_addresses_of_their_items(rt: HostRuntime) -> Result<(), Fail> {
     linked_marks_are_whole();
+    items_have_their_marks();
     let pieces = pieces(rt.alloc())?;
     let image = link(rt.alloc(), pieces.as_slice(), &[7, 8])?;
     assert_eq!(rt; (image.entry, image.init_at), (0x1_0000, 0x100_0000));

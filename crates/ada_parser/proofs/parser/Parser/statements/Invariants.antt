@@ -1,0 +1,16 @@
+use Rattle.std.proofs.Common.{◌<◌, ◌≤◌, ℕ, length, List}
+use Rattle.ada_syntax.specs.StatementTree.{Statement}
+use Rattle.ada_parser.specs.StatementReading as read
+use Rattle.ada_parser.specs.Reading.{Reading}
+use Rattle.ada_parser.specs.Shows.{Reads, More}
+use Rattle.ada_parser.proofs.parser.Parser.statements.Given as goal
+
+-- what is read from here is what is read from the beginning
+abbrev pub invariant-rest : goal.invariant-rest
+invariant-rest l = record {
+  reads : (q : Reading (List Statement)) → More (read.statements_turn l.self.extent) l.rest l.statements.items q → Reads (read.statements_by l.self.extent) l.tokens q;
+  shorter : length l.rest < length l.tokens;
+}
+
+abbrev pub decreases-rest : goal.decreases-rest
+decreases-rest l = length l.rest

@@ -1,0 +1,24 @@
+//! The parser: from the tokens of a file to the syntax trees of its library units.
+//!
+//! The grammar stands in `specs/` as what token lists derive, a case for each production; it knows
+//! nothing of the parser. Productions open with an [`Extent`]; today's is that of straight-line
+//! programs.
+//!
+//! The contract that the layers above use: [`parse`] answers the units that the tokens derive, or
+//! else, where they derive none, the place at which they are refused.
+#![tactic(auto)]
+
+mod expressions;
+mod extent;
+mod fault;
+mod names;
+mod parser;
+mod refusal;
+mod statements;
+mod symbol;
+#[cfg(test)]
+mod tests;
+mod units;
+
+pub use crate::extent::Extent;
+pub use crate::refusal::{SyntaxFault, parse};

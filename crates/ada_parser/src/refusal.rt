@@ -1,0 +1,69 @@
+//! Files, and the places of refusals.
+
+ghost use Rattle.std.specs.Prelude.{◌≡◌, IfOk, IfErr, sum_by};
+ghost use Rattle.ada_syntax.specs.Nodes.{unit_nodes};
+ghost use Rattle.ada_parser.specs.NodeTokens.{node_tokens};
+ghost use Rattle.ada_parser.specs.declared.extent.Extent.TheVariants.{StraightLine};
+ghost use Rattle.ada_parser.specs.Grammar.{IsFile};
+ghost use Rattle.ada_parser.specs.Refusal as refusal;
+
+use crate::extent::Extent;
+use crate::fault::Fault;
+use crate::parser::Parser;
+use ada_lexer::Token;
+use ada_syntax::Unit;
+use cov_base::{Failure, Pos};
+use std::alloc::Global;
+use thiserror::Error;
+
+/// The tokens derive no file. The place is that of the first token with which the tokens so far
+/// begin none, or, where there is no such token, that of the last one. Without tokens it is line 1
+/// and column 1 of file 0.
+#[derive(Clone, Copy, Debug, PartialEq, Eq, Error)]
+#[error("syntax error")]
+pub struct SyntaxFault {
+    pub pos: Pos,
+}
+
+/// The place of the last token, if there is one.
+#[tactic(auto, using(crate::proofs::RefusalLaws::end_places))]
+fn end_place(tokens: &[Token]) -> Pos
+    ensures { result ≡ refusal.end_place tokens.now }
+{
+    match tokens.split_last() {
+        Some((last, _)) => last.pos,
+        None => Pos {
+            file: 0,
+            line: 1,
+            col: 1,
+        },
+    }
+}
+
+/// The place of a refusal, where reading stops before `rest`.
+fn refused_at(rest: &[Token], tokens: &[Token]) -> Pos
+    ensures { result ≡ refusal.place_of rest.now tokens.now }
+{
+    match rest.split_first() {
+        Some((token, _)) => token.pos,
+        None => end_place(tokens),
+    }
+}
+
+/// The library units of a file, from its tokens.
+#[tactic(auto, using(crate::proofs::RefusalLaws::parses))]
+pub fn parse(alloc: Global, tokens: &[Token]) -> Result<Vec<Unit>, Failure<SyntaxFault>>
+    ensures tree { IfOk result (λ units. IsFile StraightLine units.items tokens.now) }
+    ensures only_tree { IfOk result (λ units. refusal.IsOnlyFile StraightLine tokens.now units.items) }
+    ensures nodes { IfOk result (λ units. sum_by unit_nodes units.items ≡ node_tokens tokens.now) }
+    ensures refused { IfErr result (refusal.RefusedBy StraightLine tokens.now) }
+{
+    let extent = Extent::StraightLine;
+    match (Parser { alloc, extent }).file(tokens) {
+        Ok(units) => Ok(units),
+        Err(Fault::Syntax(rest)) => Err(Failure::Fault(SyntaxFault {
+            pos: refused_at(rest, tokens),
+        })),
+        Err(Fault::Memory) => Err(Failure::WantOfMemory),
+    }
+}
