@@ -1,5 +1,5 @@
 -- What reading with one token in view depends on.
-use Rattle.std.proofs.Common.{◌≡◌, ℕ, zero, suc, ◌+◌, ◌<◌, ◌≤◌, Bool, true, false, List, [], ◌∷◌, length, refl, sym, ◌∙◌, ap, subst, arith}
+use Rattle.std.proofs.Common.{◌≡◌, ℕ, zero, suc, ◌≤◌, Bool, true, false, [], ◌∷◌, length, refl, sym, ◌∙◌, ap, subst, arith}
 use Rattle.ada_lexer.specs.declared.token.Token.{Token}
 use Rattle.ada_parser.specs.declared.symbol.Symbol.{Symbol}
 use Rattle.ada_parser.specs.Symbols.{symbol_of, same}

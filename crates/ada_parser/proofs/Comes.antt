@@ -1,12 +1,12 @@
 -- Reading that gets on: combinators and loops, when what they meet is known.
-use Rattle.std.proofs.Common.{◌≡◌, ℕ, zero, suc, ◌+◌, ◌<◌, ◌≤◌, Bool, true, false, List, [], ◌∷◌, length, refl, ap, sym, ◌∙◌, subst, arith}
+use Rattle.std.proofs.Common.{◌≡◌, ℕ, zero, suc, ◌<◌, ◌≤◌, [], ◌∷◌, length, refl, ap, ◌∙◌, arith}
 use denote.Enum.Bare.{true_same}
 use Rattle.ada_lexer.specs.declared.token.Token.{Token}
 use Rattle.ada_parser.specs.declared.symbol.Symbol.{Symbol}
 use Rattle.ada_parser.specs.declared.symbol.Symbol.TheVariants as symbol
 use Rattle.ada_parser.specs.contracts.symbol.Symbol.{the_type}
-use Rattle.ada_parser.specs.Symbols.{symbol_of, same, Is}
-use Rattle.ada_parser.specs.Reading.{Tokens, Reading, Reader, Got, Stuck, Turn, Refuse, Leave, Take, Look, got, goes_on, ◌>>=◌, turned, ended, on_token, provided, accept, expect, skip, looped, repeat}
+use Rattle.ada_parser.specs.Symbols.{symbol_of, Is}
+use Rattle.ada_parser.specs.Reading.{Tokens, Reading, Reader, Got, Turn, Leave, Take, Look, got, goes_on, turned, on_token, accept, expect, skip, looped, repeat}
 
 -- how tightly a token binds what stands before it: 0 in a name, 1 in a term, 2 in a sum, 3 in a relation, 4 in a chain of relations; 5 not at all
 abbrev pub binding : Symbol → ℕ

@@ -1,8 +1,8 @@
 -- What derives tokens is read of them.
-use Rattle.std.proofs.Common.{◌≡◌, ◌≢◌, ℕ, zero, suc, ◌+◌, ◌<◌, ◌≤◌, Bool, true, false, List, [], ◌∷◌, ◌++◌, length, Option, Some, None, refl, ap, sym, ◌∙◌, subst, arith}
+use Rattle.std.proofs.Common.{◌≡◌, ℕ, zero, suc, ◌<◌, ◌≤◌, Bool, true, false, List, [], ◌∷◌, ◌++◌, length, Some, None, refl, ap, sym, ◌∙◌, subst, arith}
 use denote.Enum.Bare.{true_same}
 use Rattle.ada_lexer.specs.declared.token.Token.{Token}
-use Rattle.ada_syntax.specs.Tree.{Expr, numeral, named, parenthesized, unary, binary, relation, logical, expr_pos, Name, simple, selected, attribute, applied, name_pos}
+use Rattle.ada_syntax.specs.Tree.{Expr, named, parenthesized, unary, binary, relation, logical, expr_pos, Name, simple, selected, attribute, applied, name_pos}
 use Rattle.ada_syntax.specs.TreeView.{exprs_of}
 use Rattle.ada_syntax.specs.declared.expr.UnaryOperator.{UnaryOperator}
 use Rattle.ada_syntax.specs.declared.expr.UnaryOperator.TheVariants as unary_operator
@@ -14,13 +14,13 @@ use Rattle.ada_parser.specs.declared.symbol.Symbol.{Symbol}
 use Rattle.ada_parser.specs.declared.symbol.Symbol.TheVariants as symbol
 use Rattle.ada_parser.specs.contracts.symbol.Symbol.{the_type}
 use Rattle.ada_parser.specs.declared.extent.Extent.{Extent}
-use Rattle.ada_parser.specs.declared.extent.Extent.TheVariants.{Objects, Decisions, ShortCircuit}
-use Rattle.ada_parser.specs.Symbols.{symbol_of, Is, same, identifier_of, value_of, sign_of, multiplying, adding, relational_of, first_word}
+use Rattle.ada_parser.specs.declared.extent.Extent.TheVariants.{Objects}
+use Rattle.ada_parser.specs.Symbols.{symbol_of, Is, same, identifier_of, sign_of, multiplying, adding, relational_of, first_word}
 use Rattle.ada_parser.specs.Extents.{opens}
-use Rattle.ada_parser.specs.Reading.{Tokens, Reading, Reader, Got, Turn, Refuse, Leave, Take, Look, got, goes_on, ◌>>=◌, turned, on_token, provided, expect, skip, looped, repeat}
+use Rattle.ada_parser.specs.Reading.{Tokens, Reading, Reader, Got, Refuse, Leave, Take, Look, got, ◌>>=◌, turned, on_token, provided, expect, skip, repeat}
 use Rattle.ada_parser.specs.Expressions.{Level, primary, factor, term, signed, sums, related, expression, IsExpr, a_numeral, a_name, in_parentheses, a_primary, an_abs, a_not, a_factor, a_product, a_term, a_signed_term, a_first_term, a_sum, a_simple, a_relation, a_single, a_chain, IsChain, a_pair, a_longer, Joins, by_and, by_or, by_xor, by_and_then, by_or_else, IsName, an_identifier, a_selection, an_attribute, an_application, AreExprs, one_expr, more_exprs}
 use Rattle.ada_parser.specs.ExpressionReading as read
-use Rattle.ada_parser.proofs.Comes.{binding, next_binding, Ends, ends_less, ends_at, got_bind, got_then, got_expect, got_skip, got_closed, on_symbol, Comes, Leaves, comes_leave, comes_take}
+use Rattle.ada_parser.proofs.Comes.{binding, Ends, ends_less, ends_at, got_bind, got_then, got_expect, got_skip, got_closed, on_symbol, Comes, Leaves, comes_leave, comes_take}
 use Rattle.ada_parser.proofs.ExpressionLengths.{shorter, chain_shorter, name_shorter, exprs_shorter, joins_shorter}
 use Rattle.ada_parser.proofs.ExpressionSound.{first_of_name}
 

@@ -1,12 +1,8 @@
 -- A derivation takes at least one token, and no operator begins an operand.
-use Rattle.std.proofs.Common.{◌≡◌, ℕ, ◌+◌, ◌<◌, Bool, true, false, List, [], ◌∷◌, ◌++◌, length, refl, ap, arith}
-use Rattle.ada_lexer.specs.declared.token.Token.{Token}
+use Rattle.std.proofs.Common.{◌<◌, List, length, arith}
 use Rattle.ada_syntax.specs.Tree.{Expr, Name}
 use Rattle.ada_syntax.specs.declared.expr.LogicalOperator.{LogicalOperator}
-use Rattle.ada_parser.specs.declared.symbol.Symbol.{Symbol}
-use Rattle.ada_parser.specs.declared.symbol.Symbol.TheVariants as symbol
 use Rattle.ada_parser.specs.declared.extent.Extent.{Extent}
-use Rattle.ada_parser.specs.Symbols.{symbol_of, Is, sign_of}
 use Rattle.ada_parser.specs.Reading.{Tokens}
 use Rattle.ada_parser.specs.Expressions.{Level, IsExpr, a_numeral, a_name, in_parentheses, a_primary, an_abs, a_not, a_factor, a_product, a_term, a_signed_term, a_first_term, a_sum, a_simple, a_relation, a_single, a_chain, IsChain, a_pair, a_longer, Joins, by_and, by_or, by_xor, by_and_then, by_or_else, IsName, an_identifier, a_selection, an_attribute, an_application, AreExprs, one_expr, more_exprs}
 

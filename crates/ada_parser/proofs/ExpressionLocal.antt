@@ -15,7 +15,7 @@ use Rattle.ada_parser.specs.declared.extent.Extent.{Extent}
 use Rattle.ada_parser.specs.declared.extent.Extent.TheVariants.{Objects, Decisions, ShortCircuit}
 use Rattle.ada_parser.specs.Symbols.{same, identifier_of, sign_of, multiplying, adding, relational_of, first_word}
 use Rattle.ada_parser.specs.Extents.{opens}
-use Rattle.ada_parser.specs.Reading.{Reader, Refuse, Leave, got, ◌>>=◌, on_token, expect, skip, repeat}
+use Rattle.ada_parser.specs.Reading.{Reader, Refuse, Leave, got, ◌>>=◌, expect, skip, repeat}
 use Rattle.ada_parser.specs.ExpressionReading as read
 use Rattle.ada_parser.proofs.Agree.{Local, LocalTurn, stuck_local, got_local, on_local, bind_local, expect_local, skip_local, provided_local, repeat_local}
 

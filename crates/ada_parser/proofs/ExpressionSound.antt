@@ -1,11 +1,10 @@
 -- What is read of a name or an expression derives the tokens.
-use Rattle.std.proofs.Common.{◌≡◌, ℕ, zero, suc, Bool, true, false, List, [], ◌∷◌, ◌++◌, Option, Some, None, refl, ap, subst}
+use Rattle.std.proofs.Common.{◌≡◌, ℕ, zero, suc, Bool, true, false, List, [], ◌∷◌, Option, Some, None, refl, ap, subst}
 use denote.Enum.Bare.{same_true}
 use Rattle.ada_lexer.specs.declared.token.Token.{Token}
-use Rattle.ada_syntax.specs.Tree.{Expr, named, parenthesized, unary, binary, relation, logical, expr_pos, Name, simple, selected, attribute, applied, name_pos}
+use Rattle.ada_syntax.specs.Tree.{Expr, named, parenthesized, logical, expr_pos, Name, simple, selected, attribute, applied, name_pos}
 use Rattle.ada_syntax.specs.TreeView.{exprs_of}
 use Rattle.ada_syntax.specs.declared.expr.UnaryOperator.{UnaryOperator}
-use Rattle.ada_syntax.specs.declared.expr.UnaryOperator.TheVariants as unary_operator
 use Rattle.ada_syntax.specs.declared.expr.BinaryOperator.{BinaryOperator}
 use Rattle.ada_syntax.specs.declared.expr.RelationalOperator.{RelationalOperator}
 use Rattle.ada_syntax.specs.declared.expr.LogicalOperator.{LogicalOperator}
@@ -17,7 +16,7 @@ use Rattle.ada_parser.specs.declared.extent.Extent.{Extent}
 use Rattle.ada_parser.specs.declared.extent.Extent.TheVariants.{Objects, Decisions, ShortCircuit}
 use Rattle.ada_parser.specs.Symbols.{symbol_of, Is, same, identifier_of, sign_of, multiplying, adding, relational_of, first_word}
 use Rattle.ada_parser.specs.Extents.{opens}
-use Rattle.ada_parser.specs.Reading.{Tokens, Reader, Refuse, Leave, got, ◌>>=◌, on_token, expect, skip, repeat}
+use Rattle.ada_parser.specs.Reading.{Tokens, Reader, Refuse, got, on_token, expect, repeat}
 use Rattle.ada_parser.specs.Expressions.{Level, primary, factor, term, signed, sums, related, expression, IsExpr, a_numeral, a_name, in_parentheses, a_primary, an_abs, a_not, a_factor, a_product, a_term, a_signed_term, a_first_term, a_sum, a_simple, a_relation, a_single, a_chain, IsChain, a_pair, a_longer, Joins, by_and, by_or, by_xor, by_and_then, by_or_else, IsName, an_identifier, a_selection, an_attribute, an_application, AreExprs, one_expr, more_exprs}
 use Rattle.ada_parser.specs.ExpressionReading as read
 use Rattle.ada_parser.proofs.Yields.{Yields, YieldsTurn, bind_yields, turned_yields, provided_yields, Takes, taken, expect_yields, skip_yields, repeat_yields, weaken}

@@ -15,3 +15,4 @@ pub mod StatementCode
 pub mod UnitCode
 pub mod RefusalLaws
 pub mod NodeLaws
+mod Examples

@@ -1,10 +1,10 @@
 -- Loops from a state on.
-use Rattle.std.proofs.Common.{◌≡◌, ℕ, zero, suc, ◌+◌, ◌<◌, ◌≤◌, List, [], ◌∷◌, length, refl, ap, sym, ◌∙◌, arith}
+use Rattle.std.proofs.Common.{◌≡◌, ℕ, zero, suc, ◌<◌, ◌≤◌, [], ◌∷◌, length, refl, ap, ◌∙◌, arith}
 use Rattle.ada_lexer.specs.declared.token.Token.{Token}
 use Rattle.ada_parser.specs.declared.symbol.Symbol.{Symbol}
 use Rattle.ada_parser.specs.Symbols.{symbol_of}
 use Rattle.ada_parser.specs.Reading.{Tokens, Reading, Reader, Got, Stuck, Turn, Refuse, Leave, Take, Look, goes_on, turned, looped, repeat}
-use Rattle.ada_parser.specs.Shows.{Reads, More}
+use Rattle.ada_parser.specs.Shows.{More}
 
 module _ {S : Type 0} (turns : ℕ → Symbol → Token → S → Turn S) where
   pub more_end : (s : S) → More turns [] s (Got s [])

@@ -1,7 +1,6 @@
 -- The loops over actuals and over the parts of a name.
-use Rattle.std.proofs.Common.{◌≡◌, ℕ, zero, suc, ◌+◌, ◌<◌, ◌≤◌, Bool, true, false, cond, List, [], ◌∷◌, ◌++◌, length, Option, Some, None, refl, ap, sym, ◌∙◌, subst, arith}
-use denote.Enum.Bare.{same_true, true_same}
-use Rattle.std.proofs.lemmas.Bool.{false≢true}
+use Rattle.std.proofs.Common.{◌≡◌, ℕ, zero, suc, ◌<◌, Bool, true, false, cond, List, [], ◌∷◌, ◌++◌, length, Some, None, refl, ap, sym, ◌∙◌, subst, arith}
+use denote.Enum.Bare.{same_true}
 use Rattle.ada_lexer.specs.declared.token.Token.{Token}
 use Rattle.ada_syntax.specs.Tree.{Expr, Name, simple, selected, attribute, applied}
 use Rattle.ada_syntax.specs.TreeView.{exprs_of}
@@ -13,7 +12,7 @@ use Rattle.ada_parser.specs.declared.extent.Extent.{Extent}
 use Rattle.ada_parser.specs.declared.extent.Extent.TheVariants.{Objects}
 use Rattle.ada_parser.specs.Symbols.{symbol_of, Is, same, identifier_of}
 use Rattle.ada_parser.specs.Extents.{opens}
-use Rattle.ada_parser.specs.Reading.{Tokens, Reading, Reader, Got, Stuck, Turn, Refuse, Leave, Take, Look, got, goes_on, ◌>>=◌, turned, on_token, provided, expect, skip, looped, repeat}
+use Rattle.ada_parser.specs.Reading.{Tokens, Reading, Reader, Got, Stuck, Leave, Take, got, goes_on, ◌>>=◌, provided, expect, skip, repeat}
 use Rattle.ada_parser.specs.ExpressionReading as read
 use Rattle.ada_parser.specs.Depth as at
 use Rattle.ada_parser.specs.Shows.{Reads, More, Skipped, Identified, after}

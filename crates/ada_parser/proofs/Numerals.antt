@@ -1,6 +1,6 @@
 -- Expressions of straight-line programs: a numeral alone.
 use Rattle.std.proofs.lemmas.Bool.{false≢true}
-use Rattle.std.proofs.Common.{true≢false, ◌≡◌, ◌≢◌, ℕ, zero, suc, ◌+◌, ◌<◌, ◌≤◌, Bool, true, false, List, [], ◌∷◌, length, Option, Some, None, refl, ap, sym, ◌∙◌, arith}
+use Rattle.std.proofs.Common.{true≢false, ◌≡◌, ℕ, suc, true, false, [], ◌∷◌, Some, None, refl, ap, ◌∙◌}
 use Rattle.ada_lexer.specs.declared.token.Token.{Token}
 use Rattle.ada_syntax.specs.Tree.{Expr, numeral, named, parenthesized, unary, binary, relation, expr_pos}
 use Rattle.ada_syntax.specs.declared.expr.UnaryOperator.{UnaryOperator}

@@ -1,5 +1,5 @@
 -- How statements are read, answer by answer.
-use Rattle.std.proofs.Common.{◌≡◌, ℕ, suc, ◌+◌, ◌<◌, ◌≤◌, Bool, true, false, List, [], ◌∷◌, ◌++◌, length, None, refl, ap, sym, ◌∙◌, arith}
+use Rattle.std.proofs.Common.{◌≡◌, ℕ, suc, ◌<◌, true, false, List, [], ◌∷◌, ◌++◌, length, None, refl, ap, ◌∙◌, arith}
 use Rattle.std.proofs.lemmas.Bool.{false≢true}
 use Rattle.ada_lexer.specs.declared.token.Token.{Token}
 use Rattle.ada_syntax.specs.Tree.{Name}
@@ -8,7 +8,7 @@ use Rattle.ada_parser.specs.declared.symbol.Symbol.{Symbol}
 use Rattle.ada_parser.specs.declared.symbol.Symbol.TheVariants as symbol
 use Rattle.ada_parser.specs.declared.extent.Extent.{Extent}
 use Rattle.ada_parser.specs.Symbols.{symbol_of, Is}
-use Rattle.ada_parser.specs.Reading.{Tokens, Reading, Reader, Got, Stuck, Turn, Refuse, Leave, Take, Look, got, goes_on, ◌>>=◌, turned, on_token, expect, skip, repeat}
+use Rattle.ada_parser.specs.Reading.{Tokens, Reading, Got, Stuck, Refuse, Leave, Look, got, goes_on, turned, expect, skip, repeat}
 use Rattle.ada_parser.specs.StatementReading as read
 use Rattle.ada_parser.specs.Depth as at
 use Rattle.ada_parser.specs.Shows.{Reads, More, Skipped, next_is}

@@ -1,5 +1,5 @@
 -- How library units and files are read, answer by answer.
-use Rattle.std.proofs.Common.{◌≡◌, ℕ, suc, ◌+◌, ◌<◌, ◌≤◌, Bool, true, false, List, [], ◌∷◌, ◌++◌, length, Option, Some, None, refl, ap, sym, ◌∙◌, subst, arith}
+use Rattle.std.proofs.Common.{◌≡◌, ℕ, suc, ◌<◌, ◌≤◌, true, false, List, [], ◌∷◌, ◌++◌, length, Option, Some, None, refl, ap, sym, ◌∙◌, subst, arith}
 use Rattle.cov_base.specs.declared.position.Pos.{Pos}
 use Rattle.ada_lexer.specs.declared.token.Token.{Token}
 use Rattle.ada_syntax.specs.StatementTree.{Statement, handled, no_handlers}
@@ -14,9 +14,9 @@ use Rattle.ada_parser.specs.declared.symbol.Symbol.{Symbol}
 use Rattle.ada_parser.specs.declared.symbol.Symbol.TheVariants as symbol
 use Rattle.ada_parser.specs.declared.extent.Extent.{Extent}
 use Rattle.ada_parser.specs.declared.extent.Extent.TheVariants.{Subprograms}
-use Rattle.ada_parser.specs.Symbols.{symbol_of, Is, same, identifier_of}
+use Rattle.ada_parser.specs.Symbols.{symbol_of, same, identifier_of}
 use Rattle.ada_parser.specs.Extents.{opens}
-use Rattle.ada_parser.specs.Reading.{Tokens, Reading, Reader, Got, Stuck, Turn, Refuse, Leave, Take, Look, got, goes_on, ◌>>=◌, turned, on_token, provided, expect, skip, repeat}
+use Rattle.ada_parser.specs.Reading.{Tokens, Reading, Reader, Got, Stuck, Leave, Look, got, goes_on, ◌>>=◌, turned, provided, expect, skip, repeat}
 use Rattle.ada_parser.specs.Grammar.{procedure_body}
 use Rattle.ada_parser.specs.StatementReading.{statements_by}
 use Rattle.ada_parser.specs.UnitReading as read

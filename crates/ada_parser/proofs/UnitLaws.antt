@@ -1,5 +1,5 @@
 -- Library units and files: reading is local, sound and complete.
-use Rattle.std.proofs.Common.{◌≡◌, ℕ, zero, suc, ◌+◌, ◌<◌, ◌≤◌, Bool, true, false, List, [], ◌∷◌, ◌++◌, length, Option, Some, None, refl, ap, sym, ◌∙◌, subst, arith}
+use Rattle.std.proofs.Common.{◌≡◌, ℕ, suc, ◌<◌, ◌≤◌, List, [], ◌∷◌, ◌++◌, length, Option, Some, None, refl, ap, arith}
 use Rattle.cov_base.specs.declared.position.Pos.{Pos}
 use Rattle.ada_lexer.specs.declared.token.Token.{Token}
 use Rattle.ada_syntax.specs.StatementTree.{Statement}
@@ -14,14 +14,14 @@ use Rattle.ada_parser.specs.declared.extent.Extent.{Extent}
 use Rattle.ada_parser.specs.declared.extent.Extent.TheVariants.{Subprograms}
 use Rattle.ada_parser.specs.Symbols.{symbol_of, Is, identifier_of}
 use Rattle.ada_parser.specs.Extents.{opens}
-use Rattle.ada_parser.specs.Reading.{Tokens, Reading, Reader, Got, Turn, Refuse, Leave, Take, Look, got, goes_on, ◌>>=◌, turned, on_token, provided, expect, skip, looped, repeat}
+use Rattle.ada_parser.specs.Reading.{Tokens, Reader, Got, Refuse, Leave, Look, got, ◌>>=◌, provided, expect, skip, repeat}
 use Rattle.ada_parser.specs.StatementReading.{statements_by}
 use Rattle.ada_parser.specs.UnitReading as read
 use Rattle.ada_parser.specs.Statements.{AreStatements}
 use Rattle.ada_parser.specs.Grammar.{AreIdentifiers, one_identifier, more_identifiers, IsWith, a_with, AreWiths, no_withs, more_withs, IsEndName, no_end_name, an_end_name, procedure_body, IsBody, a_procedure, IsUnit, a_unit, AreUnits, one_unit, more_units, IsFile}
-use Rattle.ada_parser.proofs.Agree.{Local, LocalTurn, stuck_local, got_local, on_local, bind_local, expect_local, skip_local, provided_local, repeat_local}
+use Rattle.ada_parser.proofs.Agree.{Local, LocalTurn, got_local, on_local, bind_local, expect_local, skip_local, provided_local, repeat_local}
 use Rattle.ada_parser.proofs.ExpressionLocal.{then_got, then_closed}
-use Rattle.ada_parser.proofs.Yields.{Yields, YieldsTurn, bind_yields, turned_yields, provided_yields, Takes, taken, expect_yields, skip_yields, repeat_yields, weaken}
+use Rattle.ada_parser.proofs.Yields.{Yields, YieldsTurn, bind_yields, turned_yields, provided_yields, Takes, taken, expect_yields, skip_yields, repeat_yields}
 use Rattle.ada_parser.proofs.Comes.{got_bind, got_then, got_expect, got_skip, got_closed, on_symbol, Comes, Leaves, comes_leave, comes_take, comes_look}
 use Rattle.ada_parser.proofs.StatementLaws.{statements_local, statements_sound, statements_complete, statements_shorter}
 

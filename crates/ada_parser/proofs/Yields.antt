@@ -1,11 +1,11 @@
 -- What a reading yields, combinator by combinator.
-use Rattle.std.proofs.Common.{◌≡◌, ℕ, zero, suc, Bool, true, false, List, [], ◌∷◌, refl, ap, sym, subst}
+use Rattle.std.proofs.Common.{◌≡◌, ℕ, zero, suc, Bool, true, false, [], ◌∷◌, refl}
 use denote.Enum.Bare.{same_true}
 use Rattle.ada_lexer.specs.declared.token.Token.{Token}
 use Rattle.ada_parser.specs.declared.symbol.Symbol.{Symbol}
 use Rattle.ada_parser.specs.contracts.symbol.Symbol.{the_type}
 use Rattle.ada_parser.specs.Symbols.{symbol_of, same, Is}
-use Rattle.ada_parser.specs.Reading.{Tokens, Reading, Got, Stuck, Reader, Turn, Refuse, Leave, Take, Look, got, goes_on, ◌>>=◌, turned, on_token, provided, accept, expect, skip, looped, repeat}
+use Rattle.ada_parser.specs.Reading.{Tokens, Reading, Got, Stuck, Reader, Turn, Refuse, Leave, Take, Look, goes_on, ◌>>=◌, turned, provided, accept, expect, skip, looped, repeat}
 
 abbrev pub Yields : {A : Type 0} → (A → Tokens → Type 0) → Reading A → Type 0
 Yields P (Got x rest) = P x rest

@@ -15,7 +15,7 @@ use Rattle.ada_parser.specs.declared.extent.Extent.{Extent}
 use Rattle.ada_parser.specs.declared.extent.Extent.TheVariants.{Objects, Decisions, ShortCircuit}
 use Rattle.ada_parser.specs.Symbols.{same, identifier_of, value_of, sign_of, multiplying, adding, relational_of, first_word}
 use Rattle.ada_parser.specs.Extents.{opens}
-use Rattle.ada_parser.specs.Reading.{Tokens, Reader, Stuck, Turn, Refuse, Leave, Take, Look, got, ◌>>=◌, on_token, provided, expect, skip, repeat}
+use Rattle.ada_parser.specs.Reading.{Reader, Stuck, Turn, Refuse, Leave, Take, Look, got, ◌>>=◌, on_token, provided, expect, skip, repeat}
 
 -- `inner` reads an expression in parentheses, and `n` bounds each list
 module _ (x : Extent) (inner : Reader Expr) (n : ℕ) where

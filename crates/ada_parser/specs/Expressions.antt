@@ -1,6 +1,6 @@
 -- The names and expressions that token lists derive (Ada RM 2012, 4.1, 4.4): the tree stands at the front of the first list, and the
 -- second list is what follows it. One case for each production.
-use Rattle.std.specs.Prelude.{◌≡◌, List, [], ◌∷◌, ◌++◌, Option, Some, IsTrue}
+use Rattle.std.specs.Prelude.{◌≡◌, List, [], ◌∷◌, ◌++◌, Some, IsTrue}
 use Rattle.ada_lexer.specs.declared.token.Token.{Token}
 use Rattle.ada_syntax.specs.Tree.{Expr, numeral, named, parenthesized, unary, binary, relation, logical, expr_pos, Name, simple, selected, attribute, applied, name_pos}
 use Rattle.ada_syntax.specs.TreeView.{exprs_of}

@@ -1,9 +1,8 @@
 -- What the functions for units answer.
-use Rattle.std.specs.Prelude.{◌≡◌, ℕ, ◌<◌, length, List, [], ◌∷◌, Option, None, Result, Ok, Err, ⊤}
+use Rattle.std.specs.Prelude.{◌≡◌, ℕ, ◌<◌, length, [], None, Result, Ok, Err, ⊤}
 use Rattle.std.specs.Borrow.{Bor}
 use Rattle.cov_base.specs.declared.position.Pos.{Pos}
 use Rattle.ada_lexer.specs.declared.token.Token.{Token}
-use Rattle.ada_syntax.specs.StatementTree.{Statement}
 use Rattle.ada_syntax.specs.declared.unit.SubprogramBody.{SubprogramBody}
 use Rattle.ada_syntax.specs.declared.name.Identifier.{Identifier}
 use Rattle.ada_syntax.specs.declared.unit.Specification.{Specification}
@@ -11,12 +10,11 @@ use Rattle.ada_syntax.specs.declared.unit.Unit.{Unit as LibraryUnit}
 use Rattle.std.specs.declared.vec.Vec.{Vec}
 use Rattle.std.specs.declared.alloc.Global.{Global}
 use Rattle.ada_parser.specs.declared.symbol.Symbol.{Symbol}
-use Rattle.ada_parser.specs.declared.symbol.Symbol.TheVariants as symbol
 use Rattle.ada_parser.specs.declared.extent.Extent.{Extent}
 use Rattle.ada_parser.specs.declared.fault.Fault.{Fault}
 use Rattle.ada_parser.specs.declared.fault.Fault.TheVariants.{Syntax, Memory}
 use Rattle.ada_parser.specs.Symbols.{identifier_of}
-use Rattle.ada_parser.specs.Reading.{Tokens, Reading, Reader, Got, Stuck, got, ◌>>=◌, expect}
+use Rattle.ada_parser.specs.Reading.{Tokens, Reader, Got, Stuck, got, ◌>>=◌, expect}
 use Rattle.ada_parser.specs.Grammar.{procedure_body}
 use Rattle.ada_parser.specs.StatementReading.{statements_by}
 use Rattle.ada_parser.specs.UnitReading.{end_by, body_by, file_by}

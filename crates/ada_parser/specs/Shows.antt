@@ -1,5 +1,5 @@
 -- What a function of the parser answers, seen as a reading.
-use Rattle.std.specs.Prelude.{◌≡◌, ℕ, suc, ◌<◌, ◌≤◌, length, List, [], ◌∷◌, Bool, true, false, cond, Option, Some, None, Result, Ok, Err, ⊤}
+use Rattle.std.specs.Prelude.{◌≡◌, ℕ, ◌<◌, ◌≤◌, length, [], ◌∷◌, Bool, true, false, cond, Option, Some, None, Result, Ok, Err, ⊤}
 use Rattle.std.specs.Borrow.{Bor}
 use Rattle.ada_lexer.specs.declared.token.Token.{Token}
 use Rattle.ada_parser.specs.declared.fault.Fault.{Fault}

@@ -1,5 +1,5 @@
 -- How statements are read, with one token in view.
-use Rattle.std.specs.Prelude.{ℕ, suc, Bool, true, false, List, [], ◌∷◌, ◌++◌, Option, None}
+use Rattle.std.specs.Prelude.{ℕ, suc, Bool, true, false, List, [], ◌∷◌, ◌++◌, None}
 use Rattle.ada_lexer.specs.declared.token.Token.{Token}
 use Rattle.ada_syntax.specs.StatementTree.{Statement, null, call, returns}
 use Rattle.ada_parser.specs.declared.symbol.Symbol.{Symbol}

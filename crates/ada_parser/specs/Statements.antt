@@ -1,6 +1,6 @@
 -- The statements that token lists derive (Ada RM 2012, 5.1): the tree stands at the front of the first list, and the second list is what
 -- follows it. One case for each production.
-use Rattle.std.specs.Prelude.{List, [], ◌∷◌, ◌++◌, Option, None}
+use Rattle.std.specs.Prelude.{List, [], ◌∷◌, ◌++◌, None}
 use Rattle.ada_lexer.specs.declared.token.Token.{Token}
 use Rattle.ada_syntax.specs.Tree.{Name, name_pos}
 use Rattle.ada_syntax.specs.StatementTree.{Statement, null, call, returns}

@@ -2,7 +2,6 @@
 use Rattle.std.specs.Prelude.{ℕ, suc, List, [], ◌∷◌, ◌++◌, Option, Some, None}
 use Rattle.ada_lexer.specs.declared.token.Token.{Token}
 use Rattle.cov_base.specs.declared.position.Pos.{Pos}
-use Rattle.ada_syntax.specs.StatementTree.{Statement}
 use Rattle.ada_syntax.specs.declared.name.Identifier.{Identifier}
 use Rattle.ada_syntax.specs.declared.unit.SubprogramBody.{SubprogramBody}
 use Rattle.ada_syntax.specs.declared.unit.LibraryItem.TheVariants as item
@@ -14,7 +13,7 @@ use Rattle.ada_parser.specs.declared.extent.Extent.{Extent}
 use Rattle.ada_parser.specs.declared.extent.Extent.TheVariants.{Subprograms}
 use Rattle.ada_parser.specs.Symbols.{identifier_of}
 use Rattle.ada_parser.specs.Extents.{opens}
-use Rattle.ada_parser.specs.Reading.{Tokens, Reader, Turn, Refuse, Leave, Take, Look, got, ◌>>=◌, on_token, provided, expect, skip, repeat}
+use Rattle.ada_parser.specs.Reading.{Reader, Turn, Refuse, Leave, Take, Look, got, ◌>>=◌, on_token, provided, expect, skip, repeat}
 use Rattle.ada_parser.specs.Grammar.{procedure_body}
 use Rattle.ada_parser.specs.StatementReading.{statements_by}
 

@@ -1,4 +1,4 @@
-use Rattle.std.proofs.Common.{◌<◌, ◌≤◌, ℕ, length, List}
+use Rattle.std.proofs.Common.{◌<◌, length, List}
 use Rattle.ada_syntax.specs.declared.name.Identifier.{Identifier}
 use Rattle.ada_parser.specs.UnitReading as read
 use Rattle.ada_parser.specs.Reading.{Reading}

@@ -1,8 +1,8 @@
-use Rattle.std.proofs.Common.{sym, subst, ap, ◌∙◌, arith}
+use Rattle.std.proofs.Common.{subst, ap, ◌∙◌, arith}
 use Rattle.ada_syntax.specs.Tree.{Name, simple}
 use Rattle.ada_syntax.specs.TreeView.{with_suffixes}
 use Rattle.ada_syntax.proofs.Places.{with_suffixes-push}
-use Rattle.ada_parser.specs.Shows.{More, NextSuffix}
+use Rattle.ada_parser.specs.Shows.{More}
 use Rattle.ada_parser.specs.Depth as at
 use Rattle.ada_parser.proofs.parser.Parser.name.Goals as goal
 

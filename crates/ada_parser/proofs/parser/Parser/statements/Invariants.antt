@@ -1,4 +1,4 @@
-use Rattle.std.proofs.Common.{◌<◌, ◌≤◌, ℕ, length, List}
+use Rattle.std.proofs.Common.{◌<◌, length, List}
 use Rattle.ada_syntax.specs.StatementTree.{Statement}
 use Rattle.ada_parser.specs.StatementReading as read
 use Rattle.ada_parser.specs.Reading.{Reading}
