@@ -1,3 +1,4 @@
 pub mod Labels
 pub mod Codes
 pub mod Stands
+mod Examples

@@ -14,7 +14,7 @@ use rv_semantics::TEXT_START;
 use std::alloc::{AllocError, Global};
 
 /// Places pieces, puts the words of `init` behind them as data, and gives each mark the address of
-/// the item that it names. A mark that names no item of its piece is left out. The program begins at
+/// the label that it names; a mark that names none of its piece is left out. The program begins at
 /// the first word of the first piece.
 #[tactic(auto, using(crate::proofs::Places::labels_count, crate::proofs::Places::entry_is))]
 pub fn link(alloc: Global, pieces: &[Piece], init: &[u32]) -> Result<Image, AllocError>

@@ -7,9 +7,10 @@ use Rattle.rv_semantics.specs.declared.stepped.Stepped.TheVariants.{Went}
 use Rattle.rv_semantics.specs.State.{Image, State}
 use Rattle.rv_semantics.specs.Step.{step, fetched, decoded}
 use Rattle.rv_semantics.specs.Run.{Run, before, after, runs}
+use Rattle.rv_semantics.specs.Run.Outcome.{Ended}
 use Rattle.rv_semantics.specs.Past.{exec, turned, continued}
 use Rattle.placed_code.specs.Stretch.{config, Leads}
-use Rattle.placed_code.specs.Laws.{IsExecuted, NothingLeads, StretchesCompose}
+use Rattle.placed_code.specs.Laws.{IsExecuted, NothingLeads, StretchesCompose, StretchesEnd}
 
 pub is_executed : IsExecuted
 unfolding step
@@ -50,6 +51,12 @@ leads_on image s s' s'' input input' input'' es es' os os' a b = record {
       ∙ (b.carried k (put ++ os) (reverse es ++ past)
       ∙ (λ i. exec image k (config s'' input'' (append_assoc put os os' i) (past_twice es es' past i)))));
 }
+
+pub stretches_end : StretchesEnd
+stretches_end image s s' input input' es os entry number a b k = (
+  a.by (suc k) ∙ (ap (before es os) (b.by k) ∙ (λ i. record { entries = es ++ entry ∷ []; output = append-nil os i; outcome = Ended number })),
+  λ put past. a.carried (suc k) put past ∙ b.carried k (put ++ os) (reverse es ++ past),
+)
 
 -- a step that goes on
 

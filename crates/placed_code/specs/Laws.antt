@@ -1,5 +1,5 @@
 -- The laws of placed code: where code stands, how stretches compose, and what an address comes to.
-use Rattle.std.specs.Prelude.{◌≡◌, ℕ, ◌+◌, ◌-◌, ◌*◌, ◌/◌, ◌%◌, ◌^◌, ◌≤◌, ◌<◌, ℤ, List, [], ◌++◌, length, map, slice_get, Some}
+use Rattle.std.specs.Prelude.{◌≡◌, ℕ, suc, reverse, ◌+◌, ◌-◌, ◌*◌, ◌/◌, ◌%◌, ◌^◌, ◌≤◌, ◌<◌, ℤ, List, [], ◌∷◌, ◌++◌, length, map, slice_get, Some}
 use Rattle.std.specs.List.{AllByRecursion}
 use Rattle.rv_isa.specs.declared.instr.Instr.{Instr}
 use Rattle.rv_isa.specs.Rows.{word, IsInstr}
@@ -9,9 +9,12 @@ use Rattle.rv_semantics.specs.Layout.{memory_bytes, text_start}
 use Rattle.rv_semantics.specs.Arithmetic.{sum_32}
 use Rattle.rv_semantics.specs.State.{Image, State}
 use Rattle.rv_semantics.specs.Step.{step, act}
+use Rattle.rv_semantics.specs.Run.{runs}
+use Rattle.rv_semantics.specs.Run.Outcome.{Ended}
+use Rattle.rv_semantics.specs.Past.{exec, over}
 use Rattle.placed_code.specs.Code.{StandsAt, HasAt, text_end}
 use Rattle.placed_code.specs.Reach.{BranchReaches, JumpReaches, branch_halves, jump_halves}
-use Rattle.placed_code.specs.Stretch.{Leads}
+use Rattle.placed_code.specs.Stretch.{config, Leads, Ends}
 
 -- code of two parts stands where the first part does, with the second part behind it
 abbrev pub StandsInParts : Type 0
@@ -50,6 +53,16 @@ StretchesCompose =
     (image : Image) (s s' s'' : State) (input input' input'' : List ℤ) (es es' : List Seen) (os os' : List ℤ)
     → Leads image s input es os s' input' → Leads image s' input' es' os' s'' input''
     → Leads image s input (es ++ es') (os ++ os') s'' input''
+
+-- a stretch that comes to the end of the run is the whole run
+abbrev pub StretchesEnd : Type 0
+StretchesEnd =
+    (image : Image) (s s' : State) (input input' : List ℤ) (es : List Seen) (os : List ℤ) (entry : Seen) (number : ℕ)
+    → Leads image s input es os s' input' → Ends image s' input' entry number → (k : ℕ)
+    → (runs image (suc k + length es) s input ≡ record { entries = es ++ entry ∷ []; output = os; outcome = Ended number })
+    × ((put : List ℤ) (past : List Seen)
+    → exec image (suc k + length es) (config s input put past)
+    ≡ over number (config s' input' (put ++ os) (entry ∷ (reverse es ++ past))))
 
 -- word k of a frame lies below its end, whose address is a multiple of 4
 abbrev pub FrameWordsLie : Type 0

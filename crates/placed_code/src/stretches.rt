@@ -1,14 +1,15 @@
 //! Stretches of a run of more than one instruction.
 
 ghost use Rattle.placed_code.specs.Instructions.{LoopCounts};
-ghost use Rattle.placed_code.specs.Laws.{NothingLeads, StretchesCompose};
+ghost use Rattle.placed_code.specs.Laws.{NothingLeads, StretchesCompose, StretchesEnd};
 ghost use Rattle.placed_code.specs.Straight.{StraightGoes, StraightArrives};
 
 /// No instruction leads nowhere else, and two stretches of which the second begins where the first
-/// ends are one stretch.
+/// ends are one stretch. One that comes to the end of the run is the whole run.
 pub fn stretches_compose()
     ensures nothing { NothingLeads }
     ensures both { StretchesCompose }
+    ensures end { StretchesEnd }
 {}
 
 /// Straight code leads to the state that is computed from its instructions, behind its last one.

@@ -1,10 +1,8 @@
 -- What a rebuild holds after one entry more.
-use Rattle.std.proofs.Common.{◌≡◌, ◌↔◌, ℕ, ◌+◌, Bool, List, [], ◌∷◌, ◌++◌, map, length, filter_map, option_map, option_and_then, option_to_list, Option, Some, None, refl, sym, ap, subst, ◌∙◌, inl, inr, arith}
+use Rattle.std.proofs.Common.{◌≡◌, ◌+◌, List, [], ◌∷◌, ◌++◌, map, filter_map, option_to_list, Option, Some, None, refl, sym, ap, subst, ◌∙◌, inl, inr, arith}
 use Rattle.std.specs.List.{cons_option}
 use Rattle.std.proofs.lemmas.List.{length-append, map-append}
 use Rattle.std.proofs.lemmas.List.Elements.{filter_map-append}
-use Rattle.cov_base.specs.declared.event.Event.{Event}
-use Rattle.cov_base.specs.declared.event.Event.TheVariants.{Done}
 use Rattle.cov_base.specs.declared.event.Vector.{Vector}
 use Rattle.cov_base.specs.declared.failure.Failure.{Failure}
 use Rattle.cov_base.specs.declared.failure.Failure.TheVariants.{Fault, WantOfMemory}
@@ -15,9 +13,9 @@ use Rattle.transcript.proofs.Kept.{kept_follows, kept_completes, kept_keeps}
 use Rattle.transcript.proofs.Paths.{completed_law}
 use Rattle.transcript.specs.Computed.{completed, done_by, done_at}
 use Rattle.transcript.specs.Facts.{Facts, AreFair}
-use Rattle.transcript.specs.Reading.{Follows, AllFollow, AreDoneAt, Completes}
+use Rattle.transcript.specs.Reading.{Follows, AllFollow, AreDoneAt}
 use Rattle.transcript.specs.Replay.{begun, with_step, half_by, over_by, put_half, Keeps}
-use Rattle.transcript.specs.Trace.{visit_in, visits_in, Branched}
+use Rattle.transcript.specs.Trace.{visit_in, Branched}
 use Rattle.transcript.specs.Visit.{Key, Visit, onto}
 use Rattle.vector_rebuild.specs.declared.fault.BrokenHistory.{BrokenHistory}
 use Rattle.vector_rebuild.specs.declared.rebuild.Rebuild.{Rebuild}

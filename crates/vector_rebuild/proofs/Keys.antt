@@ -1,5 +1,5 @@
 -- Keys, as the program keeps them and as transcripts have them.
-use Rattle.std.proofs.Common.{◌≡◌, ℕ, Bool, true, false, cond, nat_eq, ◌&&◌, Option, Some, None, refl, sym, ap, subst, ◌∙◌}
+use Rattle.std.proofs.Common.{◌≡◌, Bool, true, false, cond, Option, refl}
 use Rattle.std.specs.Cmp.{nat_eq_equiv}
 use Rattle.transcript.specs.Visit.{Key as Activation, same_key}
 use Rattle.std.specs.Option.{option_map}

@@ -1,5 +1,5 @@
 -- The conditions that a checked object's roles name are those of its decisions.
-use Rattle.std.proofs.Common.{◌≡◌, ℕ, suc, zero, ◌+◌, ◌<◌, ◌≤◌, Bool, true, false, cond, nat_lt, ◌==◌, ◌&&◌, ◌||◌, List, [], ◌∷◌, ◌++◌, length, get_or, find, Option, Some, None, refl, sym, ap, subst, ◌∙◌, eqb-true, arith, option_and_then, slice_get}
+use Rattle.std.proofs.Common.{◌≡◌, ℕ, suc, zero, ◌+◌, ◌<◌, ◌≤◌, Bool, true, false, cond, nat_lt, ◌==◌, List, [], ◌∷◌, length, find, Some, None, refl, ap, ◌∙◌, eqb-true, arith, option_and_then, slice_get}
 use Rattle.std.specs.List.{list_all, AllByRecursion}
 use Rattle.std.proofs.lemmas.Bool.{and_parts, ltb-true}
 use Rattle.std.proofs.lemmas.List.{length-append}
@@ -13,7 +13,7 @@ use Rattle.decision_meaning.specs.Graph.{Next, node, nodes, graph}
 use Rattle.line_table.specs.declared.roles.Role.{Role}
 use Rattle.object_format.specs.Checked.{IsSound}
 use Rattle.object_format.specs.Decisions.{AreExpression}
-use Rattle.object_format.specs.Fields.{passes_field, condition_count, is_role, is_condition_role, is_other_role}
+use Rattle.object_format.specs.Fields.{condition_count, is_role, is_condition_role}
 use Rattle.object_format.specs.declared.object.Object.{Object}
 
 -- a graph has a node for each condition

@@ -1,11 +1,10 @@
 -- What the flags of blocks say, edge by edge.
-use Rattle.std.proofs.Common.{◌≡◌, ◌↔◌, ◌⊎◌, ℕ, suc, zero, ◌+◌, ◌<◌, Bool, true, false, not, List, [], ◌∷◌, ◌++◌, map, drop, length, slice_get, Option, Some, None, refl, sym, ap, subst, ◌∙◌, inl, inr, arith, if◌then◌else◌}
+use Rattle.std.proofs.Common.{◌≡◌, ◌↔◌, ◌⊎◌, ℕ, suc, zero, ◌+◌, Bool, true, false, not, List, [], ◌∷◌, ◌++◌, map, drop, slice_get, Option, Some, None, refl, sym, ap, subst, ◌∙◌, inl, inr, arith, if◌then◌else◌}
 use Rattle.cov_base.specs.declared.event.Event.{Event}
 use Rattle.cov_base.specs.declared.event.Event.TheVariants.{Start, Done}
 use Rattle.cov_base.specs.declared.event.Vector.{Vector}
 use Rattle.cov_base.specs.declared.position.DecId.{DecId}
-use Rattle.cov_base.specs.declared.position.InstId.{InstId}
-use Rattle.decision_meaning.specs.Graph.{Next, next_in}
+use Rattle.decision_meaning.specs.Graph.{next_in}
 use Rattle.decision_meaning.specs.Pair.{Somewhere}
 use Rattle.decision_meaning.specs.Path.{IsVectorOfLeaf, IsOutcome}
 use Rattle.trace_format.specs.declared.trace.Block.{Block as FileBlock}
@@ -14,7 +13,7 @@ use Rattle.transcript.proofs.Vectors.{one_vector}
 use Rattle.transcript.specs.Facts.{Facts, Condition, AreFair}
 use Rattle.transcript.specs.Trace.{Block, Trace, flag, IsFlagged}
 use Rattle.vector_rebuild.specs.Entries.{block_of}
-use Rattle.vector_rebuild.specs.Flagged.{EndsTree, EndsWith, EdgeSays, BlockSays, FlagsSay}
+use Rattle.vector_rebuild.specs.Flagged.{EndsWith, EdgeSays, BlockSays, FlagsSay}
 
 -- ---- one edge
 

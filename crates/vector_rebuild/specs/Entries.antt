@@ -1,5 +1,5 @@
 -- What a trace file says, in the words of transcripts.
-use Rattle.std.specs.Prelude.{ℕ, ◌==◌, map, None}
+use Rattle.std.specs.Prelude.{◌==◌, map, None}
 use Rattle.decision_map.specs.Blocks.{shows_edge}
 use Rattle.trace_format.specs.declared.trace.Block.{Block as FileBlock}
 use Rattle.trace_format.specs.declared.trace.HistoryEntry.{HistoryEntry}

@@ -1,5 +1,5 @@
 -- What a rebuild holds of a history.
-use Rattle.std.specs.Prelude.{◌≡◌, ℕ, nat_eq, Bool, ◌&&◌, List, [], ◌∷◌, ◌++◌, map, length, option_and_then, option_to_list, Option, Some, None}
+use Rattle.std.specs.Prelude.{◌≡◌, ℕ, nat_eq, Bool, ◌&&◌, List, [], map, length, option_and_then, option_to_list, Option, Some, None}
 use Rattle.std.specs.Option.{option_map}
 use Rattle.std.specs.HashMap.{get}
 use Rattle.cov_base.specs.declared.event.Event.{Event}

@@ -1,16 +1,20 @@
 //! The history of a recursive function, one that breaks, and the flags of tree decisions.
 
+ghost use Rattle.std.specs.Prelude.{◌≡◌, IfOk};
+ghost use Rattle.object_format.specs.Checked.{IsSound};
+
 mod given;
 
 use crate::{Rebuild, from_edges};
 use cov_base::{DecId, Event, Failure, InstId, Seq, Vector};
-use decision_map::DecisionMap;
+use decision_map::{DecisionMap, checked_objects_have_maps};
 use given::{NO_TREE, TREES};
-use object_format::read_whole_object;
+use object_format::{Object, read_whole_object};
+use spelling::write_file;
 use std::alloc::{AllocError, Global};
 use std::process::Abort;
 use std::test::Fail;
-use trace_format::{Block, HistoryEntry, Trace, TraceView, write_trace};
+use trace_format::{Block, HistoryEntry, Trace, TraceView};
 
 /// Pieces put together.
 fn whole(alloc: Global, pieces: &[&[u8]]) -> Result<Vec<u8>, AllocError> {
@@ -19,6 +23,15 @@ fn whole(alloc: Global, pieces: &[&[u8]]) -> Result<Vec<u8>, AllocError> {
         bytes.extend_from_slice(piece)?;
     }
     Ok(bytes)
+}
+
+/// The map of an object.
+fn map_of(alloc: Global, object: &Object) -> Result<DecisionMap<'_>, AllocError>
+    requires { IsSound object.now }
+    ensures { IfOk result (λ map. map ≡ object.now) }
+{
+    checked_objects_have_maps();
+    DecisionMap::of(alloc, object)
 }
 
 /// The evaluation of a decision by its bits.
@@ -43,7 +56,7 @@ static HISTORY: [(u32, u32, u8, Option<(u32, u32)>); 7] = [
 fn a_recursive_history_gives_its_evaluations(rt: HostRuntime) -> Result<(), Fail> {
     let bytes = whole(rt.alloc(), &NO_TREE)?;
     let object = read_whole_object(rt.alloc(), bytes.as_slice())?;
-    let map = DecisionMap::of(rt.alloc(), &object)?;
+    let map = map_of(rt.alloc(), &object)?;
     let mut rebuild = Rebuild::new(rt.alloc());
     for (address, x8, edge, completed) in &HISTORY {
         assert!(rt; map.needs_history(*address) && rebuild.fed() < 99);
@@ -62,7 +75,7 @@ fn a_recursive_history_gives_its_evaluations(rt: HostRuntime) -> Result<(), Fail
 fn a_history_without_its_first_entry_breaks(rt: HostRuntime) -> Result<(), Fail> {
     let bytes = whole(rt.alloc(), &NO_TREE)?;
     let object = read_whole_object(rt.alloc(), bytes.as_slice())?;
-    let map = DecisionMap::of(rt.alloc(), &object)?;
+    let map = map_of(rt.alloc(), &object)?;
     let mut rebuild = Rebuild::new(rt.alloc());
     assert!(rt; map.needs_history(0x1_007c) && rebuild.fed() == 0);
     let entry = HistoryEntry {
@@ -105,14 +118,14 @@ fn flagged(alloc: Global) -> Result<Vec<u8>, AllocError> {
         blocks: Seq::from(Vec::from_slice(alloc, &BRANCHES)?),
         history: Seq::from(Vec::new(alloc)),
     };
-    write_trace(alloc, &trace)
+    write_file(alloc, b"GCTR", 1, &trace)
 }
 
 #[test]
 fn flags_give_the_evaluations_of_trees(rt: HostRuntime) -> Result<(), Fail> {
     let bytes = whole(rt.alloc(), &TREES)?;
     let object = read_whole_object(rt.alloc(), bytes.as_slice())?;
-    let map = DecisionMap::of(rt.alloc(), &object)?;
+    let map = map_of(rt.alloc(), &object)?;
     let trace = flagged(rt.alloc())?;
     let view = TraceView::view(trace.as_slice())?;
     let events = from_edges(rt.alloc(), &map, &view)?;

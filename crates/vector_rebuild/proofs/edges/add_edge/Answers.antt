@@ -1,4 +1,4 @@
-use Rattle.std.proofs.Common.{◌≡◌, ◌↔◌, Some, ap, sym, ◌∙◌}
+use Rattle.std.proofs.Common.{◌≡◌, ◌↔◌, Some}
 use Rattle.cov_base.specs.declared.event.Event.{Event}
 use Rattle.object_facts.specs.Object.{facts_of}
 use Rattle.vector_rebuild.specs.Entries.{block_of}

@@ -1,4 +1,4 @@
-use Rattle.std.proofs.Common.{◌≡◌, Option, option_map, ap, sym, ◌∙◌}
+use Rattle.std.proofs.Common.{Option, option_map, ap, sym, ◌∙◌}
 use Rattle.decision_map.specs.declared.condition.Condition.{Condition}
 use Rattle.object_facts.specs.Object.{facts_of, condition_of}
 use Rattle.vector_rebuild.specs.Entries.{block_of}

@@ -1,14 +1,12 @@
-use Rattle.std.proofs.Common.{◌≡◌, List, Option, Some, ap, sym, subst, ◌∙◌}
+use Rattle.std.proofs.Common.{◌≡◌, List, Some, ap, subst, ◌∙◌}
 use Rattle.std.proofs.lemmas.Result.{err_from_is_err_and}
-use Rattle.cov_base.specs.declared.event.Vector.{Vector}
 use Rattle.condition_graph.specs.Target.{place_of}
 use Rattle.decision_meaning.specs.Graph.{Next, Edges, next_in}
 use Rattle.object_facts.proofs.Fair.{fair}
 use Rattle.object_facts.specs.Object.{facts_of}
 use Rattle.transcript.specs.Replay.{put_half}
 use Rattle.transcript.specs.Visit.{Key}
-use Rattle.trace_format.specs.declared.trace.HistoryEntry.{HistoryEntry}
-use Rattle.vector_rebuild.specs.Rebuilt.{visit_as, kept_of, taken_by, under_way, Rebuilds, IsRefusedAfter}
+use Rattle.vector_rebuild.specs.Rebuilt.{visit_as, kept_of, taken_by, under_way}
 use Rattle.vector_rebuild.proofs.Fed.{IsTaken, taken, now_holds, answers, answers_computed, refuses, edge_of, coming_to}
 use Rattle.vector_rebuild.proofs.rebuild.Rebuild.feed.Goals as goal
 

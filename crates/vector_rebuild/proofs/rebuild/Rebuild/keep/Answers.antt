@@ -1,7 +1,5 @@
-use Rattle.std.proofs.Common.{◌≡◌, Bool, true, false, cond, Option, Some, None, refl, sym, ap, ◌∙◌}
+use Rattle.std.proofs.Common.{refl, ap, ◌∙◌}
 use Rattle.std.specs.Option.{option_map}
-use Rattle.vector_rebuild.specs.declared.half.Half.{Half}
-use Rattle.transcript.specs.Replay.{Half as Open}
 use Rattle.vector_rebuild.specs.Rebuilt.{half_as, key_in, same}
 use Rattle.vector_rebuild.proofs.Keys.{half_as_cond}
 use Rattle.vector_rebuild.proofs.rebuild.Rebuild.keep.Goals as goal

@@ -1,0 +1,15 @@
+pub mod Sorting
+pub mod Keys
+pub mod Numbering
+pub mod Appending
+pub mod LeastPairs
+pub mod Collecting
+pub mod Giving
+pub mod Vectors
+pub mod ShownPairs
+pub mod Spelled
+pub mod Same
+pub mod Judging
+pub mod Totals
+pub mod Alike
+pub mod Sound

@@ -1,0 +1,9 @@
+use Rattle.std.proofs.Common.{◌∙◌, sym, ap, length}
+use Rattle.decision_meaning.proofs.Edges.{length_graph}
+use Rattle.annotated_report.specs.Findings.{expr_of}
+use Rattle.annotated_report.proofs.decisions.judge_decision.Goals as goal
+
+pub judge_pairs-requires-clause-conditions : goal.judge_pairs-requires-clause-conditions
+judge_pairs-requires-clause-conditions c =
+    let e = expr_of c.args.entry.now in
+    c.requires.placed ∙ sym (length_graph e) ∙ sym (ap length (c.in_ok-dec.ensures e c.requires.spelled))

@@ -1,0 +1,11 @@
+use Rattle.std.proofs.Common.{◌≡◌, ◌≤◌, ◌++◌, length, drop}
+use Rattle.std.specs.List.{filter}
+use Rattle.exemptions.specs.Regions.{is_exempt}
+use Rattle.annotated_report.proofs.selection.exempted.Given as goal
+
+-- those so far, and those among what is left, are all
+abbrev pub invariant-loop-finding : goal.invariant-loop-finding
+invariant-loop-finding l = record {
+  within : l.finding-index ≤ length l.findings;
+  rest : l.selected.items ++ filter (λ f. is_exempt l.regions f.key.pos) (drop l.finding-index l.findings) ≡ filter (λ f. is_exempt l.regions f.key.pos) l.findings;
+}

@@ -1,0 +1,13 @@
+pub mod Words
+pub mod Expression
+pub mod Verdicts
+pub mod LeastPair
+pub mod Numbered
+pub mod Marked
+pub mod Order
+pub mod Findings
+pub mod Shown
+pub mod Caller
+pub mod Lines
+pub mod Report
+pub mod Members

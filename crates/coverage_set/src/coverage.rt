@@ -1,0 +1,124 @@
+//! The coverage of an object.
+
+ghost use Rattle.std.specs.Prelude.{◌≡◌, ◌≢◌, ◌↔◌, ◌⊎◌, ℕ, List, [], IfOk, IfErr, OnOk, OnErr, AllPairs, None};
+ghost use Rattle.std.specs.List.Sorted.{IsStrictlySortedBy};
+ghost use Rattle.cov_base.specs.declared.event.Event.{Event};
+ghost use Rattle.decision_map.specs.Fits.{fault_of};
+ghost use Rattle.decision_meaning.specs.Pair.{Somewhere};
+ghost use Rattle.object_facts.specs.Object.{facts_of};
+ghost use Rattle.object_format.specs.Checked.{IsSound};
+ghost use Rattle.trace_format.specs.Checks.{IsClosed};
+ghost use Rattle.transcript.specs.Reading.{AllFollow};
+ghost use Rattle.transcript.specs.Trace.{Says};
+ghost use Rattle.vector_rebuild.specs.Entries.{trace_in};
+ghost use Rattle.vector_rebuild.specs.Rebuilt.{visits_of};
+ghost use Rattle.coverage_set.specs.Covered.{HasRun, Has, IsUnion, IsCountOfRuns};
+ghost use Rattle.coverage_set.specs.Exact.{event_cmp};
+ghost use Rattle.coverage_set.specs.Said.{IsBrokenBy};
+
+use crate::said::said;
+use crate::set::SortedSet;
+use cov_base::{Digest, Event, Failure};
+use decision_map::DecisionMap;
+use object_format::Object;
+use std::alloc::{AllocError, Global};
+use std::marker::Model;
+use trace_format::TraceView;
+use vector_rebuild::BrokenHistory;
+
+/// What runs of an object covered: the closing digests of their traces, and their events.
+#[derive(Drop)]
+pub struct Coverage<'a> {
+    alloc: Global,
+    object: &'a Object,
+    runs: SortedSet<Digest>,
+    events: SortedSet<Event>,
+}
+
+impl<'a> Model for Coverage<'a> {
+    ghost use Rattle.coverage_set.specs.Covered.{Covered};
+
+    ghost Value = { Covered };
+
+    ghost view = { λ c. record { object = c.object.now; runs = c.runs; events = c.events } };
+}
+
+impl<'a> Coverage<'a> {
+    /// No run of the object covered anything.
+    pub fn new(alloc: Global, object: &'a Object) -> Self
+        ensures object { result.object ≡ object.now }
+        ensures runs { (digest : List ℕ) → HasRun result digest → ⊥ }
+        ensures events { (e : Event) → Has result e → ⊥ }
+    {
+        Coverage {
+            alloc,
+            object,
+            runs: SortedSet::new(alloc),
+            events: SortedSet::new(alloc),
+        }
+    }
+
+    /// The object.
+    pub fn object(&self) -> &'a Object
+        ensures { result.now ≡ self.now.object }
+    {
+        self.object
+    }
+
+    /// How many runs there were. Runs whose traces are equal are one.
+    pub fn runs(&self) -> u64
+        ensures { IsCountOfRuns self.now result }
+    {
+        self.runs.as_slice().len() as u64
+    }
+
+    /// The events, each once: starts by statement and instance, then evaluations by decision, instance
+    /// and vector.
+    pub fn events(&self, alloc: Global) -> Result<Vec<Event>, AllocError>
+        ensures all { IfOk result (λ events. (e : Event) → Somewhere (λ x. x ≡ e) events.items ↔ Has self.now e) }
+        ensures each_once { IfOk result (λ events. AllPairs (λ x y. x ≢ y) events.items) }
+        ensures order { IfOk result (λ events. IsStrictlySortedBy event_cmp events.items) }
+    {
+        Vec::from_slice(alloc, self.events.as_slice())
+    }
+
+    /// Adds what a trace of the object says, and its run.
+    pub fn add_trace(
+        &mut self,
+        map: &DecisionMap<'_>,
+        view: &TraceView<'_>,
+    ) -> Result<(), Failure<BrokenHistory>>
+        // The map is of the coverage's object, which passed its checks, and the trace fits it.
+        requires sound { IsSound map.now }
+        requires object { map.now ≡ self.old.object }
+        requires fits { fault_of map.now view.now ≡ None }
+        ensures object { self.new.object ≡ self.old.object }
+        ensures events { OnOk result ((e : Event) → Has self.new e ↔ (Has self.old e ⊎ Says (facts_of map.now) (trace_in view.now) e)) }
+        ensures runs { OnOk result ((digest : List ℕ) → HasRun self.new digest ↔ (HasRun self.old digest ⊎ (view.now.closing ≡ digest))) }
+
+        // It is refused exactly where the history breaks, at the first entry that follows none before it.
+        ensures follow { OnOk result (AllFollow (facts_of map.now) [] (visits_of (facts_of map.now) view.now.history)) }
+        ensures broken { IfErr result (IsBrokenBy (facts_of map.now) (visits_of (facts_of map.now) view.now.history)) }
+        ensures refused { OnErr result (self.new ≡ self.old) }
+    {
+        let found = said(self.alloc, map, view)?;
+        let events = self.events.with(self.alloc, found.as_slice())?;
+        let runs = self.runs.with(self.alloc, &[view.closing()])?;
+        self.events = events;
+        self.runs = runs;
+        Ok(())
+    }
+
+    /// Adds what another coverage of the same object stands for.
+    pub fn join(&mut self, other: &Coverage<'_>) -> Result<(), AllocError>
+        requires { other.now.object ≡ self.old.object }
+        ensures ok { OnOk result (IsUnion self.old other.now self.new) }
+        ensures err { OnErr result (self.new ≡ self.old) }
+    {
+        let events = self.events.with(self.alloc, other.events.as_slice())?;
+        let runs = self.runs.with(self.alloc, other.runs.as_slice())?;
+        self.events = events;
+        self.runs = runs;
+        Ok(())
+    }
+}

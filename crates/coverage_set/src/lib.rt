@@ -1,0 +1,16 @@
+//! What runs of an object covered: the set of the runs, of the statements that started, and of the
+//! evaluations of decisions that were completed.
+//!
+//! The contract that the layers above use: [`Coverage::add_trace`] leads from a coverage to its union
+//! with what a trace says, or refuses exactly a trace whose history breaks. What a [`Coverage`] stands
+//! for is said by `HasRun` and `Has` of `specs/Covered.antt`, whatever it is kept in.
+#![tactic(auto)]
+
+mod coverage;
+mod exact;
+mod laws;
+mod said;
+mod set;
+
+pub use coverage::Coverage;
+pub use laws::unions_have_their_laws;
