@@ -5,3 +5,4 @@ pub mod SaidLaw
 pub mod UnionLaws
 pub mod Fitting
 pub mod Order
+pub mod RunLaw

@@ -13,4 +13,4 @@ mod said;
 mod set;
 
 pub use coverage::Coverage;
-pub use laws::unions_have_their_laws;
+pub use laws::{traces_of_runs_say_what_the_runs_tell, unions_have_their_laws};

@@ -5,7 +5,7 @@ use Rattle.std.proofs.lemmas.Option.{unwrap_or-slice_get}
 use Rattle.std.specs.Bool.{if◌then◌else◌}
 use Rattle.std.specs.List.{flat_map}
 use Rattle.std.specs.Result.{is_ok}
-use Rattle.gnatcov.specs.Content.{RunsTo}
+use Rattle.gnatcov.specs.Content.{RunsTo, trace_file}
 use Rattle.gnatcov.specs.RunLines.{run_lines}
 use Rattle.object_facts.specs.Object.{facts_of}
 use Rattle.object_facts.proofs.Placed.{run_ended}
@@ -14,6 +14,7 @@ use Rattle.object_format.specs.declared.object.Object.{Object}
 use Rattle.rv32_emulator.specs.Ran.{HoldsAll}
 use Rattle.rv_machine.specs.Objects.{object_run}
 use Rattle.rv_semantics.specs.Run.Outcome.{Ended}
+use Rattle.trace_format.specs.Checks.{trace_of}
 use Rattle.trace_format.specs.Formats.{trace_spelling}
 use Rattle.trace_record.specs.Recorded.{Recorded}
 use Rattle.trace_record.specs.Written.{traced}
@@ -53,14 +54,16 @@ pub ran : (o : Object) (budget : ℕ) (input : List ℤ) (number count : ℕ) (r
     → (object_run o budget input).outcome ≡ Ended number → count ≡ length (object_run o budget input).entries
     → HoldsAll (object_run o budget input) r first put → first ≡ [] → r.object ≡ o
     → file ≡ trace_spelling (traced r.object (object_run o budget input).entries number)
+    → trace_of file ≡ Ok (trace_file r.object (object_run o budget input).entries number)
     → exceptions ≡ o.obligations.exceptions → text ≡ run_lines exceptions put number count file
     → RunsTo o budget input (record { file = file; text = text })
-ran o budget input number count r first put file text exceptions is counted holds none same traced_is named told =
+ran o budget input number count r first put file text exceptions is counted holds none same traced_is read named told =
     let output : put ≡ (object_run o budget input).output = holds.output ∙ ap (λ (l : List ℤ). l ++ (object_run o budget input).output) none in
     record {
       ending = number;
       ended = is;
       traced = traced_is ∙ ap (λ (x : Object). trace_spelling (traced x (object_run o budget input).entries number)) same;
+      reads_back = read ∙ ap (λ (x : Object). Ok (trace_file x (object_run o budget input).entries number)) same;
       told = told ∙ ap (λ (names : List (List ℕ)). run_lines names put number count file) named
           ∙ ap (λ (words : List ℤ). run_lines o.obligations.exceptions words number count file) output
           ∙ ap (λ (n : ℕ). run_lines o.obligations.exceptions (object_run o budget input).output number n file) counted;

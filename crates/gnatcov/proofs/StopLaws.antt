@@ -4,19 +4,22 @@ use Rattle.std.specs.FinMap as finmap
 use Rattle.std.specs.List.{AllByRecursion}
 use Rattle.std.proofs.lemmas.List.{length-append, length-map, length-take-le, take-append-drop, drop_more, map-append, map_more}
 use Rattle.command_words.specs.Task.{Run, Coverage}
+use Rattle.cov_base.specs.declared.event.Event.{Event}
 use Rattle.cov_base.specs.declared.level.Annotation.{Annotation}
 use Rattle.cov_base.specs.declared.level.Level.{Level}
 use Rattle.cov_io.specs.Outside.{Held, Holds, IsAbsent, Rose}
+use Rattle.coverage_set.specs.Covered.{Covered, Has, HasRun}
 use Rattle.gnatcov.specs.Content.{IsFileOf, IsTraceFor, RefusesObject, IsInputOf, RefusesInput, RefusesTrace, RunsTo, StopsRun}
 use Rattle.gnatcov.specs.declared.status.FileRef.TheVariants.{Word}
 use Rattle.gnatcov.specs.declared.status.Status.{Status}
 use Rattle.gnatcov.specs.declared.status.Status.TheVariants.{ObjectRefused, TraceRefused, InputRefused, OverBudget, Trap, ReadFault}
-use Rattle.gnatcov.specs.declared.status.TraceWhy.TheVariants.{File, Fit}
+use Rattle.gnatcov.specs.declared.status.TraceWhy.TheVariants.{File, Fit, Broken}
 use Rattle.gnatcov.specs.Outcome.{Prepares, Stops, CannotGet}
 use Rattle.gnatcov.specs.Reading.{IsUnread, IsNoTrace, UnlessMemory, AreRead, StopsAt, StopsAmong}
-use Rattle.gnatcov.specs.Ready.{IsText}
+use Rattle.gnatcov.specs.Covering.{Adds, IsReportOf}
 use Rattle.gnatcov.specs.Verdict.{NewFile, Output, AfterRead, AfterObject, AfterInput, AfterTrace, AfterTraces, RunsOn, Covers, ComesTo}
 use Rattle.object_format.specs.declared.object.Object.{Object}
+use Rattle.gnatcov.proofs.CoveringLaws.{reports_added, more_added}
 
 -- what holds whatever is held
 always : (held : Option Held) {P : Type 0} → P → IfSome held (λ told. P)
@@ -96,15 +99,21 @@ one_more_read held o (n ∷ names) (t ∷ traces) name trace read holds fits =
     (read.0, read.1, one_more_read held o names traces name trace read.2 holds fits)
 
 -- the same of names that are seen by `now`
-pub read_more : {X : Type 0} (now : X → List ℕ) (o : Object) (names : List X) (i : ℕ) (d : X) (held held' : Option Held) (traces : List (List ℕ)) (trace : List ℕ)
+read_more : {X : Type 0} (now : X → List ℕ) (o : Object) (names : List X) (i : ℕ) (d : X) (held held' : Option Held) (traces : List (List ℕ)) (trace : List ℕ)
     → i < length names → held' ≡ held → AreRead held o (map now (take i names)) traces → IfSome held' (Holds (now (get_or names i d)) trace) → IsTraceFor o trace
-    → (ts : List (List ℕ)) × AreRead held o (map now (take (i + 1) names)) ts
+    → AreRead held o (map now (take (i + 1) names)) (traces ++ (trace ∷ []))
 read_more now o names i d held held' traces trace lt same read holds fits =
-    let there = subst (λ (h : Option Held). IfSome h (Holds (now (get_or names i d)) trace)) same holds in (
-      traces ++ (trace ∷ []),
-      subst (λ (ns : List (List ℕ)). AreRead held o ns (traces ++ (trace ∷ []))) (sym (map_more now names i d lt))
-          (one_more_read held o (map now (take i names)) traces (now (get_or names i d)) trace read there fits),
-    )
+    let there = subst (λ (h : Option Held). IfSome h (Holds (now (get_or names i d)) trace)) same holds in
+    subst (λ (ns : List (List ℕ)). AreRead held o ns (traces ++ (trace ∷ []))) (sym (map_more now names i d lt))
+    (one_more_read held o (map now (take i names)) traces (now (get_or names i d)) trace read there fits)
+
+-- and added to a coverage
+pub read_and_added : {X : Type 0} (now : X → List ℕ) (o : Object) (names : List X) (i : ℕ) (d : X) (held held' : Option Held) (traces : List (List ℕ)) (trace : List ℕ) (a b c : Covered)
+    → i < length names → held' ≡ held → AreRead held o (map now (take i names)) traces → IfSome held' (Holds (now (get_or names i d)) trace) → IsTraceFor o trace
+    → Adds o a b traces → Adds o b c (trace ∷ [])
+    → (ts : List (List ℕ)) × AreRead held o (map now (take (i + 1) names)) ts × Adds o a c ts
+read_and_added now o names i d held held' traces trace a b c lt same read holds fits before adds =
+    (traces ++ (trace ∷ []), read_more now o names i d held held' traces trace lt same read holds fits, more_added o a b c traces (trace ∷ []) before adds)
 
 -- one that stops the command, behind those that were read
 pub stops_among : {X : Type 0} (now : X → List ℕ) (o : Object) (names : List X) (i : ℕ) (d : X) (held held' : Option Held) (reads reads' reads'' : ℕ) (status : Status) (traces : List (List ℕ))
@@ -201,7 +210,8 @@ coverage_refused held reads reads' level annotation object bytes o earlier name 
         → IfSome held (λ told. ComesTo told (Coverage level annotation object (earlier ++ (name ∷ later))) (Err s)))
         → Stops (Coverage level annotation object (earlier ++ (name ∷ later))) held reads reads' status
     by_cause status (inl r) says = rw r.2 (stop.count, says (TraceRefused (length earlier + 1) (File r.0)) (inl (r.0, r.1, refl)))
-    by_cause status (inr r) says = rw r.2 (stop.count, says (TraceRefused (length earlier + 1) (Fit r.0)) (inr (r.0, r.1, refl)))
+    by_cause status (inr (inl r)) says = rw r.2 (stop.count, says (TraceRefused (length earlier + 1) (Fit r.0)) (inr (inl (r.0, r.1, refl))))
+    by_cause status (inr (inr r)) says = rw r.2 (stop.count, says (TraceRefused (length earlier + 1) (Broken r.0)) (inr (inr (r.0, r.1, refl))))
 
 stops_told : (held : Option Held) (reads reads' : ℕ) (level : Level) (annotation : Annotation) (object bytes : List ℕ) (names : List (List ℕ)) (o : Object) (status : Status)
     → IfSome held (Holds object bytes) → IsFileOf o bytes → StopsAmong o names held reads reads' status
@@ -226,14 +236,15 @@ coverage_stops held held' reads reads' reads'' level annotation object bytes nam
     let then_so = subst (λ (n : ℕ). StopsAmong o names held n reads'' status) count here in
     stops_told held reads reads'' level annotation object bytes names o status holds is then_so
 
--- a report of all of them
-pub coverage_made : (held held' : Option Held) (reads reads' : ℕ) (level : Level) (annotation : Annotation) (object bytes : List ℕ) (names traces : List (List ℕ)) (o : Object) (verdict : Result Output Status)
-    → held' ≡ held → reads' ≡ reads → IfSome held (Holds object bytes) → IsFileOf o bytes → AreRead held' o names traces → IsText verdict
+-- a report of all of them, which were added to a coverage of nothing
+pub coverage_made : (held held' : Option Held) (reads reads' : ℕ) (level : Level) (annotation : Annotation) (object bytes : List ℕ) (names traces : List (List ℕ)) (o : Object) (old new : Covered) (verdict : Result Output Status)
+    → held' ≡ held → reads' ≡ reads → IfSome held (Holds object bytes) → IsFileOf o bytes → AreRead held' o names traces
+    → ((e : Event) → Has old e → ⊥) → ((d : List ℕ) → HasRun old d → ⊥) → Adds o old new traces → IsReportOf level o new verdict
     → Prepares (Coverage level annotation object names) held reads reads' verdict
-coverage_made held held' reads reads' level annotation object bytes names traces o (Err status) same count holds is read text = rw text tt
-coverage_made held held' reads reads' level annotation object bytes names traces o (Ok output) same count holds is read text = (
+coverage_made held held' reads reads' level annotation object bytes names traces o old new (Err status) same count holds is read no_event no_run adds text = rw text tt
+coverage_made held held' reads reads' level annotation object bytes names traces o old new (Ok output) same count holds is read no_event no_run adds text = (
   count,
-  ap (option_map (λ (f : NewFile). f.name)) text,
+  ap (option_map (λ (f : NewFile). f.name)) text.0,
   told held holds (subst (λ (h : Option Held). AreRead h o names traces) same read),
 )
   where
@@ -248,7 +259,10 @@ coverage_made held held' reads reads' level annotation object bytes names traces
     told None holds read = tt
     told (Some h) holds read =
         after_object (Some h) object bytes o (λ told o. AfterTraces told o 1 names (Covers level annotation o)) (Ok output) holds is
-        (all_read h o 1 names traces (Covers level annotation o) (Ok output) read (text, fits (Some h) names traces read))
+        (all_read h o 1 names traces (Covers level annotation o) (Ok output) read (
+          text.0,
+          record { fit = fits (Some h) names traces read; report = reports_added level o old new traces output.text no_event no_run adds text.1 },
+        ))
 
 -- ---- run
 

@@ -1,15 +1,15 @@
 pub mod Clauses
 pub mod Compiled
 pub mod Content
-pub mod Coverage
+pub mod Covering
 pub mod Failures
-pub mod Levels
 pub mod Lines
 pub mod Obliged
 pub mod Outcome
 pub mod Reading
 pub mod Ready
 pub mod RunLines
+pub mod RunsCovered
 pub mod Sources
 pub mod TaskFiles
 pub mod TraceWords

@@ -1,9 +1,8 @@
 -- What a command made, before anything is written or put.
-use Rattle.std.specs.Prelude.{◌≡◌, None, Result, Ok, Err, option_map}
+use Rattle.std.specs.Prelude.{Result, Ok, Err, option_map}
 use Rattle.gnatcov.specs.declared.ready.Ready.{Ready}
 use Rattle.gnatcov.specs.declared.ready.ReadyFile.{ReadyFile}
 use Rattle.gnatcov.specs.declared.status.Status.{Status}
-use Rattle.gnatcov.specs.declared.status.Status.TheVariants.{WantOfMemory}
 use Rattle.gnatcov.specs.Verdict.{NewFile, Output}
 
 abbrev pub file_view : ReadyFile → NewFile
@@ -15,8 +14,3 @@ output_view ready = record { file = option_map file_view ready.file; text = read
 abbrev pub verdict_view : Result Ready Status → Result Output Status
 verdict_view (Ok ready) = Ok (output_view ready)
 verdict_view (Err status) = Err status
-
--- a text without a file was made, unless memory was refused
-abbrev pub IsText : Result Output Status → Type 0
-IsText (Ok output) = output.file ≡ None
-IsText (Err status) = status ≡ WantOfMemory

@@ -6,7 +6,7 @@ use Rattle.hex.specs.Hex.{encode_lower}
 use Rattle.decision_map.specs.declared.fault.FitFault.{FitFault}
 use Rattle.decision_map.specs.declared.fault.FitFault.TheVariants.{Foreign, Ending, NotABlock, Edge, HistoryAddress, HistoryNotFlat}
 use Rattle.gnatcov.specs.declared.status.TraceWhy.{TraceWhy}
-use Rattle.gnatcov.specs.declared.status.TraceWhy.TheVariants.{File, Fit}
+use Rattle.gnatcov.specs.declared.status.TraceWhy.TheVariants.{File, Fit, Broken}
 use Rattle.trace_format.specs.declared.fault.TraceFault.{TraceFault}
 use Rattle.trace_format.specs.declared.fault.TraceFault.TheVariants.{Short, Magic, Version, Long, Damaged, Order, Flag}
 
@@ -41,3 +41,4 @@ fit_text (HistoryNotFlat entry) = place_text (codes "history not flat") entry
 abbrev pub trace_text : TraceWhy → List ℕ
 trace_text (File why) = file_text why
 trace_text (Fit why) = fit_text why
+trace_text (Broken why) = place_text (codes "broken history") why.at

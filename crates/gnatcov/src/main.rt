@@ -4,10 +4,8 @@
 mod ada_parser;
 mod ada_syntax;
 mod ada_types;
-mod annotated_report;
 mod codegen_rv32;
 mod compiler;
-mod coverage_set;
 mod obligations;
 mod ready;
 mod run_lines;

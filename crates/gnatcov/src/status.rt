@@ -11,6 +11,7 @@ use object_format::ObjectFault;
 use rv_semantics::TrapWhy;
 use std::alloc::{AllocError, Global};
 use trace_format::TraceFault;
+use vector_rebuild::BrokenHistory;
 
 /// A file that a command reads.
 #[derive(Clone, Copy, Debug, PartialEq, Eq)]
@@ -26,6 +27,8 @@ pub enum TraceWhy {
     File(TraceFault),
     /// One of the file beside the object.
     Fit(FitFault),
+    /// That each entry of the history follows one before it.
+    Broken(BrokenHistory),
 }
 
 /// What a call comes to.
@@ -176,6 +179,7 @@ fn trace_text(alloc: Global, why: TraceWhy) -> Result<String, AllocError>
         TraceWhy::File(TraceFault::Order { at }) => place_text(alloc, "order", at),
         TraceWhy::File(TraceFault::Flag { at }) => place_text(alloc, "flag", at),
         TraceWhy::Fit(why) => fit_text(alloc, why),
+        TraceWhy::Broken(BrokenHistory { at }) => place_text(alloc, "broken history", at),
     }
 }
 

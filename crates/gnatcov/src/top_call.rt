@@ -8,6 +8,7 @@ ghost use Rattle.gnatcov.specs.declared.status.Status.TheVariants.{Usage, WantOf
 ghost use Rattle.gnatcov.specs.Lines.{line_of};
 ghost use Rattle.gnatcov.specs.Outcome.{call_of, PutsText, Delivers, Because, Answers};
 ghost use Rattle.gnatcov.specs.Ready.{output_view};
+ghost use Rattle.gnatcov.specs.RunsCovered.{RunsAreCovered};
 ghost use Rattle.gnatcov.specs.Verdict.{name_at, name_of};
 
 use crate::ready::{Ready, prepare};
@@ -40,6 +41,9 @@ pub fn gnatcov<F: Files, S: Sink>(
     ensures read_rose { RisenReadsAreTold (call_of F.held F.reads_failed F.writes_failed S.written S.failures files.old files.new out.old out.new) result }
     ensures read_fault { ReadFaultHasCause (task_of (map string_bytes words.now)) (call_of F.held F.reads_failed F.writes_failed S.written S.failures files.old files.new out.old out.new) result }
     ensures write_fault { WriteFaultHasCause (task_of (map string_bytes words.now)) (call_of F.held F.reads_failed F.writes_failed S.written S.failures files.old files.new out.old out.new) result }
+
+    // What coverage puts, over an object and the traces of its runs.
+    ensures runs { RunsAreCovered (task_of (map string_bytes words.now)) (call_of F.held F.reads_failed F.writes_failed S.written S.failures files.old files.new out.old out.new) result }
 {
     answer(alloc, words, files, out)
 }

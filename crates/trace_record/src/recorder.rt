@@ -1,12 +1,14 @@
 //! The recorder.
 
-ghost use Rattle.std.specs.Prelude.{◌≡◌, ◌++◌, ℕ, List, [], ◌∷◌, ◌<◌, ◌^◌, length, false, IfOk, OnOk, OnErr, IsOk, Option, Bool};
+ghost use Rattle.std.specs.Prelude.{◌≡◌, ◌++◌, ℕ, List, [], ◌∷◌, ◌<◌, ◌^◌, length, false, IfOk, OnOk, OnErr, IsOk, Ok, Option, Bool};
 ghost use Rattle.decision_map.specs.Roles.{needs_history};
 ghost use Rattle.object_facts.specs.Kinds.{ends_piece};
 ghost use Rattle.object_facts.specs.Object.{facts_of, IsTranscript};
 ghost use Rattle.object_format.specs.Checked.{IsSound};
 ghost use Rattle.rv_semantics.specs.declared.stepped.Seen.{Seen};
-ghost use Rattle.trace_format.specs.Formats.{trace_spelling};
+ghost use Rattle.trace_format.specs.Checks.{trace_of};
+ghost use Rattle.trace_format.specs.Formats.{trace_spelling, trace_digest};
+ghost use Rattle.trace_format.specs.Trace.{closed_by};
 ghost use Rattle.transcript.specs.Pieces.{lengthened, IsEnded};
 ghost use Rattle.trace_record.specs.Recorded.{Records, piece_of};
 ghost use Rattle.trace_record.specs.Written.{traced};
@@ -104,8 +106,12 @@ impl Recorder<'_> {
         // Nothing was seen, or the last instruction was a control transfer.
         requires recorded { (ss : List Seen) × Records self.now ss × IsEnded (facts_of self.now.object) ss }
         requires short_history { length self.now.history < 2 ^ 32 }
-        ensures { IfOk result (λ bytes. (ss : List Seen) → Records self.now ss → IsEnded (facts_of self.now.object) ss
+        ensures written { IfOk result (λ bytes. (ss : List Seen) → Records self.now ss → IsEnded (facts_of self.now.object) ss
             → bytes.items ≡ trace_spelling (traced self.now.object ss ending)) }
+
+        // What was written is read as that trace, closed by the digest that ends the bytes.
+        ensures reads_back { IfOk result (λ bytes. (ss : List Seen) → Records self.now ss → IsEnded (facts_of self.now.object) ss
+            → trace_of bytes.items ≡ Ok (closed_by (traced self.now.object ss ending) (trace_digest (traced self.now.object ss ending)))) }
     {
         let blocks = blocks_of(alloc, &self.map, self.marks.as_slice())?;
         let history = Vec::from_slice(alloc, self.history.as_slice())?;

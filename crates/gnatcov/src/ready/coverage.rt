@@ -1,24 +1,32 @@
 //! `coverage`: traces of an object's runs are made a report.
 
-ghost use Rattle.std.specs.Prelude.{◌≡◌, ℕ, List, ◌≤◌, length, map, IfErr, IfSome, OnOk};
+ghost use Rattle.std.specs.Prelude.{◌≡◌, ℕ, List, [], ◌∷◌, ◌≤◌, length, map, true, None, Ok, IfErr, IfOk, IfSome, OnOk};
 ghost use Rattle.command_words.specs.Task.{Coverage as covers};
 ghost use Rattle.cov_io.specs.Outside.{Holds};
-ghost use Rattle.gnatcov.specs.Content.{IsTraceFor, RefusesTrace};
+ghost use Rattle.coverage_set.specs.Covered.{Has, HasRun};
+ghost use Rattle.gnatcov.specs.Content.{IsTraceFor, RefusesTrace, IsReport};
+ghost use Rattle.decision_map.specs.Fits.{fault_of};
+ghost use Rattle.gnatcov.specs.Covering.{Adds, IsBadFile, IsBadFit, IsReportOf};
 ghost use Rattle.gnatcov.specs.declared.status.Status.TheVariants.{TraceRefused};
+ghost use Rattle.gnatcov.specs.Failures.{history_status};
 ghost use Rattle.gnatcov.specs.Outcome.{Prepares};
 ghost use Rattle.gnatcov.specs.Reading.{AreRead, StopsAt, StopsAmong, UnlessMemory};
-ghost use Rattle.gnatcov.specs.Ready.{IsText, verdict_view};
+ghost use Rattle.gnatcov.specs.Ready.{verdict_view};
+ghost use Rattle.object_format.specs.Checked.{IsSound};
+ghost use Rattle.object_format.specs.Read.{is_plain};
+ghost use Rattle.trace_format.specs.Checks.{IsClosed, trace_of};
 
-use crate::annotated_report::report;
-use crate::coverage_set::Coverage;
 use crate::ready::{Ready, object_of, read_file};
 use crate::status::{Status, TraceWhy};
-use cov_base::{Annotation, Bytes, Level, SourceFile};
+use annotated_report::report;
+use cov_base::{Annotation, Bytes, Failure, Level, SourceFile};
 use cov_io::Files;
+use coverage_set::Coverage;
 use decision_map::DecisionMap;
 use object_format::{FileEntry, Object};
 use std::alloc::{AllocError, Global};
 use trace_format::TraceView;
+use vector_rebuild::BrokenHistory;
 
 /// Reads the object, then the traces, each of which is checked before the next is read, and makes
 /// the report.
@@ -51,8 +59,10 @@ fn add_traces<F: Files>(
     files: &mut F,
     coverage: &mut Coverage<'_>,
 ) -> Result<(), Status>
-    requires { length names.now ≤ 4096 }
-    ensures read { OnOk result ((traces : List (List ℕ)) × AreRead (F.held files.old) decisions.now (map (λ name. name.now) names.now) traces) }
+    requires few { length names.now ≤ 4096 }
+    requires sound { IsSound decisions.now }
+    requires object { decisions.now ≡ coverage.old.object }
+    ensures read { OnOk result ((traces : List (List ℕ)) × AreRead (F.held files.old) decisions.now (map (λ name. name.now) names.now) traces × Adds decisions.now coverage.old coverage.new traces) }
     ensures reads { OnOk result (F.reads_failed files.new ≡ F.reads_failed files.old) }
     ensures stopped { IfErr result (StopsAmong decisions.now (map (λ name. name.now) names.now) (F.held files.old) (F.reads_failed files.old) (F.reads_failed files.new)) }
     ensures same { F.held files.new ≡ F.held files.old }
@@ -80,7 +90,9 @@ fn add_file<F: Files>(
     files: &mut F,
     coverage: &mut Coverage<'_>,
 ) -> Result<(), Status>
-    ensures read { OnOk result ((trace : List ℕ) × IfSome (F.held files.old) (Holds name.now trace) × IsTraceFor decisions.now trace) }
+    requires sound { IsSound decisions.now }
+    requires object { decisions.now ≡ coverage.old.object }
+    ensures read { OnOk result ((trace : List ℕ) × IfSome (F.held files.old) (Holds name.now trace) × IsTraceFor decisions.now trace × Adds decisions.now coverage.old coverage.new (trace ∷ [])) }
     ensures reads { OnOk result (F.reads_failed files.new ≡ F.reads_failed files.old) }
     ensures stopped { IfErr result (StopsAt number decisions.now name.now (F.held files.old) (F.reads_failed files.old) (F.reads_failed files.new)) }
     ensures same { F.held files.new ≡ F.held files.old }
@@ -97,14 +109,42 @@ fn add_trace(
     trace: &[u8],
     coverage: &mut Coverage<'_>,
 ) -> Result<(), Status>
+    requires sound { IsSound decisions.now }
+    requires object { decisions.now ≡ coverage.old.object }
     ensures fits { OnOk result (IsTraceFor decisions.now trace.now) }
+    ensures added { OnOk result (Adds decisions.now coverage.old coverage.new (trace.now ∷ [])) }
     ensures refused { IfErr result (UnlessMemory (RefusesTrace number decisions.now trace.now)) }
 {
-    let view = TraceView::view(trace).map_err(|why| refusal(number, TraceWhy::File(why)))?;
+    let view = view_of(number, trace)?;
+    check_fit(decisions, number, &view)?;
+    match coverage.add_trace(decisions, &view) {
+        Ok(()) => Ok(()),
+        Err(failure) => Err(refused_history(number, failure)),
+    }
+}
+
+/// A view of the trace with this number.
+fn view_of(number: u32, trace: &[u8]) -> Result<TraceView<'_>, Status>
+    ensures read { IfOk result (λ view. trace_of trace.now ≡ Ok view) }
+    ensures closed { IfOk result IsClosed }
+    ensures refused { IfErr result (IsBadFile number trace.now) }
+{
+    TraceView::view(trace).map_err(|why| refusal(number, TraceWhy::File(why)))
+}
+
+/// Checks that the trace with this number can be one of the object.
+fn check_fit(
+    decisions: &DecisionMap<'_>,
+    number: u32,
+    view: &TraceView<'_>,
+) -> Result<(), Status>
+    requires { IsClosed view.now }
+    ensures fits { OnOk result (fault_of decisions.now view.now ≡ None) }
+    ensures refused { IfErr result (IsBadFit number decisions.now view.now) }
+{
     decisions
-        .fit(&view)
-        .map_err(|why| refusal(number, TraceWhy::Fit(why)))?;
-    Ok(coverage.add_trace(&view)?)
+        .fit(view)
+        .map_err(|why| refusal(number, TraceWhy::Fit(why)))
 }
 
 /// The status of the trace with this number, where it fails a check.
@@ -112,6 +152,16 @@ fn refusal(number: u32, why: TraceWhy) -> Status
     ensures { result ≡ TraceRefused number why }
 {
     Status::TraceRefused { index: number, why }
+}
+
+/// The status of the trace with this number, where its history was not taken.
+fn refused_history(number: u32, failure: Failure<BrokenHistory>) -> Status
+    ensures { result ≡ history_status number failure }
+{
+    match failure {
+        Failure::Fault(why) => refusal(number, TraceWhy::Broken(why)),
+        Failure::WantOfMemory => Status::WantOfMemory,
+    }
 }
 
 /// The report of what was covered.
@@ -122,7 +172,8 @@ fn reported<'a>(
     object: &Object,
     coverage: &Coverage<'_>,
 ) -> Result<Ready<'a>, Status>
-    ensures { IsText (verdict_view result) }
+    requires { is_plain object.now ≡ true }
+    ensures { IsReportOf level object.now coverage.now (verdict_view result) }
 {
     let text = report_of(alloc, level, annotate, object, coverage)?;
     Ok(Ready { file: None, text })
@@ -134,12 +185,12 @@ fn report_of(
     level: Level,
     _annotate: Annotation,
     object: &Object,
-    coverage: &Coverage,
-) -> Result<Vec<u8>, AllocError> {
-    let mut files = Vec::new(alloc);
-    for file in object.files.as_slice() {
-        files.push(named(alloc, file)?)?;
-    }
+    coverage: &Coverage<'_>,
+) -> Result<Vec<u8>, AllocError>
+    requires { is_plain object.now ≡ true }
+    ensures { IfOk result (λ text. IsReport level object.now (Has coverage.now) (HasRun coverage.now) text.items) }
+{
+    let files = named_files(alloc, object.files.as_slice())?;
     let events = coverage.events(alloc)?;
     report(
         alloc,
@@ -151,10 +202,23 @@ fn report_of(
     )
 }
 
-/// A file of the object, of which the report shows the name alone.
-fn named(alloc: Global, file: &FileEntry) -> Result<SourceFile, AllocError> {
+/// The files of the object, of which the report shows the names alone.
+fn named_files(alloc: Global, entries: &[FileEntry]) -> Result<Vec<SourceFile>, AllocError>
+    ensures { IfOk result (λ files. map (λ file. file.name) files.items ≡ map (λ entry. entry.name) entries.now) }
+{
+    let mut files = Vec::new(alloc);
+    for entry in entries {
+        files.push(named(alloc, entry)?)?;
+    }
+    Ok(files)
+}
+
+/// A file of the object, by its name.
+fn named(alloc: Global, entry: &FileEntry) -> Result<SourceFile, AllocError>
+    ensures { IfOk result (λ file. file.name ≡ entry.now.name) }
+{
     Ok(SourceFile {
-        name: Bytes::from(Vec::from_slice(alloc, file.name.as_slice())?),
+        name: Bytes::from(Vec::from_slice(alloc, entry.name.as_slice())?),
         bytes: Bytes::from(Vec::new(alloc)),
     })
 }

@@ -1,4 +1,5 @@
 use Rattle.gnatcov.proofs.ClauseLaws.{usage_law, done_law, files_law, others_law, line_law, rose_law, read_fault_law, write_fault_law}
+use Rattle.gnatcov.proofs.RunsLaw.{runs_law}
 use Rattle.gnatcov.proofs.top_call.gnatcov.Goals as goal
 
 pub returns-clause-usage : goal.returns-clause-usage
@@ -24,3 +25,6 @@ returns-clause-read_fault g c = read_fault_law _ _ _ c.answer.ensures
 
 pub returns-clause-write_fault : goal.returns-clause-write_fault
 returns-clause-write_fault g c = write_fault_law _ _ _ c.answer.ensures
+
+pub returns-clause-runs : goal.returns-clause-runs
+returns-clause-runs g c = runs_law _ _ _ c.answer.ensures

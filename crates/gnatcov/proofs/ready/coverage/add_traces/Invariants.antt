@@ -1,4 +1,5 @@
 use Rattle.std.proofs.Common.{◌≡◌, ℕ, ◌≤◌, List, length, map, take}
+use Rattle.gnatcov.specs.Covering.{Adds}
 use Rattle.gnatcov.specs.Reading.{AreRead}
 use Rattle.gnatcov.proofs.ready.coverage.add_traces.Given as goal
 
@@ -9,5 +10,6 @@ invariant-loop-place g l = record {
   held : g.F.Files.held l.files ≡ g.F.Files.held l.fn.files;
   reads : g.F.Files.reads_failed l.files ≡ g.F.Files.reads_failed l.fn.files;
   writes : g.F.Files.writes_failed l.files ≡ g.F.Files.writes_failed l.fn.files;
-  read : (traces : List (List ℕ)) × AreRead (g.F.Files.held l.fn.files) l.decisions (map (λ name. name.now) (take l.place l.names)) traces;
+  read : (traces : List (List ℕ)) × AreRead (g.F.Files.held l.fn.files) l.decisions (map (λ name. name.now) (take l.place l.names)) traces
+      × Adds l.decisions l.fn.coverage l.coverage traces;
 }

@@ -1,7 +1,9 @@
 use Rattle.std.proofs.Common.{◌∙◌, List, ℕ, map, subst, sym}
 use Rattle.std.proofs.lemmas.Result.{err_from_is_err_and}
 use Rattle.gnatcov.specs.Content.{IsFileOf, RefusesObject}
+use Rattle.gnatcov.specs.Covering.{IsReportOf}
 use Rattle.gnatcov.specs.Reading.{UnlessMemory}
+use Rattle.gnatcov.specs.Ready.{verdict_view}
 use Rattle.object_format.specs.declared.object.Object.{Object}
 use Rattle.gnatcov.proofs.ObjectLaws.{has_map}
 use Rattle.gnatcov.proofs.StopLaws.{coverage_no_object, coverage_stops, coverage_made}
@@ -33,4 +35,6 @@ returns-clause-prepares g c =
     let is : IsFileOf c.in_ok-decisions.decisions c.in_ok-bytes.bytes.items = subst (λ (o : Object). IsFileOf o c.in_ok-bytes.bytes.items) (sym c.in_ok-decisions.ensures) read in
     let traces = c.in_ok-add_traces.ensures.read in
     coverage_made _ _ _ _ c.args.level c.args.annotate c.args.object.now c.in_ok-bytes.bytes.items (map (λ name. name.now) c.args.traces.now) traces.0
-    c.in_ok-decisions.decisions _ c.in_ok-bytes.ensures.same (c.in_ok-add_traces.ensures.reads ∙ c.in_ok-bytes.ensures.reads) c.in_ok-bytes.ensures.read is traces.1 c.reported.ensures
+    c.in_ok-decisions.decisions _ _ _ c.in_ok-bytes.ensures.same (c.in_ok-add_traces.ensures.reads ∙ c.in_ok-bytes.ensures.reads) c.in_ok-bytes.ensures.read is traces.1
+    c.new-coverage.ensures.events c.new-coverage.ensures.runs traces.2
+    (subst (λ (o : Object). IsReportOf c.args.level o c.add_traces.new.coverage (verdict_view c.reported.result)) (sym c.in_ok-decisions.ensures) c.reported.ensures)

@@ -28,8 +28,9 @@ returns-in-Ok-clause-ran c =
     let told = c.in_ok-text-in-Ok.ensures
     ∙ ap (λ (words : List ℤ). run_lines c.as_slice-exceptions.result.now words c.in-Ok.ending.number c.in-Ok.ending.count c.as_slice-in-Ok.result.now) c.as_slice.ensures.value
     ∙ ap (λ (bytes : List ℕ). run_lines c.as_slice-exceptions.result.now put c.in-Ok.ending.number c.in-Ok.ending.count bytes) c.as_slice-in-Ok.ensures.value in
-    let file = c.in_ok-trace-in-Ok.ensures entries a.2.recorded
-    (ended c.args.object.now c.args.budget c.args.input.now c.in-Ok.ending.number c.run.new.recorder c.requires a.0 same) in
+    let over = ended c.args.object.now c.args.budget c.args.input.now c.in-Ok.ending.number c.run.new.recorder c.requires a.0 same in
+    let file = c.in_ok-trace-in-Ok.ensures.written entries a.2.recorded over in
+    let read = c.in_ok-trace-in-Ok.ensures.reads_back entries a.2.recorded over in
     ran c.args.object.now c.args.budget c.args.input.now c.in-Ok.ending.number c.in-Ok.ending.count c.run.new.recorder _ c.run.new.out.items
     c.in_ok-trace-in-Ok.trace.items c.in_ok-text-in-Ok.text.items c.as_slice-exceptions.result.now
-    a.0 a.1 a.2 c.new-put.ensures.items same file c.as_slice-exceptions.ensures told
+    a.0 a.1 a.2 c.new-put.ensures.items same file read c.as_slice-exceptions.ensures told

@@ -1,9 +1,11 @@
-use Rattle.std.proofs.Common.{◌≡◌, ◌<◌, List, length, subst, sym, ◌∙◌, ap}
+use Rattle.std.proofs.Common.{◌≡◌, ◌<◌, List, length, Ok, subst, sym, ◌∙◌, ap}
 use Rattle.std.proofs.lemmas.Result.{IfOk-weaker}
 use Rattle.object_format.specs.declared.object.Object.{Object}
 use Rattle.rv_semantics.specs.declared.stepped.Seen.{Seen}
 use Rattle.trace_format.specs.Checks.{Passes}
-use Rattle.trace_format.specs.Formats.{trace_spelling}
+use Rattle.trace_format.specs.Formats.{trace_spelling, trace_digest}
+use Rattle.trace_format.specs.Trace.{closed_by}
+use Rattle.trace_format.specs.declared.trace.Trace.{Trace}
 use Rattle.trace_format.specs.declared.trace.Block.{Block}
 use Rattle.trace_record.specs.declared.mark.Mark.{Mark}
 use Rattle.trace_record.specs.Recorded.{Recorded, Records, piece_of}
@@ -32,8 +34,8 @@ write_trace-requires-clause-passes c =
     (ap (λ (o : Object). o.closing) c.object.ensures) blocks history))
     (passes_traced r.object ss c.args.ending records.transcript)
 
-pub returns : goal.returns
-returns c = IfOk-weaker c.write_trace.result _ _ (λ bytes spelled ss recorded ended.
+pub returns-clause-written : goal.returns-clause-written
+returns-clause-written c = IfOk-weaker c.write_trace.result _ _ (λ bytes spelled ss recorded ended.
     let r : Recorded = record { object = c.self.inside.map; marks = c.self.inside.marks.items; open_piece = piece_of c.self.inside.open_piece; history = c.self.inside.history.items } in
     let records : Records r ss = subst (λ (x : Recorded). Records x ss) (sym c.self.view_is) recorded in
     let blocks : c.from.result ≡ blocks_from r.object r.marks 65536 r.marks =
@@ -42,3 +44,14 @@ returns c = IfOk-weaker c.write_trace.result _ _ (λ bytes spelled ss recorded e
     spelled ∙ ap trace_spelling (made_trace r ss records c.args.ending c.object.result.now.closing c.from.result c.from-2.result
     (ap (λ (o : Object). o.closing) c.object.ensures) blocks history
     ∙ ap (λ (x : Recorded). traced x.object ss c.args.ending) c.self.view_is)) c.write_trace.ensures.spelled
+
+pub returns-clause-reads_back : goal.returns-clause-reads_back
+returns-clause-reads_back c = IfOk-weaker c.write_trace.result _ _ (λ bytes read ss recorded ended.
+    let r : Recorded = record { object = c.self.inside.map; marks = c.self.inside.marks.items; open_piece = piece_of c.self.inside.open_piece; history = c.self.inside.history.items } in
+    let records : Records r ss = subst (λ (x : Recorded). Records x ss) (sym c.self.view_is) recorded in
+    let blocks : c.from.result ≡ blocks_from r.object r.marks 65536 r.marks =
+    c.from.ensures ∙ c.in_ok-blocks.ensures ∙ ap (λ (marks : List Mark). blocks_from c.self.inside.map marks 65536 marks) c.as_slice.ensures.value in
+    let history : c.from-2.result ≡ r.history = c.from-2.ensures ∙ c.in_ok-history.ensures.items ∙ c.as_slice-2.ensures.value in
+    read ∙ ap (λ (t : Trace). Ok (closed_by t (trace_digest t))) (made_trace r ss records c.args.ending c.object.result.now.closing c.from.result c.from-2.result
+    (ap (λ (o : Object). o.closing) c.object.ensures) blocks history
+    ∙ ap (λ (x : Recorded). traced x.object ss c.args.ending) c.self.view_is)) c.write_trace.ensures.reads_back
