@@ -11,6 +11,8 @@ mod exact;
 mod laws;
 mod said;
 mod set;
+#[cfg(test)]
+mod tests;
 
 pub use coverage::Coverage;
 pub use laws::{traces_of_runs_say_what_the_runs_tell, unions_have_their_laws};
