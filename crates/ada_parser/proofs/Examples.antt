@@ -10,11 +10,11 @@ use Rattle.ada_syntax.specs.declared.expr.BinaryOperator.TheVariants.{Multiply, 
 use Rattle.ada_syntax.specs.declared.expr.LogicalOperator.TheVariants.{AndThen}
 use Rattle.ada_syntax.specs.declared.unit.Unit.{Unit as LibraryUnit}
 use Rattle.ada_syntax.specs.declared.unit.LibraryItem.TheVariants as item
-use Rattle.ada_parser.specs.declared.extent.Extent.TheVariants.{StraightLine, Whole}
-use Rattle.ada_parser.specs.Symbols.{identifier_of}
-use Rattle.ada_parser.specs.Extents.{opens}
-use Rattle.ada_parser.specs.Reading.{Tokens, Got, Stuck}
-use Rattle.ada_parser.specs.ExpressionReading as read
+use Rattle.expression_parser.specs.declared.extent.Extent.TheVariants.{StraightLine, Whole}
+use Rattle.expression_parser.specs.Symbols.{identifier_of}
+use Rattle.expression_parser.specs.Extents.{opens}
+use Rattle.expression_parser.specs.Reading.{Tokens, Got, Stuck}
+use Rattle.expression_parser.specs.ExpressionReading as read
 use Rattle.ada_parser.specs.Statements.{a_null, one_statement}
 use Rattle.ada_parser.specs.Grammar.{IsFile, procedure_body, no_withs, an_end_name, a_procedure, a_unit, one_unit}
 use Rattle.ada_parser.specs.NodeTokens.{node_tokens}

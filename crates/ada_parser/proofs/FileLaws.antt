@@ -1,14 +1,14 @@
 -- What the reading of a file tells of its derivations.
 use Rattle.std.proofs.Common.{◌≡◌, max, List, [], length, refl, sym, ◌∙◌, subst, arith}
 use Rattle.ada_syntax.specs.declared.unit.Unit.{Unit as LibraryUnit}
-use Rattle.ada_parser.specs.declared.extent.Extent.{Extent}
-use Rattle.ada_parser.specs.Reading.{Tokens, Reading, Got, Stuck}
+use Rattle.expression_parser.specs.declared.extent.Extent.{Extent}
+use Rattle.expression_parser.specs.Reading.{Tokens, Reading, Got, Stuck}
 use Rattle.ada_parser.specs.Grammar.{AreUnits, IsFile}
-use Rattle.ada_parser.specs.Syntax.{Agree}
+use Rattle.expression_parser.specs.Syntax.{Agree}
 use Rattle.ada_parser.specs.UnitReading as read
-use Rattle.ada_parser.specs.Shows.{Reads}
-use Rattle.ada_parser.proofs.Agree.{local_stuck}
-use Rattle.ada_parser.proofs.Yields.{Yields}
+use Rattle.expression_parser.specs.Shows.{Reads}
+use Rattle.expression_parser.proofs.Agree.{local_stuck}
+use Rattle.expression_parser.proofs.Yields.{Yields}
 use Rattle.ada_parser.proofs.UnitLaws.{file_local, file_sound, file_complete}
 
 module _ (x : Extent) where

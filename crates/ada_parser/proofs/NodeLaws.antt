@@ -15,13 +15,13 @@ use Rattle.ada_syntax.specs.declared.expr.LogicalOperator.{LogicalOperator}
 use Rattle.ada_syntax.specs.declared.unit.SubprogramBody.{SubprogramBody}
 use Rattle.ada_syntax.specs.declared.unit.WithClause.{WithClause}
 use Rattle.ada_syntax.specs.declared.unit.Unit.{Unit as LibraryUnit}
-use Rattle.ada_parser.specs.declared.symbol.Symbol.{Symbol}
-use Rattle.ada_parser.specs.declared.symbol.Symbol.TheVariants as symbol
-use Rattle.ada_parser.specs.declared.extent.Extent.{Extent}
-use Rattle.ada_parser.specs.Symbols.{symbol_of, Is, identifier_of, sign_of, multiplying, adding, relational_of}
-use Rattle.ada_parser.specs.Reading.{Tokens}
+use Rattle.expression_parser.specs.declared.symbol.Symbol.{Symbol}
+use Rattle.expression_parser.specs.declared.symbol.Symbol.TheVariants as symbol
+use Rattle.expression_parser.specs.declared.extent.Extent.{Extent}
+use Rattle.expression_parser.specs.Symbols.{symbol_of, Is, identifier_of, sign_of, multiplying, adding, relational_of}
+use Rattle.expression_parser.specs.Reading.{Tokens}
 use Rattle.ada_parser.specs.NodeTokens.{symbol_nodes, node_tokens}
-use Rattle.ada_parser.specs.Expressions.{Level, IsExpr, a_numeral, a_name, in_parentheses, a_primary, an_abs, a_not, a_factor, a_product, a_term, a_signed_term, a_first_term, a_sum, a_simple, a_relation, a_single, a_chain, IsChain, a_pair, a_longer, Joins, by_and, by_or, by_xor, by_and_then, by_or_else, IsName, an_identifier, a_selection, an_attribute, an_application, AreExprs, one_expr, more_exprs}
+use Rattle.expression_parser.specs.Expressions.{Level, IsExpr, a_numeral, a_name, in_parentheses, a_primary, an_abs, a_not, a_factor, a_product, a_term, a_signed_term, a_first_term, a_sum, a_simple, a_relation, a_single, a_chain, IsChain, a_pair, a_longer, Joins, by_and, by_or, by_xor, by_and_then, by_or_else, IsName, an_identifier, a_selection, an_attribute, an_application, AreExprs, one_expr, more_exprs}
 use Rattle.ada_parser.specs.Statements.{IsStatement, a_null, a_return, a_call, AreStatements, one_statement, more_statements}
 use Rattle.ada_parser.specs.Grammar.{AreIdentifiers, one_identifier, more_identifiers, IsWith, a_with, AreWiths, no_withs, more_withs, IsEndName, no_end_name, an_end_name, IsBody, a_procedure, IsUnit, a_unit, AreUnits, one_unit, more_units}
 

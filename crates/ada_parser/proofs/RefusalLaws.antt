@@ -3,14 +3,14 @@ use Rattle.std.proofs.Common.{◌≡◌, List, [], ◌∷◌, ◌++◌, length, 
 use Rattle.cov_base.specs.declared.position.Pos.{Pos}
 use Rattle.ada_lexer.specs.declared.token.Token.{Token}
 use Rattle.ada_syntax.specs.declared.unit.Unit.{Unit as LibraryUnit}
-use Rattle.ada_parser.specs.declared.extent.Extent.{Extent}
-use Rattle.ada_parser.specs.Reading.{Tokens, Reading, Got, Stuck}
-use Rattle.ada_parser.specs.Syntax.{Suffix}
-use Rattle.ada_parser.specs.Shows.{Reads}
+use Rattle.expression_parser.specs.declared.extent.Extent.{Extent}
+use Rattle.expression_parser.specs.Reading.{Tokens, Reading, Got, Stuck}
+use Rattle.expression_parser.specs.Syntax.{Suffix}
+use Rattle.expression_parser.specs.Shows.{Reads}
 use Rattle.ada_parser.specs.UnitReading as read
 use Rattle.ada_parser.specs.Grammar.{IsFile}
 use Rattle.ada_parser.specs.Refusal.{end_place, place_of, Place, at_token, at_end, Refused, IsOnlyFile}
-use Rattle.ada_parser.proofs.Agree.{place}
+use Rattle.expression_parser.proofs.Agree.{place}
 use Rattle.ada_syntax.specs.Nodes.{unit_nodes}
 use Rattle.ada_parser.specs.NodeTokens.{node_tokens}
 use Rattle.ada_parser.proofs.NodeLaws.{units_nodes_of}

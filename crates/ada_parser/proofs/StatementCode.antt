@@ -4,16 +4,16 @@ use Rattle.std.proofs.lemmas.Bool.{false≢true}
 use Rattle.ada_lexer.specs.declared.token.Token.{Token}
 use Rattle.ada_syntax.specs.Tree.{Name}
 use Rattle.ada_syntax.specs.StatementTree.{Statement, null, call, returns}
-use Rattle.ada_parser.specs.declared.symbol.Symbol.{Symbol}
-use Rattle.ada_parser.specs.declared.symbol.Symbol.TheVariants as symbol
-use Rattle.ada_parser.specs.declared.extent.Extent.{Extent}
-use Rattle.ada_parser.specs.Symbols.{symbol_of, Is}
-use Rattle.ada_parser.specs.Reading.{Tokens, Reading, Got, Stuck, Refuse, Leave, Look, got, goes_on, turned, expect, skip, repeat}
+use Rattle.expression_parser.specs.declared.symbol.Symbol.{Symbol}
+use Rattle.expression_parser.specs.declared.symbol.Symbol.TheVariants as symbol
+use Rattle.expression_parser.specs.declared.extent.Extent.{Extent}
+use Rattle.expression_parser.specs.Symbols.{symbol_of, Is}
+use Rattle.expression_parser.specs.Reading.{Tokens, Reading, Got, Stuck, Refuse, Leave, Look, got, goes_on, turned, expect, skip, repeat}
 use Rattle.ada_parser.specs.StatementReading as read
-use Rattle.ada_parser.specs.Depth as at
-use Rattle.ada_parser.specs.Shows.{Reads, More, Skipped, next_is}
-use Rattle.ada_parser.proofs.Comes.{got_bind, got_then, on_symbol}
-use Rattle.ada_parser.proofs.Loops.{more_end, more_leave, more_look, more_look_stuck}
+use Rattle.expression_parser.specs.Depth as at
+use Rattle.expression_parser.specs.Shows.{Reads, More, Skipped, next_is}
+use Rattle.expression_parser.proofs.Comes.{got_bind, got_then, on_symbol}
+use Rattle.expression_parser.proofs.Loops.{more_end, more_leave, more_look, more_look_stuck}
 
 module _ (x : Extent) where
   pub null_read : (t : Token) (us rest : Tokens) → Is symbol.Null t → Skipped symbol.Semicolon us rest → Reads (read.statement_by x) (t ∷ us) (Got (null t.pos) rest)

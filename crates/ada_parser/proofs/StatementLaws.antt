@@ -3,23 +3,23 @@ use Rattle.std.proofs.Common.{◌≡◌, ℕ, suc, ◌<◌, ◌≤◌, List, [],
 use Rattle.ada_lexer.specs.declared.token.Token.{Token}
 use Rattle.ada_syntax.specs.Tree.{Name, name_pos}
 use Rattle.ada_syntax.specs.StatementTree.{Statement, null, call, returns}
-use Rattle.ada_parser.specs.declared.symbol.Symbol.{Symbol}
-use Rattle.ada_parser.specs.declared.symbol.Symbol.TheVariants as symbol
-use Rattle.ada_parser.specs.declared.extent.Extent.{Extent}
-use Rattle.ada_parser.specs.Symbols.{symbol_of, Is}
-use Rattle.ada_parser.specs.Reading.{Tokens, Reading, Got, Refuse, got, repeat}
-use Rattle.ada_parser.specs.Depth.{at_name}
-use Rattle.ada_parser.specs.ExpressionReading as expressions
+use Rattle.expression_parser.specs.declared.symbol.Symbol.{Symbol}
+use Rattle.expression_parser.specs.declared.symbol.Symbol.TheVariants as symbol
+use Rattle.expression_parser.specs.declared.extent.Extent.{Extent}
+use Rattle.expression_parser.specs.Symbols.{symbol_of, Is}
+use Rattle.expression_parser.specs.Reading.{Tokens, Reading, Got, Refuse, got, repeat}
+use Rattle.expression_parser.specs.Depth.{at_name}
+use Rattle.expression_parser.specs.ExpressionReading as expressions
 use Rattle.ada_parser.specs.StatementReading as read
-use Rattle.ada_parser.specs.Expressions.{IsName}
+use Rattle.expression_parser.specs.Expressions.{IsName}
 use Rattle.ada_parser.specs.Statements.{IsStatement, a_null, a_return, a_call, AreStatements, one_statement, more_statements}
-use Rattle.ada_parser.proofs.Agree.{Local, LocalTurn, got_local, on_local, bind_local, skip_local, repeat_local}
-use Rattle.ada_parser.proofs.ExpressionLocal.{name_local, expr_local, then_got, then_closed}
-use Rattle.ada_parser.proofs.Yields.{Yields, YieldsTurn, bind_yields, turned_yields, Takes, taken, skip_yields, repeat_yields}
-use Rattle.ada_parser.proofs.ExpressionSound.{name_sound, expr_sound, first_of_name}
-use Rattle.ada_parser.proofs.Comes.{ends_at, got_bind, got_then, got_skip, got_closed, on_symbol, Comes, comes_leave, comes_look}
-use Rattle.ada_parser.proofs.ExpressionLengths.{name_shorter}
-use Rattle.ada_parser.proofs.ExpressionComplete.{complete_name, leaves_suffix, name_first}
+use Rattle.expression_parser.proofs.Agree.{Local, LocalTurn, got_local, on_local, bind_local, skip_local, repeat_local}
+use Rattle.expression_parser.proofs.ExpressionLocal.{name_local, expr_local, then_got, then_closed}
+use Rattle.expression_parser.proofs.Yields.{Yields, YieldsTurn, bind_yields, turned_yields, Takes, taken, skip_yields, repeat_yields}
+use Rattle.expression_parser.proofs.ExpressionSound.{name_sound, expr_sound, first_of_name}
+use Rattle.expression_parser.proofs.Comes.{ends_at, got_bind, got_then, got_skip, got_closed, on_symbol, Comes, comes_leave, comes_look}
+use Rattle.expression_parser.proofs.ExpressionLengths.{name_shorter}
+use Rattle.expression_parser.proofs.ExpressionComplete.{complete_name, leaves_suffix, name_first}
 
 module _ (x : Extent) (m : ℕ) where
   at_name_local : Local (at_name x m)

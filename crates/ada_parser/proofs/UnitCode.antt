@@ -10,22 +10,22 @@ use Rattle.ada_syntax.specs.declared.unit.SubprogramBody.{SubprogramBody}
 use Rattle.ada_syntax.specs.declared.unit.LibraryItem.TheVariants as item
 use Rattle.ada_syntax.specs.declared.unit.WithClause.{WithClause}
 use Rattle.ada_syntax.specs.declared.unit.Unit.{Unit as LibraryUnit}
-use Rattle.ada_parser.specs.declared.symbol.Symbol.{Symbol}
-use Rattle.ada_parser.specs.declared.symbol.Symbol.TheVariants as symbol
-use Rattle.ada_parser.specs.declared.extent.Extent.{Extent}
-use Rattle.ada_parser.specs.declared.extent.Extent.TheVariants.{Subprograms}
-use Rattle.ada_parser.specs.Symbols.{symbol_of, same, identifier_of}
-use Rattle.ada_parser.specs.Extents.{opens}
-use Rattle.ada_parser.specs.Reading.{Tokens, Reading, Reader, Got, Stuck, Leave, Look, got, goes_on, ◌>>=◌, turned, provided, expect, skip, repeat}
+use Rattle.expression_parser.specs.declared.symbol.Symbol.{Symbol}
+use Rattle.expression_parser.specs.declared.symbol.Symbol.TheVariants as symbol
+use Rattle.expression_parser.specs.declared.extent.Extent.{Extent}
+use Rattle.expression_parser.specs.declared.extent.Extent.TheVariants.{Subprograms}
+use Rattle.expression_parser.specs.Symbols.{symbol_of, same, identifier_of}
+use Rattle.expression_parser.specs.Extents.{opens}
+use Rattle.expression_parser.specs.Reading.{Tokens, Reading, Reader, Got, Stuck, Leave, Look, got, goes_on, ◌>>=◌, turned, provided, expect, skip, repeat}
 use Rattle.ada_parser.specs.Grammar.{procedure_body}
 use Rattle.ada_parser.specs.StatementReading.{statements_by}
 use Rattle.ada_parser.specs.UnitReading as read
-use Rattle.ada_parser.specs.Shows.{Reads, More, Skipped, Identified, after}
-use Rattle.ada_parser.specs.Headings.{after_begin, bare, Placed, Headed}
-use Rattle.ada_parser.proofs.Yields.{Yields, Takes, taken, expect_yields}
-use Rattle.ada_parser.proofs.Comes.{got_bind, got_then, got_expect, on_symbol}
-use Rattle.ada_parser.proofs.Loops.{more_end, more_leave, more_refuse, more_take, more_take_stuck, more_look, more_look_stuck}
-use Rattle.ada_parser.proofs.NameCode.{after_some, after_none}
+use Rattle.expression_parser.specs.Shows.{Reads, More, Skipped, Identified, after, Placed}
+use Rattle.ada_parser.specs.Headings.{after_begin, bare, Headed}
+use Rattle.expression_parser.proofs.Yields.{Yields, Takes, taken, expect_yields}
+use Rattle.expression_parser.proofs.Comes.{got_bind, got_then, got_expect, on_symbol}
+use Rattle.expression_parser.proofs.Loops.{more_end, more_leave, more_refuse, more_take, more_take_stuck, more_look, more_look_stuck}
+use Rattle.expression_parser.proofs.NameCode.{after_some, after_none}
 
 -- id {, id}
 pub identifiers_begin : (ts rest : Tokens) (i : Identifier) → Identified ts rest i → (q : Reading (List Identifier)) → More read.identifiers_turns rest (i ∷ []) q → Reads read.identifiers_by ts q

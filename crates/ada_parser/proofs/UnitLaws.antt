@@ -8,21 +8,21 @@ use Rattle.ada_syntax.specs.declared.unit.SubprogramBody.{SubprogramBody}
 use Rattle.ada_syntax.specs.declared.unit.LibraryItem.TheVariants as item
 use Rattle.ada_syntax.specs.declared.unit.WithClause.{WithClause}
 use Rattle.ada_syntax.specs.declared.unit.Unit.{Unit as LibraryUnit}
-use Rattle.ada_parser.specs.declared.symbol.Symbol.{Symbol}
-use Rattle.ada_parser.specs.declared.symbol.Symbol.TheVariants as symbol
-use Rattle.ada_parser.specs.declared.extent.Extent.{Extent}
-use Rattle.ada_parser.specs.declared.extent.Extent.TheVariants.{Subprograms}
-use Rattle.ada_parser.specs.Symbols.{symbol_of, Is, identifier_of}
-use Rattle.ada_parser.specs.Extents.{opens}
-use Rattle.ada_parser.specs.Reading.{Tokens, Reader, Got, Refuse, Leave, Look, got, ◌>>=◌, provided, expect, skip, repeat}
+use Rattle.expression_parser.specs.declared.symbol.Symbol.{Symbol}
+use Rattle.expression_parser.specs.declared.symbol.Symbol.TheVariants as symbol
+use Rattle.expression_parser.specs.declared.extent.Extent.{Extent}
+use Rattle.expression_parser.specs.declared.extent.Extent.TheVariants.{Subprograms}
+use Rattle.expression_parser.specs.Symbols.{symbol_of, Is, identifier_of}
+use Rattle.expression_parser.specs.Extents.{opens}
+use Rattle.expression_parser.specs.Reading.{Tokens, Reader, Got, Refuse, Leave, Look, got, ◌>>=◌, provided, expect, skip, repeat}
 use Rattle.ada_parser.specs.StatementReading.{statements_by}
 use Rattle.ada_parser.specs.UnitReading as read
 use Rattle.ada_parser.specs.Statements.{AreStatements}
 use Rattle.ada_parser.specs.Grammar.{AreIdentifiers, one_identifier, more_identifiers, IsWith, a_with, AreWiths, no_withs, more_withs, IsEndName, no_end_name, an_end_name, procedure_body, IsBody, a_procedure, IsUnit, a_unit, AreUnits, one_unit, more_units, IsFile}
-use Rattle.ada_parser.proofs.Agree.{Local, LocalTurn, got_local, on_local, bind_local, expect_local, skip_local, provided_local, repeat_local}
-use Rattle.ada_parser.proofs.ExpressionLocal.{then_got, then_closed}
-use Rattle.ada_parser.proofs.Yields.{Yields, YieldsTurn, bind_yields, turned_yields, provided_yields, Takes, taken, expect_yields, skip_yields, repeat_yields}
-use Rattle.ada_parser.proofs.Comes.{got_bind, got_then, got_expect, got_skip, got_closed, on_symbol, Comes, Leaves, comes_leave, comes_take, comes_look}
+use Rattle.expression_parser.proofs.Agree.{Local, LocalTurn, got_local, on_local, bind_local, expect_local, skip_local, provided_local, repeat_local}
+use Rattle.expression_parser.proofs.ExpressionLocal.{then_got, then_closed}
+use Rattle.expression_parser.proofs.Yields.{Yields, YieldsTurn, bind_yields, turned_yields, provided_yields, Takes, taken, expect_yields, skip_yields, repeat_yields}
+use Rattle.expression_parser.proofs.Comes.{got_bind, got_then, got_expect, got_skip, got_closed, on_symbol, Comes, Leaves, comes_leave, comes_take, comes_look}
 use Rattle.ada_parser.proofs.StatementLaws.{statements_local, statements_sound, statements_complete, statements_shorter}
 
 -- local

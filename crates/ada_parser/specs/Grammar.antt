@@ -9,12 +9,12 @@ use Rattle.ada_syntax.specs.declared.unit.SubprogramBody.{SubprogramBody}
 use Rattle.ada_syntax.specs.declared.unit.LibraryItem.TheVariants as item
 use Rattle.ada_syntax.specs.declared.unit.WithClause.{WithClause}
 use Rattle.ada_syntax.specs.declared.unit.Unit.{Unit as LibraryUnit}
-use Rattle.ada_parser.specs.declared.symbol.Symbol.TheVariants as symbol
-use Rattle.ada_parser.specs.declared.extent.Extent.{Extent}
-use Rattle.ada_parser.specs.declared.extent.Extent.TheVariants.{Subprograms}
-use Rattle.ada_parser.specs.Symbols.{Is, identifier_of}
-use Rattle.ada_parser.specs.Extents.{opens}
-use Rattle.ada_parser.specs.Reading.{Tokens}
+use Rattle.expression_parser.specs.declared.symbol.Symbol.TheVariants as symbol
+use Rattle.expression_parser.specs.declared.extent.Extent.{Extent}
+use Rattle.expression_parser.specs.declared.extent.Extent.TheVariants.{Subprograms}
+use Rattle.expression_parser.specs.Symbols.{Is, identifier_of}
+use Rattle.expression_parser.specs.Extents.{opens}
+use Rattle.expression_parser.specs.Reading.{Tokens}
 use Rattle.ada_parser.specs.Statements.{AreStatements}
 
 -- id {, id}

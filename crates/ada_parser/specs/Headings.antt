@@ -9,29 +9,15 @@ use Rattle.ada_syntax.specs.declared.unit.Specification.{Specification}
 use Rattle.ada_syntax.specs.declared.unit.Unit.{Unit as LibraryUnit}
 use Rattle.std.specs.declared.vec.Vec.{Vec}
 use Rattle.std.specs.declared.alloc.Global.{Global}
-use Rattle.ada_parser.specs.declared.symbol.Symbol.{Symbol}
-use Rattle.ada_parser.specs.declared.extent.Extent.{Extent}
-use Rattle.ada_parser.specs.declared.fault.Fault.{Fault}
-use Rattle.ada_parser.specs.declared.fault.Fault.TheVariants.{Syntax, Memory}
-use Rattle.ada_parser.specs.Symbols.{identifier_of}
-use Rattle.ada_parser.specs.Reading.{Tokens, Reader, Got, Stuck, got, ◌>>=◌, expect}
+use Rattle.expression_parser.specs.declared.extent.Extent.{Extent}
+use Rattle.expression_parser.specs.declared.fault.Fault.{Fault}
+use Rattle.expression_parser.specs.declared.fault.Fault.TheVariants.{Syntax, Memory}
+use Rattle.expression_parser.specs.Symbols.{identifier_of}
+use Rattle.expression_parser.specs.Reading.{Tokens, Reader, Got, Stuck, got, ◌>>=◌}
 use Rattle.ada_parser.specs.Grammar.{procedure_body}
 use Rattle.ada_parser.specs.StatementReading.{statements_by}
 use Rattle.ada_parser.specs.UnitReading.{end_by, body_by, file_by}
-use Rattle.ada_parser.specs.Shows.{Reads}
-
--- a word that stands at this place was taken
-pub record Placed (s : Symbol) (ts rest : Tokens) (p : Pos) : Type 0 where
-  pub t : Token
-  pub here : expect s ts ≡ Got t rest
-  pub same : p ≡ t.pos
-  pub shorter : length rest < length ts
-
--- the answer of taking a word with its place
-abbrev pub TakesPlace : Symbol → Tokens → Result (Pos × Bor Tokens) Fault → Type 0
-TakesPlace s ts (Ok x) = Placed s ts x.1.now x.0
-TakesPlace s ts (Err (Syntax rest)) = expect s ts ≡ Stuck rest.now
-TakesPlace s ts (Err Memory) = ⊤
+use Rattle.expression_parser.specs.Shows.{Reads}
 
 -- what is read of a procedure behind its BEGIN
 abbrev pub after_begin : Extent → ℕ → Token → Token → Reader SubprogramBody

@@ -1,11 +1,3 @@
-pub mod Symbols
-pub mod Reading
-pub mod Syntax
-pub mod Extents
-pub mod Expressions
-pub mod ExpressionReading
-pub mod Shows
-pub mod Depth
 pub mod Statements
 pub mod StatementReading
 pub mod Grammar

@@ -1,9 +1,9 @@
 -- The tokens that are nodes.
 use Rattle.std.specs.Prelude.{ℕ, ◌+◌, [], ◌∷◌}
-use Rattle.ada_parser.specs.declared.symbol.Symbol.{Symbol}
-use Rattle.ada_parser.specs.declared.symbol.Symbol.TheVariants as symbol
-use Rattle.ada_parser.specs.Symbols.{symbol_of}
-use Rattle.ada_parser.specs.Reading.{Tokens}
+use Rattle.expression_parser.specs.declared.symbol.Symbol.{Symbol}
+use Rattle.expression_parser.specs.declared.symbol.Symbol.TheVariants as symbol
+use Rattle.expression_parser.specs.Symbols.{symbol_of}
+use Rattle.expression_parser.specs.Reading.{Tokens}
 
 -- all but ( ) , ; : . ' and =>
 abbrev pub symbol_nodes : Symbol → ℕ

@@ -5,11 +5,11 @@ use Rattle.cov_base.specs.declared.failure.Failure.{Failure}
 use Rattle.cov_base.specs.declared.failure.Failure.TheVariants.{Fault, WantOfMemory}
 use Rattle.ada_lexer.specs.declared.token.Token.{Token}
 use Rattle.ada_syntax.specs.declared.unit.Unit.{Unit as LibraryUnit}
-use Rattle.ada_parser.specs.declared.extent.Extent.{Extent}
+use Rattle.expression_parser.specs.declared.extent.Extent.{Extent}
 use Rattle.ada_parser.specs.declared.refusal.SyntaxFault.{SyntaxFault}
-use Rattle.ada_parser.specs.Reading.{Tokens}
+use Rattle.expression_parser.specs.Reading.{Tokens}
 use Rattle.ada_parser.specs.Grammar.{IsFile}
-use Rattle.ada_parser.specs.Syntax.{Agree, Suffix}
+use Rattle.expression_parser.specs.Syntax.{Agree, Suffix}
 
 -- the place of the last token; without tokens line 1 and column 1 of file 0
 abbrev pub end_place : Tokens → Pos

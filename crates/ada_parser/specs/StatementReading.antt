@@ -2,11 +2,11 @@
 use Rattle.std.specs.Prelude.{ℕ, suc, Bool, true, false, List, [], ◌∷◌, ◌++◌, None}
 use Rattle.ada_lexer.specs.declared.token.Token.{Token}
 use Rattle.ada_syntax.specs.StatementTree.{Statement, null, call, returns}
-use Rattle.ada_parser.specs.declared.symbol.Symbol.{Symbol}
-use Rattle.ada_parser.specs.declared.symbol.Symbol.TheVariants as symbol
-use Rattle.ada_parser.specs.declared.extent.Extent.{Extent}
-use Rattle.ada_parser.specs.Reading.{Reader, Turn, Refuse, Leave, Take, Look, got, ◌>>=◌, on_token, skip, repeat}
-use Rattle.ada_parser.specs.Depth.{at_name}
+use Rattle.expression_parser.specs.declared.symbol.Symbol.{Symbol}
+use Rattle.expression_parser.specs.declared.symbol.Symbol.TheVariants as symbol
+use Rattle.expression_parser.specs.declared.extent.Extent.{Extent}
+use Rattle.expression_parser.specs.Reading.{Reader, Turn, Refuse, Leave, Take, Look, got, ◌>>=◌, on_token, skip, repeat}
+use Rattle.expression_parser.specs.Depth.{at_name}
 
 -- the symbols that begin a statement
 abbrev pub begins_statement : Symbol → Bool

@@ -4,11 +4,11 @@ use Rattle.std.specs.Prelude.{List, [], ◌∷◌, ◌++◌, None}
 use Rattle.ada_lexer.specs.declared.token.Token.{Token}
 use Rattle.ada_syntax.specs.Tree.{Name, name_pos}
 use Rattle.ada_syntax.specs.StatementTree.{Statement, null, call, returns}
-use Rattle.ada_parser.specs.declared.symbol.Symbol.TheVariants as symbol
-use Rattle.ada_parser.specs.declared.extent.Extent.{Extent}
-use Rattle.ada_parser.specs.Symbols.{Is}
-use Rattle.ada_parser.specs.Reading.{Tokens}
-use Rattle.ada_parser.specs.Expressions.{IsName}
+use Rattle.expression_parser.specs.declared.symbol.Symbol.TheVariants as symbol
+use Rattle.expression_parser.specs.declared.extent.Extent.{Extent}
+use Rattle.expression_parser.specs.Symbols.{Is}
+use Rattle.expression_parser.specs.Reading.{Tokens}
+use Rattle.expression_parser.specs.Expressions.{IsName}
 
 -- stmt = NULL ; | RETURN ; | name ;
 pub data IsStatement (x : Extent) : Statement → Tokens → Tokens → Type 0 where

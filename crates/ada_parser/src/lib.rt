@@ -8,17 +8,10 @@
 //! else, where they derive none, the place at which they are refused.
 #![tactic(auto)]
 
-mod expressions;
-mod extent;
-mod fault;
-mod names;
-mod parser;
 mod refusal;
 mod statements;
-mod symbol;
 #[cfg(test)]
 mod tests;
 mod units;
 
-pub use crate::extent::Extent;
 pub use crate::refusal::{SyntaxFault, parse};

@@ -3,16 +3,15 @@
 ghost use Rattle.std.specs.Prelude.{◌≡◌, IfOk, IfErr, sum_by};
 ghost use Rattle.ada_syntax.specs.Nodes.{unit_nodes};
 ghost use Rattle.ada_parser.specs.NodeTokens.{node_tokens};
-ghost use Rattle.ada_parser.specs.declared.extent.Extent.TheVariants.{StraightLine};
+ghost use Rattle.expression_parser.specs.declared.extent.Extent.TheVariants.{StraightLine};
 ghost use Rattle.ada_parser.specs.Grammar.{IsFile};
 ghost use Rattle.ada_parser.specs.Refusal as refusal;
 
-use crate::extent::Extent;
-use crate::fault::Fault;
-use crate::parser::Parser;
+use crate::units::file;
 use ada_lexer::Token;
 use ada_syntax::Unit;
 use cov_base::{Failure, Pos};
+use expression_parser::{Extent, Fault, Parser};
 use std::alloc::Global;
 use thiserror::Error;
 
@@ -59,7 +58,7 @@ pub fn parse(alloc: Global, tokens: &[Token]) -> Result<Vec<Unit>, Failure<Synta
     ensures refused { IfErr result (refusal.RefusedBy StraightLine tokens.now) }
 {
     let extent = Extent::StraightLine;
-    match (Parser { alloc, extent }).file(tokens) {
+    match file(Parser { alloc, extent }, tokens) {
         Ok(units) => Ok(units),
         Err(Fault::Syntax(rest)) => Err(Failure::Fault(SyntaxFault {
             pos: refused_at(rest, tokens),

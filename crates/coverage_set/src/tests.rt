@@ -6,15 +6,13 @@ ghost use Rattle.object_format.specs.Checked.{IsSound};
 mod given;
 
 use crate::Coverage;
-use cov_base::{DecId, Event, Failure, InstId, Seq, StmtId, Vector};
+use cov_base::{DecId, Event, Failure, InstId, StmtId, Vector};
 use decision_map::{DecisionMap, checked_objects_have_maps};
-use given::{FIRST, OBJECT, SECOND};
+use given::{BROKEN, FIRST, OBJECT, SECOND};
 use object_format::{Object, read_whole_object};
-use spelling::write_file;
 use std::alloc::{AllocError, Global};
-use std::process::Abort;
 use std::test::Fail;
-use trace_format::{Trace, TraceView};
+use trace_format::TraceView;
 
 /// Pieces put together.
 fn whole(alloc: Global, pieces: &[&[u8]]) -> Result<Vec<u8>, AllocError> {
@@ -71,19 +69,30 @@ fn done(seen: u32, value: u32) -> Event {
     Event::Done(DecId(0), InstId(0), Vector { seen, value })
 }
 
+/// What one trace covers.
+fn covered<'a>(
+    alloc: Global,
+    map: &DecisionMap<'_>,
+    object: &'a Object,
+    trace: &[&[u8]],
+) -> Result<Coverage<'a>, AllocError>
+    requires sound { IsSound map.now }
+    requires object { map.now ≡ object.now }
+    ensures { IfOk result (λ coverage. coverage.object ≡ object.now) }
+{
+    let bytes = whole(alloc, trace)?;
+    let mut coverage = Coverage::new(alloc, object);
+    let _ = offer(map, &mut coverage, bytes.as_slice());
+    Ok(coverage)
+}
+
 #[test]
 fn two_runs_are_joined(rt: HostRuntime) -> Result<(), Fail> {
     let bytes = whole(rt.alloc(), &OBJECT)?;
     let object = read_whole_object(rt.alloc(), bytes.as_slice())?;
     let map = map_of(rt.alloc(), &object)?;
-    let first = whole(rt.alloc(), &FIRST)?;
-    let second = whole(rt.alloc(), &SECOND)?;
-    let mut coverage = Coverage::new(rt.alloc(), &object);
-    assert_eq!(rt; offer(&map, &mut coverage, first.as_slice()), Offered::Taken);
-    assert_eq!(rt; offer(&map, &mut coverage, first.as_slice()), Offered::Taken);
-    assert_eq!(rt; coverage.runs(), 1);
-    let mut other = Coverage::new(rt.alloc(), &object);
-    assert_eq!(rt; offer(&map, &mut other, second.as_slice()), Offered::Taken);
+    let mut coverage = covered(rt.alloc(), &map, &object, &FIRST)?;
+    let other = covered(rt.alloc(), &map, &object, &SECOND)?;
     coverage.join(&other)?;
     assert_eq!(rt; coverage.runs(), 2);
     let events = coverage.events(rt.alloc())?;
@@ -100,24 +109,16 @@ fn two_runs_are_joined(rt: HostRuntime) -> Result<(), Fail> {
     Ok(())
 }
 
-/// A trace without the first entry of its history.
-fn without_first(alloc: Global, trace: &[u8]) -> Result<Vec<u8>, Fail> {
-    let view = TraceView::view(trace)?;
-    let mut blocks = Vec::new(alloc);
-    for at in 0..view.blocks() {
-        blocks.push(view.block(at))?;
-    }
-    let mut history = Vec::new(alloc);
-    for at in 1..view.history() {
-        history.push(view.entry(at))?;
-    }
-    let trace = Trace {
-        object: view.object(),
-        ending: view.ending(),
-        blocks: Seq::from(blocks),
-        history: Seq::from(history),
-    };
-    Ok(write_file(alloc, b"GCTR", 1, &trace)?)
+#[test]
+fn one_run_counts_once(rt: HostRuntime) -> Result<(), Fail> {
+    let bytes = whole(rt.alloc(), &OBJECT)?;
+    let object = read_whole_object(rt.alloc(), bytes.as_slice())?;
+    let map = map_of(rt.alloc(), &object)?;
+    let mut coverage = covered(rt.alloc(), &map, &object, &FIRST)?;
+    let first = whole(rt.alloc(), &FIRST)?;
+    assert_eq!(rt; offer(&map, &mut coverage, first.as_slice()), Offered::Taken);
+    assert_eq!(rt; coverage.runs(), 1);
+    Ok(())
 }
 
 #[test]
@@ -125,11 +126,9 @@ fn a_broken_history_adds_nothing(rt: HostRuntime) -> Result<(), Fail> {
     let bytes = whole(rt.alloc(), &OBJECT)?;
     let object = read_whole_object(rt.alloc(), bytes.as_slice())?;
     let map = map_of(rt.alloc(), &object)?;
-    let second = whole(rt.alloc(), &SECOND)?;
-    let broken = without_first(rt.alloc(), second.as_slice())?;
+    let broken = whole(rt.alloc(), &BROKEN)?;
     let mut coverage = Coverage::new(rt.alloc(), &object);
     assert_eq!(rt; offer(&map, &mut coverage, broken.as_slice()), Offered::Broken(0));
     assert_eq!(rt; coverage.runs(), 0);
-    assert!(rt; coverage.events(rt.alloc())?.is_empty());
     Ok(())
 }

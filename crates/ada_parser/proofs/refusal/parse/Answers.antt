@@ -1,4 +1,4 @@
-use Rattle.ada_parser.specs.declared.extent.Extent.TheVariants.{StraightLine}
+use Rattle.expression_parser.specs.declared.extent.Extent.TheVariants.{StraightLine}
 use Rattle.ada_parser.proofs.RefusalLaws.{is_refused}
 use Rattle.ada_parser.proofs.refusal.parse.Goals as goal
 

@@ -1,0 +1,4 @@
+pub mod TypeCode
+pub mod ExprCode
+pub mod StmtCode
+pub mod View

@@ -1,0 +1,141 @@
+-- An image that implements the kernel of a program does what the program means.
+use Rattle.std.proofs.Common.{◌≡◌, ◌≢◌, ℕ, suc, eqb, true, false, ◌+◌, ◌*◌, ◌≤◌, ◌<◌, ℤ, List, reverse, Option, Some, None, refl, sym, ap, ◌∙◌, subst, arith, ◌⊎◌, inl, inr}
+use Rattle.ada_meaning.specs.Execution as source
+use Rattle.ada_meaning.specs.Execution.{Execution, by_return, by_exception, execution_of, Ends}
+use Rattle.ada_meaning.specs.Program.{Program}
+use Rattle.ada_meaning.specs.Refines as source_refines
+use Rattle.ada_meaning.specs.State.{Seen, Outcome, Gives, Raises, OutOfFuel}
+use Rattle.compiler.specs.Behaves.{number_of, ShowsExecution, Behaves}
+use Rattle.kernel_code.specs.Implements.{EndedWith, EndsAs, EndsInTime, Implements}
+use Rattle.kernel_code.specs.Line.{Site}
+use Rattle.kernel_code.specs.Whole.{run_on, IsInput, Matches}
+use Rattle.kernel_ir.specs.declared.kernel.Kernel.{Kernel}
+use Rattle.kernel_ir.specs.Meaning as code
+use Rattle.kernel_ir.specs.World.{Ended as KernelEnded, world_in}
+use Rattle.kernel_ir.specs.World as kernel
+use Rattle.kernel_ir.specs.Laws.{Refines}
+use Rattle.kernel_ir.proofs.Fuel.{more_fuel_law as kernel_more}
+use Rattle.ada_meaning.proofs.FuelExecution.{more_fuel_law as source_more}
+use Rattle.std.proofs.lemmas.Bool.Decides.{eqb_tells}
+use Rattle.object_facts.specs.Object.{facts_of}
+use Rattle.object_format.specs.declared.object.Object.{Object}
+use Rattle.rv_machine.specs.Objects.{object_run}
+use Rattle.lower.specs.Lowered.{kernel_of}
+use Rattle.lower.specs.Same.{Observed, Same}
+use Rattle.lower.specs.StraightLine.{IsStraightLine}
+use Rattle.lower.proofs.Follows.{same_law}
+use Rattle.rv_semantics.specs.Run.{Run}
+use Rattle.rv_semantics.specs.Run.Outcome.{Ended, Trapped}
+
+-- a fuel that is at least so much, and not the greatest depth of calls
+record Fuel (n : ℕ) : Type 0 where
+  fuel : ℕ
+  enough : n ≤ fuel
+  other : fuel ≢ source.deepest
+
+fuel_from : (n : ℕ) → Fuel n
+unfolding source.deepest
+fuel_from n = by_test (eqb_tells n 512)
+  where
+    by_test : ((eqb n 512 ≡ true) × (n ≡ 512)) ⊎ ((eqb n 512 ≡ false) × (n ≢ 512)) → Fuel n
+    by_test (inl is) = record { fuel = suc n; enough = omega arith; other = λ e. absurd (omega (arith, is.1, e)) }
+    by_test (inr not) = record { fuel = n; enough = omega arith; other = not.1 }
+
+-- a run that ended as the kernel did ends so with more fuel
+ends_more : (site : Site) (run : Run) (e more : KernelEnded) → EndsAs site e run → Refines e more → EndsAs site more run
+ends_more site run (kernel.Ends w) more ends refines = subst (λ x. EndsAs site x run) (sym refines) ends
+ends_more site run (kernel.Exits w) more ends refines = absurd ends
+ends_more site run (kernel.Returns w) more ends refines = absurd ends
+ends_more site run (kernel.Raises f w) more ends refines = subst (λ x. EndsAs site x run) (sym refines) ends
+ends_more site run (kernel.Cut w) more ends refines = absurd ends
+
+-- what a run shows that ended as the kernel did, where the source ended alike
+record Shown (site : Site) (r : Outcome (Option ℤ)) (run : Run) : Type 0 where
+  x : Execution
+  is : source.ended r ≡ Some x
+  shows : ShowsExecution site.facts run x
+
+matched : (site : Site) (number : ℕ) (w : Seen) (v : kernel.World) (run : Run) (ending : source.Ending) → number ≡ number_of ending → Observed 0 w v.seen → EndedWith site number v run
+    → ShowsExecution site.facts run (execution_of ending w)
+matched site number w v run ending is seen ends = record {
+  ended = ends.outcome ∙ ap Ended is;
+  output = sym ends.matches.output ∙ ap reverse seen.output;
+  events = sym ends.matches.events ∙ ap reverse seen.events;
+  disciplined = ends.matches.order;
+}
+
+shown : (site : Site) (r : Outcome (Option ℤ)) (e : KernelEnded) (run : Run) → Same r e → EndsAs site e run → Shown site r run
+shown site (Gives a w) (kernel.Ends v) run same ends = record { x = execution_of by_return w.seen; is = refl; shows = matched site 0 w.seen v run by_return refl same ends }
+shown site (Raises x w) (kernel.Raises f v) run same ends = record { x = execution_of (by_exception x) w.seen; is = refl; shows = matched site f w.seen v run (by_exception x) same.0 same.1 ends }
+shown site r (kernel.Exits v) run same ends = absurd ends
+shown site r (kernel.Returns v) run same ends = absurd ends
+shown site r (kernel.Cut v) run same ends = absurd ends
+shown site (Raises x w) (kernel.Ends v) run same ends = absurd same
+shown site (OutOfFuel w) (kernel.Ends v) run same ends = absurd same
+shown site (Gives a w) (kernel.Raises f v) run same ends = absurd same
+shown site (OutOfFuel w) (kernel.Raises f v) run same ends = absurd same
+
+-- where the source's execution ended, the kernel's did, and the run ends in time
+abbrev nothing : Option Execution
+nothing = None
+
+none_some : (x : Execution) → nothing ≡ Some x → ⊥
+none_some x e = cc e
+
+some_is : (x y : Execution) → Some x ≡ Some y → x ≡ y
+some_is x y e = cc e
+
+-- an execution that ended stays
+ended_stays : (a b : Outcome (Option ℤ)) (x : Execution) → source_refines.Refines a b → source.ended a ≡ Some x → source.ended b ≡ Some x
+ended_stays (Gives r w) b x refines is = ap source.ended refines ∙ is
+ended_stays (Raises e w) b x refines is = ap source.ended refines ∙ is
+ended_stays (OutOfFuel w) b x refines is = absurd (none_some x is)
+
+timely : (site : Site) (k : Kernel) (input : List ℤ) (r : Outcome (Option ℤ)) (e : KernelEnded) (x : Execution) → Same r e → source.ended r ≡ Some x → EndsInTime site k input e
+    → (budget : ℕ) → 500 * x.cost + 5000 ≤ budget → EndsAs site e (run_on site k input budget)
+timely site k input (Gives a w) (kernel.Ends v) x same is time budget enough =
+    time budget (let cost = ap (λ y. y.cost) (some_is (execution_of by_return w.seen) x is) in omega (arith, cost, same.cost, enough))
+timely site k input (Raises y w) (kernel.Raises f v) x same is time budget enough =
+    time budget (let cost = ap (λ z. z.cost) (some_is (execution_of (by_exception y) w.seen) x is) in omega (arith, cost, same.1.cost, enough))
+timely site k input (OutOfFuel w) e x same is time budget enough = absurd (none_some x is)
+timely site k input (Gives a w) (kernel.Exits v) x same is time budget enough = absurd same
+timely site k input (Gives a w) (kernel.Returns v) x same is time budget enough = absurd same
+timely site k input (Gives a w) (kernel.Raises f v) x same is time budget enough = absurd same
+timely site k input (Gives a w) (kernel.Cut v) x same is time budget enough = absurd same
+timely site k input (Raises y w) (kernel.Ends v) x same is time budget enough = absurd same
+timely site k input (Raises y w) (kernel.Exits v) x same is time budget enough = absurd same
+timely site k input (Raises y w) (kernel.Returns v) x same is time budget enough = absurd same
+timely site k input (Raises y w) (kernel.Cut v) x same is time budget enough = absurd same
+
+module _ (p : Program) (plain : IsStraightLine p) (site : Site) (impl : Implements site (kernel_of p)) where
+  runs_are_faithful : (budget : ℕ) (input : List ℤ) → IsInput input → (number : ℕ) → (run_on site (kernel_of p) input budget).outcome ≡ Ended number
+      → (x : Execution) × Ends p input x × ShowsExecution site.facts (run_on site (kernel_of p) input budget) x
+  runs_are_faithful budget input is number outcome =
+      let f = fuel_from (budget + 1) in
+      let ends = ends_more site (run_on site (kernel_of p) input budget) _ _ (impl.ends_only input is budget number outcome) (kernel_more (kernel_of p) (budget + 1) f.fuel input f.enough) in
+      let s = shown site (source.exec p f.fuel input) (code.exec (kernel_of p) f.fuel input) (run_on site (kernel_of p) input budget) (same_law p plain f.fuel input f.other) ends in
+      (s.x, (f.fuel, s.is), s.shows)
+
+  runs_are_timely : (input : List ℤ) → IsInput input → (x : Execution) → Ends p input x → (budget : ℕ) → 500 * x.cost + 5000 ≤ budget
+      → ShowsExecution site.facts (run_on site (kernel_of p) input budget) x
+  runs_are_timely input is x ends budget enough =
+      let f = fuel_from ends.0 in
+      let still = ended_stays (source.exec p ends.0 input) (source.exec p f.fuel input) x (source_more p ends.0 f.fuel input f.enough) ends.1 in
+      let same = same_law p plain f.fuel input f.other in
+      let over = timely site (kernel_of p) input (source.exec p f.fuel input) (code.exec (kernel_of p) f.fuel input) x same still (impl.in_time input is f.fuel) budget enough in
+      let s = shown site (source.exec p f.fuel input) (code.exec (kernel_of p) f.fuel input) (run_on site (kernel_of p) input budget) same over in
+      subst (λ y. ShowsExecution site.facts (run_on site (kernel_of p) input budget) y) (some_is s.x x (sym s.is ∙ still)) s.shows
+
+-- an object whose machine is the kernel's image behaves as the program
+pub behaves : (p : Program) → IsStraightLine p → (o : Object) (site : Site) → Implements site (kernel_of p) → site.facts ≡ facts_of o
+    → ((budget : ℕ) (input : List ℤ) → object_run o budget input ≡ run_on site (kernel_of p) input budget) → Behaves p o
+behaves p plain o site impl facts same = record {
+  no_trap = λ budget input is pc why e. impl.no_trap input is budget pc why (ap (λ r. r.outcome) (sym (same budget input)) ∙ e);
+  faithful = λ budget input is number e.
+      let s = runs_are_faithful p plain site impl budget input is number (ap (λ r. r.outcome) (sym (same budget input)) ∙ e) in
+      (s.0, s.1, moved budget input s.0 s.2);
+  in_time = λ input is x ends budget enough. moved budget input x (runs_are_timely p plain site impl input is x ends budget enough);
+}
+  where
+    moved : (budget : ℕ) (input : List ℤ) (x : Execution) → ShowsExecution site.facts (run_on site (kernel_of p) input budget) x → ShowsExecution (facts_of o) (object_run o budget input) x
+    moved budget input x s = subst (λ f. ShowsExecution f (object_run o budget input) x) facts (subst (λ r. ShowsExecution site.facts r x) (sym (same budget input)) s)

@@ -1,0 +1,70 @@
+-- The object that holds the linked pieces of a program's kernel behaves as the program.
+use Rattle.std.proofs.Common.{◌≡◌, ℕ, ◌+◌, ◌≤◌, ℤ, List, [], length, find, option_map, slice_get, Option, Some, refl, sym, ap, ◌∙◌, subst, ◌==◌}
+use Rattle.std.specs.Option.{option_and_then}
+use Rattle.ada_meaning.specs.Program.{Program}
+use Rattle.assembler.specs.Laws.{ArePlaced}
+use Rattle.assembler.specs.Placed.{address_of, labels}
+use Rattle.assembler.specs.Reach.{AreItems}
+use Rattle.assembler.specs.declared.piece.Piece.{Piece}
+use Rattle.compiler.specs.Behaves.{Behaves}
+use Rattle.compiler.specs.Held.{HoldsImage}
+use Rattle.compiler.proofs.Behaving.{behaves}
+use Rattle.compiler.proofs.Kept.{rows_kept, conditions_kept}
+use Rattle.decision_map.specs.Roles as map
+use Rattle.kernel_code.proofs.Implements.{code_implements}
+use Rattle.kernel_code.proofs.PieceLaws.{pieces_are_marked}
+use Rattle.kernel_code.proofs.PiecesFit.{pieces_can_be_placed}
+use Rattle.kernel_code.proofs.Stands.{placed_kernels_hold}
+use Rattle.kernel_code.proofs.Whole.{code_follows_law}
+use Rattle.kernel_code.specs.Implements.{Implements}
+use Rattle.kernel_code.specs.Pieces.{kernel_pieces}
+use Rattle.kernel_code.specs.Standing.{HaveMarks, site_of}
+use Rattle.kernel_code.specs.Whole.{run_on}
+use Rattle.kernel_ir.specs.declared.kernel.Kernel.{Kernel}
+use Rattle.line_table.specs.declared.roles.Role.{Role}
+use Rattle.line_table.specs.declared.rows.Row.{Row as Line}
+use Rattle.linker.proofs.RoleMarks.{roles_are_found}
+use Rattle.linker.proofs.RowMarks.{rows_are_found}
+use Rattle.linker.specs.Linked.{linked}
+use Rattle.lower.proofs.Static.{well_formed_law, within_law}
+use Rattle.lower.specs.Lowered.{kernel_of}
+use Rattle.lower.specs.Marked.{all_statements}
+use Rattle.lower.specs.StraightLine.{IsStraightLine}
+use Rattle.object_facts.proofs.Fair.{fair}
+use Rattle.object_facts.specs.Object.{facts_of, row_of, condition_of}
+use Rattle.object_format.specs.Checked.{IsSound}
+use Rattle.object_format.specs.declared.object.Object.{Object}
+use Rattle.rv_machine.specs.Objects.{object_image, object_run}
+use Rattle.rv_semantics.specs.Layout.{data_start}
+use Rattle.rv_semantics.specs.Run.{runs}
+use Rattle.rv_semantics.specs.State.{start}
+
+-- the marks of placed pieces are what the object says of the items' addresses
+marks_are_kept : (o : Object) (k : Kernel) → o.rows ≡ (linked (kernel_pieces k) []).rows → o.roles ≡ (linked (kernel_pieces k) []).roles → HaveMarks (facts_of o) (kernel_pieces k)
+marks_are_kept o k rows roles = record {
+  rows = λ n piece j there within.
+      ap (λ (lines : List Line). option_map row_of (find (λ (line : Line). line.address == address_of (labels (kernel_pieces k)) n j) lines)) rows
+      ∙ ap (option_map row_of) (rows_are_found (kernel_pieces k) [] n piece j (pieces_are_marked k).marks there within)
+      ∙ rows_kept (address_of (labels (kernel_pieces k)) n j) j piece.marks;
+  conditions = λ n piece j there within.
+      ap (λ (rs : List Role). option_map condition_of (option_and_then map.condition_of (find (λ role. role.address == address_of (labels (kernel_pieces k)) n j) rs))) roles
+      ∙ ap (λ r. option_map condition_of (option_and_then map.condition_of r)) (roles_are_found (kernel_pieces k) [] n piece j (pieces_are_marked k).marks there within)
+      ∙ conditions_kept (address_of (labels (kernel_pieces k)) n j) j piece.marks;
+}
+
+pub image_behaves : (p : Program) (o : Object) → IsStraightLine p → all_statements p.subprograms + length p.subprograms ≤ 4096 → IsSound o → HoldsImage (kernel_of p) o → Behaves p o
+image_behaves p o plain few sound holds =
+    let k = kernel_of p in
+    let pieces = kernel_pieces k in
+    let graph = (facts_of o).graph in
+    let formed = well_formed_law p plain graph in
+    let within = within_law p plain few in
+    let placeable = pieces_can_be_placed graph k formed within in
+    let placed : ArePlaced (object_image o) pieces = record { text = holds.text; items = holds.items; in_reach = placeable.in_reach; in_time = placeable.in_time } in
+    let site = site_of (object_image o) (facts_of o) pieces in
+    let impl : Implements site k = code_implements code_follows_law site k
+    (placed_kernels_hold (object_image o) (facts_of o) pieces k placed (marks_are_kept o k holds.rows holds.roles) (pieces_are_marked k).have (fair o sound) holds.exceptions) formed within in
+    behaves p plain o site impl refl (λ budget input.
+    ap (λ entry. runs (object_image o) budget (start (object_image o) entry o.init_at o.init) input) holds.entry
+    ∙ ap (λ at. runs (object_image o) budget (start (object_image o) (address_of (labels pieces) 0 0) at o.init) input) holds.init_at
+    ∙ ap (λ words. runs (object_image o) budget (start (object_image o) (address_of (labels pieces) 0 0) data_start words) input) holds.init)

@@ -1,0 +1,11 @@
+pub mod Agree
+pub mod ExpressionLocal
+pub mod Yields
+pub mod ExpressionSound
+pub mod Comes
+pub mod ExpressionLengths
+pub mod ExpressionComplete
+pub mod Loops
+pub mod NameCode
+pub mod OperatorLaws
+pub mod ExpressionCode

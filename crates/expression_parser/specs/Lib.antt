@@ -1,0 +1,9 @@
+pub mod Symbols
+pub mod Reading
+pub mod Syntax
+pub mod Extents
+pub mod Expressions
+pub mod ExpressionReading
+pub mod Shows
+pub mod Depth
+pub mod Operators

@@ -1,0 +1,16 @@
+pub mod Behind
+pub mod Line
+pub mod Goes
+pub mod Words
+pub mod SimpleCode
+pub mod Code
+pub mod FillCode
+pub mod Does
+pub mod Calls
+pub mod Fills
+pub mod Parts
+pub mod Whole
+pub mod Implements
+pub mod Marked
+pub mod Standing
+pub mod Pieces

@@ -1,0 +1,32 @@
+//! The machine code of a kernel, as a definition, and that it runs as the kernel means.
+//!
+//! The definitions stand in `specs/`. A piece of code is a list of lines: items of the assembler with
+//! what is said of each. `kernel_pieces kernel` are the pieces of a kernel: its start, its bodies and its
+//! layouts. `Implements site kernel` says that each run of an image is one of the kernel. The functions
+//! here do nothing: each carries laws of the definitions as its contract.
+//!
+//! - `Line`, `Words`, `SimpleCode`, `Code`, `FillCode`, `Pieces`: the code;
+//! - `Behind`, `Goes`, `Does`, `Calls`, `Fills`, `Parts`: what a machine that carries its past comes to,
+//!   and when that is what a part of the kernel means;
+//! - `Whole`, `Implements`: what the run of an image shows;
+//! - `Marked`, `Standing`: what the marks of the code say, and where it stands.
+//!
+//! The contract that the layers above use: [`placed_pieces_implement_their_kernel`], whose premises
+//! [`kernel_pieces_are_marked`] and [`kernel_pieces_can_be_placed`] give.
+#![tactic(auto)]
+
+mod laws;
+mod marks;
+mod pieces;
+mod runs;
+mod standing;
+#[cfg(test)]
+mod tests;
+
+pub use laws::{a_past_tells_what_its_transcript_tells, code_follows_its_kernel};
+pub use marks::bodies_are_marked;
+pub use pieces::{
+    kernel_pieces_are_marked, kernel_pieces_can_be_placed, placed_pieces_implement_their_kernel,
+};
+pub use runs::{code_implements_its_kernel, endings_are_executions, following_runs_implement};
+pub use standing::placed_kernels_hold;

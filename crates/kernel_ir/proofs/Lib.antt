@@ -1,0 +1,11 @@
+pub mod Shown
+pub mod Table
+pub mod Numbers
+pub mod Joining
+pub mod Building
+pub mod Growing
+pub mod Fuel
+pub mod Memories
+pub mod Wider
+pub mod LayoutLaws
+pub mod SizeLaws

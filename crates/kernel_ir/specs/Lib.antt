@@ -1,0 +1,13 @@
+pub mod Tree
+pub mod TreeCode
+pub mod TreeView
+pub mod TreeSize
+pub mod World
+pub mod Layouts
+pub mod Simple
+pub mod Meaning
+pub mod Limits
+pub mod Obligations
+pub mod Examples
+pub mod Laws
+pub mod Sequence

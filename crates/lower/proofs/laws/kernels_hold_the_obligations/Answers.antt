@@ -1,0 +1,5 @@
+use Rattle.lower.proofs.Static.{well_formed_law, rows_law, conditions_law}
+use Rattle.lower.proofs.laws.kernels_hold_the_obligations.Goals as goal
+
+pub returns : goal.returns
+returns c = record { well_formed = well_formed_law; rows = rows_law; conditions = conditions_law }

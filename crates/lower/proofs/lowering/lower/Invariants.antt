@@ -1,0 +1,8 @@
+use Rattle.std.proofs.Common.{◌≡◌, map, take}
+use Rattle.ada_tree.specs.View.{subprogram_of}
+use Rattle.lower.specs.Lowered.{body_of}
+use Rattle.lower.proofs.lowering.lower.Given as goal
+
+-- the bodies of the subprograms so far
+abbrev pub invariant-loop-subprogram : goal.invariant-loop-subprogram
+invariant-loop-subprogram l = l.bodies.items ≡ map (λ s. body_of (subprogram_of s)) (take l.subprogram-index l.subprogram-items)

@@ -1,0 +1,4 @@
+pub mod StraightLine
+pub mod Lowered
+pub mod Same
+pub mod Marked

@@ -1,0 +1,14 @@
+//! From the typed program to the kernel.
+//!
+//! The contract that the layers above use: [`lower`] gives the kernel of a straight-line program, and
+//! [`kernels_do_what_their_programs_do`] says of it that it has the program's events, output and
+//! ending on every input, at no more than twice the cost.
+#![tactic(auto)]
+
+mod laws;
+mod lowering;
+
+pub use laws::{
+    kernels_are_small, kernels_do_what_their_programs_do, kernels_hold_the_obligations,
+};
+pub use lowering::lower;
