@@ -116,7 +116,10 @@ fn one_run_counts_once(rt: HostRuntime) -> Result<(), Fail> {
     let map = map_of(rt.alloc(), &object)?;
     let mut coverage = covered(rt.alloc(), &map, &object, &FIRST)?;
     let first = whole(rt.alloc(), &FIRST)?;
-    assert_eq!(rt; offer(&map, &mut coverage, first.as_slice()), Offered::Taken);
+    assert_eq!(rt;
+        offer(&map, &mut coverage, first.as_slice()),
+        Offered::Taken
+    );
     assert_eq!(rt; coverage.runs(), 1);
     Ok(())
 }
@@ -128,7 +131,10 @@ fn a_broken_history_adds_nothing(rt: HostRuntime) -> Result<(), Fail> {
     let map = map_of(rt.alloc(), &object)?;
     let broken = whole(rt.alloc(), &BROKEN)?;
     let mut coverage = Coverage::new(rt.alloc(), &object);
-    assert_eq!(rt; offer(&map, &mut coverage, broken.as_slice()), Offered::Broken(0));
+    assert_eq!(rt;
+        offer(&map, &mut coverage, broken.as_slice()),
+        Offered::Broken(0)
+    );
     assert_eq!(rt; coverage.runs(), 0);
     Ok(())
 }

@@ -133,11 +133,7 @@ fn view_of(number: u32, trace: &[u8]) -> Result<TraceView<'_>, Status>
 }
 
 /// Checks that the trace with this number can be one of the object.
-fn check_fit(
-    decisions: &DecisionMap<'_>,
-    number: u32,
-    view: &TraceView<'_>,
-) -> Result<(), Status>
+fn check_fit(decisions: &DecisionMap<'_>, number: u32, view: &TraceView<'_>) -> Result<(), Status>
     requires { IsClosed view.now }
     ensures fits { OnOk result (fault_of decisions.now view.now ≡ None) }
     ensures refused { IfErr result (IsBadFit number decisions.now view.now) }
