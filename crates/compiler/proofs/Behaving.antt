@@ -5,8 +5,8 @@ use Rattle.ada_meaning.specs.Execution.{Execution, by_return, by_exception, exec
 use Rattle.ada_meaning.specs.Program.{Program}
 use Rattle.ada_meaning.specs.Refines as source_refines
 use Rattle.ada_meaning.specs.State.{Seen, Outcome, Gives, Raises, OutOfFuel}
-use Rattle.compiler.specs.Behaves.{number_of, ShowsExecution, Behaves}
-use Rattle.kernel_code.specs.Implements.{EndedWith, EndsAs, EndsInTime, Implements}
+use Rattle.compiler.specs.Behaves.{number_of, ShowsExecution, Behaves, EndsInTime}
+use Rattle.kernel_code.specs.Implements.{EndedWith, EndsAs, EndsInTime as KernelEndsInTime, Implements}
 use Rattle.kernel_code.specs.Line.{Site}
 use Rattle.kernel_code.specs.Whole.{run_on, IsInput, Matches}
 use Rattle.kernel_ir.specs.declared.kernel.Kernel.{Kernel}
@@ -25,6 +25,7 @@ use Rattle.lower.specs.Same.{Observed, Same}
 use Rattle.lower.specs.StraightLine.{IsStraightLine}
 use Rattle.lower.proofs.Follows.{same_law}
 use Rattle.rv_semantics.specs.Run.{Run}
+use Rattle.transcript.specs.Facts.{Facts}
 use Rattle.rv_semantics.specs.Run.Outcome.{Ended, Trapped}
 
 -- a fuel that is at least so much, and not the greatest depth of calls
@@ -91,7 +92,7 @@ ended_stays (Gives r w) b x refines is = ap source.ended refines ∙ is
 ended_stays (Raises e w) b x refines is = ap source.ended refines ∙ is
 ended_stays (OutOfFuel w) b x refines is = absurd (none_some x is)
 
-timely : (site : Site) (k : Kernel) (input : List ℤ) (r : Outcome (Option ℤ)) (e : KernelEnded) (x : Execution) → Same r e → source.ended r ≡ Some x → EndsInTime site k input e
+timely : (site : Site) (k : Kernel) (input : List ℤ) (r : Outcome (Option ℤ)) (e : KernelEnded) (x : Execution) → Same r e → source.ended r ≡ Some x → KernelEndsInTime site k input e
     → (budget : ℕ) → 500 * x.cost + 5000 ≤ budget → EndsAs site e (run_on site k input budget)
 timely site k input (Gives a w) (kernel.Ends v) x same is time budget enough =
     time budget (let cost = ap (λ y. y.cost) (some_is (execution_of by_return w.seen) x is) in omega (arith, cost, same.cost, enough))
@@ -126,6 +127,11 @@ module _ (p : Program) (plain : IsStraightLine p) (site : Site) (impl : Implemen
       let s = shown site (source.exec p f.fuel input) (code.exec (kernel_of p) f.fuel input) (run_on site (kernel_of p) input budget) same over in
       subst (λ y. ShowsExecution site.facts (run_on site (kernel_of p) input budget) y) (some_is s.x x (sym s.is ∙ still)) s.shows
 
+-- the same of what an object's machine does
+moved : (facts : Facts) (o : Object) (run : Run) (budget : ℕ) (input : List ℤ) (x : Execution) → facts ≡ facts_of o → object_run o budget input ≡ run → ShowsExecution facts run x
+    → ShowsExecution (facts_of o) (object_run o budget input) x
+moved facts o run budget input x is same s = subst (λ f. ShowsExecution f (object_run o budget input) x) is (subst (λ r. ShowsExecution facts r x) (sym same) s)
+
 -- an object whose machine is the kernel's image behaves as the program
 pub behaves : (p : Program) → IsStraightLine p → (o : Object) (site : Site) → Implements site (kernel_of p) → site.facts ≡ facts_of o
     → ((budget : ℕ) (input : List ℤ) → object_run o budget input ≡ run_on site (kernel_of p) input budget) → Behaves p o
@@ -133,9 +139,13 @@ behaves p plain o site impl facts same = record {
   no_trap = λ budget input is pc why e. impl.no_trap input is budget pc why (ap (λ r. r.outcome) (sym (same budget input)) ∙ e);
   faithful = λ budget input is number e.
       let s = runs_are_faithful p plain site impl budget input is number (ap (λ r. r.outcome) (sym (same budget input)) ∙ e) in
-      (s.0, s.1, moved budget input s.0 s.2);
-  in_time = λ input is x ends budget enough. moved budget input x (runs_are_timely p plain site impl input is x ends budget enough);
+      (s.0, s.1, moved site.facts o (run_on site (kernel_of p) input budget) budget input s.0 facts (same budget input) s.2);
 }
-  where
-    moved : (budget : ℕ) (input : List ℤ) (x : Execution) → ShowsExecution site.facts (run_on site (kernel_of p) input budget) x → ShowsExecution (facts_of o) (object_run o budget input) x
-    moved budget input x s = subst (λ f. ShowsExecution f (object_run o budget input) x) facts (subst (λ r. ShowsExecution site.facts r x) (sym (same budget input)) s)
+
+-- and its runs end in time
+pub ends_in_time : (p : Program) → IsStraightLine p → (o : Object) (site : Site) → Implements site (kernel_of p) → site.facts ≡ facts_of o
+    → ((budget : ℕ) (input : List ℤ) → object_run o budget input ≡ run_on site (kernel_of p) input budget) → EndsInTime p o
+ends_in_time p plain o site impl facts same = record {
+  in_time = λ input is x ends budget enough.
+      moved site.facts o (run_on site (kernel_of p) input budget) budget input x facts (same budget input) (runs_are_timely p plain site impl input is x ends budget enough);
+}

@@ -6,9 +6,9 @@ use Rattle.assembler.specs.Laws.{ArePlaced}
 use Rattle.assembler.specs.Placed.{address_of, labels}
 use Rattle.assembler.specs.Reach.{AreItems}
 use Rattle.assembler.specs.declared.piece.Piece.{Piece}
-use Rattle.compiler.specs.Behaves.{Behaves}
+use Rattle.compiler.specs.Behaves.{Behaves, EndsInTime}
 use Rattle.compiler.specs.Held.{HoldsImage}
-use Rattle.compiler.proofs.Behaving.{behaves}
+use Rattle.compiler.proofs.Behaving.{behaves, ends_in_time}
 use Rattle.compiler.proofs.Kept.{rows_kept, conditions_kept}
 use Rattle.decision_map.specs.Roles as map
 use Rattle.kernel_code.proofs.Implements.{code_implements}
@@ -17,6 +17,7 @@ use Rattle.kernel_code.proofs.PiecesFit.{pieces_can_be_placed}
 use Rattle.kernel_code.proofs.Stands.{placed_kernels_hold}
 use Rattle.kernel_code.proofs.Whole.{code_follows_law}
 use Rattle.kernel_code.specs.Implements.{Implements}
+use Rattle.kernel_code.specs.Line.{Site}
 use Rattle.kernel_code.specs.Pieces.{kernel_pieces}
 use Rattle.kernel_code.specs.Standing.{HaveMarks, site_of}
 use Rattle.kernel_code.specs.Whole.{run_on}
@@ -52,8 +53,14 @@ marks_are_kept o k rows roles = record {
       ∙ conditions_kept (address_of (labels (kernel_pieces k)) n j) j piece.marks;
 }
 
-pub image_behaves : (p : Program) (o : Object) → IsStraightLine p → all_statements p.subprograms + length p.subprograms ≤ 4096 → IsSound o → HoldsImage (kernel_of p) o → Behaves p o
-image_behaves p o plain few sound holds =
+-- the site of an object
+abbrev site_in : Object → Kernel → Site
+site_in o k = site_of (object_image o) (facts_of o) (kernel_pieces k)
+
+-- what stands at the site of an object that holds the image implements the kernel
+implements : (p : Program) (o : Object) → IsStraightLine p → all_statements p.subprograms + length p.subprograms ≤ 4096 → IsSound o → HoldsImage (kernel_of p) o
+    → Implements (site_in o (kernel_of p)) (kernel_of p)
+implements p o plain few sound holds =
     let k = kernel_of p in
     let pieces = kernel_pieces k in
     let graph = (facts_of o).graph in
@@ -61,10 +68,21 @@ image_behaves p o plain few sound holds =
     let within = within_law p plain few in
     let placeable = pieces_can_be_placed graph k formed within in
     let placed : ArePlaced (object_image o) pieces = record { text = holds.text; items = holds.items; in_reach = placeable.in_reach; in_time = placeable.in_time } in
-    let site = site_of (object_image o) (facts_of o) pieces in
-    let impl : Implements site k = code_implements code_follows_law site k
-    (placed_kernels_hold (object_image o) (facts_of o) pieces k placed (marks_are_kept o k holds.rows holds.roles) (pieces_are_marked k).have (fair o sound) holds.exceptions) formed within in
-    behaves p plain o site impl refl (λ budget input.
+    code_implements code_follows_law (site_in o k) k
+    (placed_kernels_hold (object_image o) (facts_of o) pieces k placed (marks_are_kept o k holds.rows holds.roles) (pieces_are_marked k).have (fair o sound) holds.exceptions) formed within
+
+-- the machine of an object that holds the image of a program's kernel is the kernel's
+same_run : (p : Program) (o : Object) → HoldsImage (kernel_of p) o → (budget : ℕ) (input : List ℤ) → object_run o budget input ≡ run_on (site_in o (kernel_of p)) (kernel_of p) input budget
+same_run p o holds budget input =
     ap (λ entry. runs (object_image o) budget (start (object_image o) entry o.init_at o.init) input) holds.entry
-    ∙ ap (λ at. runs (object_image o) budget (start (object_image o) (address_of (labels pieces) 0 0) at o.init) input) holds.init_at
-    ∙ ap (λ words. runs (object_image o) budget (start (object_image o) (address_of (labels pieces) 0 0) data_start words) input) holds.init)
+    ∙ ap (λ at. runs (object_image o) budget (start (object_image o) (address_of (labels (kernel_pieces (kernel_of p))) 0 0) at o.init) input) holds.init_at
+    ∙ ap (λ words. runs (object_image o) budget (start (object_image o) (address_of (labels (kernel_pieces (kernel_of p))) 0 0) data_start words) input) holds.init
+
+pub image_behaves : (p : Program) (o : Object) → IsStraightLine p → all_statements p.subprograms + length p.subprograms ≤ 4096 → IsSound o → HoldsImage (kernel_of p) o → Behaves p o
+image_behaves p o plain few sound holds =
+    behaves p plain o (site_in o (kernel_of p)) (implements p o plain few sound holds) refl (same_run p o holds)
+
+pub image_ends_in_time : (p : Program) (o : Object) → IsStraightLine p → all_statements p.subprograms + length p.subprograms ≤ 4096 → IsSound o → HoldsImage (kernel_of p) o
+    → EndsInTime p o
+image_ends_in_time p o plain few sound holds =
+    ends_in_time p plain o (site_in o (kernel_of p)) (implements p o plain few sound holds) refl (same_run p o holds)

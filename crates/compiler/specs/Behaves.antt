@@ -32,6 +32,9 @@ pub record Behaves (p : Program) (o : Object) : Type 0 where
   -- where a run ends, the program's execution ends, and the run shows it
   pub faithful : (budget : ℕ) (input : List ℤ) → IsInput input → (number : ℕ) → (object_run o budget input).outcome ≡ Ended number
       → (x : Execution) × Ends p input x × ShowsExecution (facts_of o) (object_run o budget input) x
-  -- where the execution ends, each run shows it that may take 500 instructions for each unit of its cost, and 5,000 beside
+
+-- where a program's execution ends, each run of the object shows it that may take 500 instructions for each unit of its cost, and 5,000
+-- beside
+pub record EndsInTime (p : Program) (o : Object) : Type 0 where
   pub in_time : (input : List ℤ) → IsInput input → (x : Execution) → Ends p input x → (budget : ℕ) → 500 * x.cost + 5000 ≤ budget
       → ShowsExecution (facts_of o) (object_run o budget input) x

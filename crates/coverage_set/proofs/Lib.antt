@@ -6,3 +6,5 @@ pub mod UnionLaws
 pub mod Fitting
 pub mod Order
 pub mod RunLaw
+pub mod Endings
+pub mod OwnTraces

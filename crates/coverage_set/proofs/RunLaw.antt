@@ -7,13 +7,12 @@ use Rattle.object_facts.specs.Object.{facts_of}
 use Rattle.object_format.specs.Checked.{IsSound}
 use Rattle.object_format.specs.declared.object.Object.{Object}
 use Rattle.rv_machine.specs.Objects.{object_run}
-use Rattle.rv_semantics.specs.declared.stepped.Seen.{Seen}
 use Rattle.rv_semantics.specs.Run.Outcome.{Ended}
 use Rattle.trace_format.specs.Trace.{closed_by}
 use Rattle.trace_record.specs.Recorded.{entry_of}
 use Rattle.trace_record.specs.Written.{block_in, traced}
 use Rattle.transcript.proofs.SaidLaw.{said_law}
-use Rattle.transcript.specs.Pieces.{Piece, left_open}
+use Rattle.transcript.specs.Pieces.{Piece}
 use Rattle.transcript.specs.Reading.{Tells, IsDisciplined}
 use Rattle.transcript.specs.Trace.{Block, Branched, Trace, trace_of, Says}
 use Rattle.vector_rebuild.specs.Entries.{block_of, branched_of, trace_in}
@@ -40,7 +39,7 @@ same_branch b = by_edge b.taken
     by_edge true = refl
     by_edge false = refl
 
-same_branches : (bs : List Branched) → map branched_of (map entry_of bs) ≡ bs
+pub same_branches : (bs : List Branched) → map branched_of (map entry_of bs) ≡ bs
 same_branches [] = refl
 same_branches (b ∷ bs) = ap (λ (x : Branched). x ∷ map branched_of (map entry_of bs)) (same_branch b) ∙ ap (λ (xs : List Branched). b ∷ xs) (same_branches bs)
 

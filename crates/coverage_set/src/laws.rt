@@ -1,7 +1,8 @@
 //! Laws of unions, and of the traces of runs.
 
-ghost use Rattle.std.specs.Prelude.{◌≡◌, ◌↔◌, ℕ, ℤ, List};
+ghost use Rattle.std.specs.Prelude.{◌≡◌, ◌↔◌, ℕ, ◌≤◌, ℤ, List, [], length, None};
 ghost use Rattle.cov_base.specs.declared.event.Event.{Event};
+ghost use Rattle.decision_map.specs.Fits.{fault_of};
 ghost use Rattle.object_facts.specs.Object.{facts_of};
 ghost use Rattle.object_format.specs.Checked.{IsSound};
 ghost use Rattle.object_format.specs.declared.object.Object.{Object};
@@ -9,9 +10,10 @@ ghost use Rattle.rv_machine.specs.Objects.{object_run};
 ghost use Rattle.rv_semantics.specs.Run.Outcome.{Ended};
 ghost use Rattle.trace_format.specs.Trace.{closed_by};
 ghost use Rattle.trace_record.specs.Written.{traced};
-ghost use Rattle.transcript.specs.Reading.{Tells, IsDisciplined};
+ghost use Rattle.transcript.specs.Reading.{Tells, AllFollow, IsDisciplined};
 ghost use Rattle.transcript.specs.Trace.{Says};
 ghost use Rattle.vector_rebuild.specs.Entries.{trace_in};
+ghost use Rattle.vector_rebuild.specs.Rebuilt.{visits_of};
 ghost use Rattle.coverage_set.specs.Covered.{Covered, AreSame, IsUnion};
 
 /// Coverages of one object may be joined in any order and grouping, and one may be joined twice.
@@ -28,4 +30,19 @@ pub fn traces_of_runs_say_what_the_runs_tell()
         → (object_run o budget input).outcome ≡ Ended ending → IsDisciplined (facts_of o) (object_run o budget input).entries
         → Says (facts_of o) (trace_in (closed_by (traced o (object_run o budget input).entries ending) closing)) e
         ↔ Tells (facts_of o) (object_run o budget input).entries e }
+{}
+
+/// The trace file of a run that ended passes all checks beside its object, whatever digest closes the
+/// file: the run ends with 0 or with the number of an exception of the object, its blocks are blocks of
+/// the text with the flags of their ends, and its history is of branches that keep one, each shown by
+/// a block. Where the transcript is disciplined, each entry of the history follows those before it.
+pub fn own_traces_pass_all_checks()
+    ensures ending { (o : Object) (budget : ℕ) (input : List ℤ) (ending : ℕ) → (object_run o budget input).outcome ≡ Ended ending
+        → ending ≤ length o.obligations.exceptions }
+    ensures fits { (o : Object) (budget : ℕ) (input : List ℤ) (ending : ℕ) (closing : List ℕ) → IsSound o
+        → (object_run o budget input).outcome ≡ Ended ending
+        → fault_of o (closed_by (traced o (object_run o budget input).entries ending) closing) ≡ None }
+    ensures follows { (o : Object) (budget : ℕ) (input : List ℤ) (ending : ℕ) (closing : List ℕ)
+        → IsDisciplined (facts_of o) (object_run o budget input).entries
+        → AllFollow (facts_of o) [] (visits_of (facts_of o) (closed_by (traced o (object_run o budget input).entries ending) closing).history) }
 {}

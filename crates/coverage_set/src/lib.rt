@@ -15,4 +15,6 @@ mod set;
 mod tests;
 
 pub use coverage::Coverage;
-pub use laws::{traces_of_runs_say_what_the_runs_tell, unions_have_their_laws};
+pub use laws::{
+    own_traces_pass_all_checks, traces_of_runs_say_what_the_runs_tell, unions_have_their_laws,
+};

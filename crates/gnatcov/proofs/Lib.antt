@@ -5,3 +5,6 @@ pub mod RefusalLaws
 pub mod RunLaws
 pub mod StopLaws
 pub mod RunsLaw
+pub mod HeadlineLaws
+pub mod InputLaws
+pub mod CompleteLaws

@@ -11,7 +11,7 @@ use Rattle.cov_base.specs.declared.level.Annotation.{Annotation}
 use Rattle.cov_base.specs.declared.level.Level.{Level}
 use Rattle.cov_io.specs.Outside.{Held, WhereTold, Appends}
 use Rattle.coverage_set.proofs.RunLaw.{run_law}
-use Rattle.decision_meaning.specs.Pair.{Somewhere}
+use Rattle.decision_meaning.specs.Pair.{Everywhere, Somewhere}
 use Rattle.gnatcov.specs.Content.{IsFileOf, IsTraceFor, RefusesObject, RefusesTrace, Shows, ClosesWith, IsReport, Reports, trace_file}
 use Rattle.gnatcov.specs.declared.status.Status.{Status}
 use Rattle.gnatcov.specs.declared.status.Status.TheVariants.{Done}
@@ -26,7 +26,7 @@ use Rattle.object_format.specs.declared.object.Object.{Object}
 use Rattle.trace_format.specs.Checks.{trace_of}
 use Rattle.trace_format.specs.declared.fault.TraceFault.{TraceFault}
 use Rattle.trace_format.specs.Trace.{TraceFile}
-use Rattle.transcript.specs.Reading.{Tells}
+use Rattle.transcript.specs.Reading.{Tells, IsDisciplined}
 use Rattle.transcript.specs.Trace.{Says}
 use Rattle.vector_rebuild.specs.Entries.{trace_in}
 
@@ -97,15 +97,20 @@ through first second = (λ a. second.0 (first.0 a), λ c. first.1 (second.1 c))
 back : {A B : Type 0} → A ↔ B → B ↔ A
 back both = (both.1, both.0)
 
+-- the bytes are the file of the trace of this run of the object, which ended, with a disciplined transcript
+record IsTold (o : Object) (r : ARun) (bytes : List ℕ) : Type 0 where
+  trace : IsTraceOf o r bytes
+  disciplined : IsDisciplined (facts_of o) (transcript_of o r)
+
 -- these are the traces of these runs
 abbrev AreOf : Object → List ARun → List (List ℕ) → Type 0
 AreOf o [] [] = Unit {0}
 AreOf o [] (t ∷ ts) = ⊥
 AreOf o (r ∷ rs) [] = ⊥
-AreOf o (r ∷ rs) (t ∷ ts) = IsTraceOf o r t × AreOf o rs ts
+AreOf o (r ∷ rs) (t ∷ ts) = IsTold o r t × AreOf o rs ts
 
 -- one of the traces is so just where one of the runs is
-alike : (o : Object) (P : List ℕ → Type 0) (Q : ARun → Type 0) → ((r : ARun) (t : List ℕ) → IsTraceOf o r t → P t ↔ Q r)
+alike : (o : Object) (P : List ℕ → Type 0) (Q : ARun → Type 0) → ((r : ARun) (t : List ℕ) → IsTold o r t → P t ↔ Q r)
     → (rs : List ARun) (ts : List (List ℕ)) → AreOf o rs ts → Somewhere P ts ↔ Somewhere Q rs
 alike o P Q each [] [] are = (λ none. none, λ none. none)
 alike o P Q each [] (t ∷ ts) are = absurd are
@@ -118,22 +123,22 @@ alike o P Q each (r ∷ rs) (t ∷ ts) are =
     )
 
 -- what the trace of a run shows is what the run tells
-shows_tells : (o : Object) → IsSound o → (e : Event) (r : ARun) (t : List ℕ) → IsTraceOf o r t → Shows o t e ↔ Tells (facts_of o) (transcript_of o r) e
+shows_tells : (o : Object) → IsSound o → (e : Event) (r : ARun) (t : List ℕ) → IsTold o r t → Shows o t e ↔ Tells (facts_of o) (transcript_of o r) e
 shows_tells o sound e r t is =
-    let law = run_law o r.budget r.input r.ending (digest_of_run o r) e sound is.ended is.disciplined in (
-      λ s. law.0 (subst (λ (u : TraceFile). Says (facts_of o) (trace_in u) e) (same_read t s.0 (trace_file o (transcript_of o r) r.ending) s.1 is.reads_back) s.2),
-      λ tells. (trace_file o (transcript_of o r) r.ending, is.reads_back, law.1 tells),
+    let law = run_law o r.budget r.input r.ending (digest_of_run o r) e sound is.trace.ended is.disciplined in (
+      λ s. law.0 (subst (λ (u : TraceFile). Says (facts_of o) (trace_in u) e) (same_read t s.0 (trace_file o (transcript_of o r) r.ending) s.1 is.trace.reads_back) s.2),
+      λ tells. (trace_file o (transcript_of o r) r.ending, is.trace.reads_back, law.1 tells),
     )
 
-closes_digest : (o : Object) (d : List ℕ) (r : ARun) (t : List ℕ) → IsTraceOf o r t → ClosesWith d t ↔ (digest_of_run o r ≡ d)
+closes_digest : (o : Object) (d : List ℕ) (r : ARun) (t : List ℕ) → IsTold o r t → ClosesWith d t ↔ (digest_of_run o r ≡ d)
 closes_digest o d r t is = (
-  λ s. ap (λ (u : TraceFile). u.closing) (sym (same_read t s.0 (trace_file o (transcript_of o r) r.ending) s.1 is.reads_back)) ∙ s.2,
-  λ e. (trace_file o (transcript_of o r) r.ending, is.reads_back, e),
+  λ s. ap (λ (u : TraceFile). u.closing) (sym (same_read t s.0 (trace_file o (transcript_of o r) r.ending) s.1 is.trace.reads_back)) ∙ s.2,
+  λ e. (trace_file o (transcript_of o r) r.ending, is.trace.reads_back, e),
 )
 
 -- one trace was read, and those behind it
 one_read : (held : Held) (o : Object) (number : ℕ) (names : List (List ℕ)) (rs : List ARun) (Then : List (List ℕ) → Result Output Status → Type 0) (r : ARun) (bytes : List ℕ) (output : Output)
-    → IsTraceOf o r bytes → AfterTrace number o bytes (AfterTraces held o (number + 1) names (λ traces. Then (bytes ∷ traces))) (Ok output)
+    → IsTold o r bytes → AfterTrace number o bytes (AfterTraces held o (number + 1) names (λ traces. Then (bytes ∷ traces))) (Ok output)
     → (AfterTraces held o (number + 1) names (λ traces. Then (bytes ∷ traces)) (Ok output) → (traces : List (List ℕ)) × AreOf o rs traces × Then (bytes ∷ traces) (Ok output))
     → (traces : List (List ℕ)) × AreOf o (r ∷ rs) traces × Then traces (Ok output)
 one_read held o number names rs Then r bytes output is (inl refused) later = absurd refused
@@ -143,13 +148,14 @@ one_read held o number names rs Then r bytes output is (inr fits) later =
 
 -- the traces that were read are those of the runs
 read_are : (held : Held) (o : Object) (number : ℕ) (names : List (List ℕ)) (runs : List ARun) (Then : List (List ℕ) → Result Output Status → Type 0) (output : Output)
-    → AreTracesOf held o names runs → AfterTraces held o number names Then (Ok output)
+    → AreTracesOf held o names runs → Everywhere (λ r. IsDisciplined (facts_of o) (transcript_of o r)) runs → AfterTraces held o number names Then (Ok output)
     → (traces : List (List ℕ)) × AreOf o runs traces × Then traces (Ok output)
-read_are held o number [] [] Then output are says = ([], tt, says)
-read_are held o number [] (r ∷ rs) Then output are says = absurd are
-read_are held o number (name ∷ names) [] Then output are says = absurd are
-read_are held o number (name ∷ names) (r ∷ rs) Then output are says =
-    one_read held o number names rs Then r are.0 output are.2 (rw are.1 at says) (λ rest. read_are held o (number + 1) names rs (λ traces. Then (are.0 ∷ traces)) output are.3 rest)
+read_are held o number [] [] Then output are fair says = ([], tt, says)
+read_are held o number [] (r ∷ rs) Then output are fair says = absurd are
+read_are held o number (name ∷ names) [] Then output are fair says = absurd are
+read_are held o number (name ∷ names) (r ∷ rs) Then output are fair says =
+    one_read held o number names rs Then r are.0 output (record { trace = are.2; disciplined = fair.0 }) (rw are.1 at says)
+    (λ rest. read_are held o (number + 1) names rs (λ traces. Then (are.0 ∷ traces)) output are.3 fair.1 rest)
 
 -- the text of a report of traces is that of their runs
 runs_told : (level : Level) (annotation : Annotation) (o : Object) → IsSound o → (runs : List ARun) (traces : List (List ℕ)) (text : List ℕ) → AreOf o runs traces
@@ -180,16 +186,16 @@ came_to held level annotation o names output bytes is (inr other) =
 -- of a call that is done
 told_done : (held : Held) (level : Level) (annotation : Annotation) (object : List ℕ) (names : List (List ℕ)) (call : Call) → call.held ≡ Some held
     → Delivered (Coverage level annotation object names) Done call
-    → (bytes : List ℕ) (o : Object) → finmap.get held object ≡ Some bytes → IsFileOf o bytes → (runs : List ARun) → AreTracesOf held o names runs
+    → (bytes : List ℕ) (o : Object) → finmap.get held object ≡ Some bytes → IsFileOf o bytes → (runs : List ARun) → AreTracesOf held o names runs → Everywhere (λ r. IsDisciplined (facts_of o) (transcript_of o r)) runs
     → (events : List Event) → ((e : Event) → Somewhere (λ x. x ≡ e) events ↔ Somewhere (λ r. Tells (facts_of o) (transcript_of o r) e) runs)
     → (digests : List (List ℕ)) → ((d : List ℕ) → Somewhere (λ x. x ≡ d) digests ↔ Somewhere (λ r. digest_of_run o r ≡ d) runs)
     → AllPairs (λ x y. x ≢ y) digests
     → WhereTold (Appends (report_text level o.obligations (length digests) events (map (λ file. file.name) o.files))) call.written call.written_after
-told_done held level annotation object names call holds done bytes o there is runs are events of_events digests of_digests once =
+told_done held level annotation object names call holds done bytes o there is runs are fair events of_events digests of_digests once =
     let comes : AfterRead held 0 object (λ bytes. AfterObject bytes (λ o. AfterTraces held o 1 names (Covers level annotation o))) (Ok done.output) =
     subst (λ (h : Option Held). IfSome h (λ told. ComesTo told (Coverage level annotation object names) (Ok done.output))) holds done.comes in
     let after = came_to held level annotation o names done.output bytes is (rw there at comes) in
-    let read = read_are held o 1 names runs (Covers level annotation o) done.output are after in
+    let read = read_are held o 1 names runs (Covers level annotation o) done.output are fair after in
     let text = runs_told level annotation o is.checked.sound runs read.0 done.output.text read.1 read.2.1 events of_events digests of_digests once in
     subst (λ (text : List ℕ). WhereTold (Appends text) call.written call.written_after) text done.delivers.text
 

@@ -4,29 +4,31 @@ use Rattle.std.specs.Prelude.{◌≡◌, ◌≢◌, ◌↔◌, ◌⊎◌, ℕ, �
 use Rattle.std.specs.Fmt.{decimal}
 use Rattle.std.specs.List.{AllByRecursion}
 use Rattle.annotated_report.specs.Report.{report_text}
+use Rattle.ada_meaning.specs.Program.{Program}
+use Rattle.compiler.specs.Legal.{AreRefused}
+use Rattle.compiler.specs.Source.{IsObjectOf, IsCheap}
 use Rattle.cov_base.specs.declared.event.Event.{Event}
 use Rattle.cov_base.specs.declared.level.Annotation.{Annotation}
 use Rattle.cov_base.specs.declared.level.Level.{Level}
+use Rattle.cov_base.specs.declared.obligations.SourceFile.{SourceFile}
 use Rattle.decision_map.specs.declared.fault.FitFault.{FitFault}
 use Rattle.decision_map.specs.Fits.{fault_of}
 use Rattle.decision_meaning.specs.Pair.{Somewhere}
-use Rattle.gnatcov.specs.declared.compiler.fault.SourceFault.{SourceFault}
+use Rattle.parsed_programs.specs.declared.fault.SourceFault.{SourceFault}
 use Rattle.gnatcov.specs.declared.status.Status.{Status}
 use Rattle.gnatcov.specs.declared.status.Status.TheVariants.{SourceRefused, ObjectRefused, TraceRefused, InputRefused, OverBudget, Trap}
 use Rattle.gnatcov.specs.declared.status.TraceWhy.TheVariants.{File, Fit, Broken}
 use Rattle.gnatcov.specs.RunLines.{run_lines}
-use Rattle.gnatcov.specs.Sources.{early_fault, first_fault}
 use Rattle.hex.specs.Hex.{encode_lower}
 use Rattle.object_facts.specs.Object.{facts_of}
 use Rattle.object_format.specs.declared.fault.ObjectFault.{ObjectFault}
 use Rattle.object_format.specs.declared.object.Object.{Object}
-use Rattle.object_format.specs.File.{object_bytes, digest_of}
+use Rattle.object_format.specs.File.{object_bytes}
 use Rattle.object_format.specs.Read.{IsObject, is_plain, passes_plain_field, IsRefusedFor}
 use Rattle.rv32_emulator.specs.InputFile.{numbers_of}
 use Rattle.rv_machine.specs.Objects.{object_run}
 use Rattle.rv_semantics.specs.declared.stepped.Seen.{Seen}
 use Rattle.rv_semantics.specs.Run.Outcome.{Ended, Trapped, Cut}
-use Rattle.sha2.specs.Sha256.{sha256}
 use Rattle.trace_format.specs.declared.fault.TraceFault.{TraceFault}
 use Rattle.trace_format.specs.Checks.{trace_of}
 use Rattle.trace_format.specs.Formats.{trace_spelling, trace_digest}
@@ -83,9 +85,13 @@ BreaksIn o bytes place =
 abbrev pub refused_for : SourceFault → Status
 refused_for fault = SourceRefused fault.file fault.line fault.col fault.why
 
+-- the sources of a compilation: so far one, of this name, with these bytes
+abbrev pub sources_of : (name source : List ℕ) → List SourceFile
+sources_of name source = record { name = name; bytes = source } ∷ []
+
 -- the source of this name is no legal program whose main unit is called so, and this is its first fault
 abbrev pub RefusesSource : (main name source : List ℕ) → Status → Type 0
-RefusesSource main name source status = status ≡ refused_for (first_fault source)
+RefusesSource main name source status = (fault : SourceFault) × AreRefused (sources_of name source) main fault × (status ≡ refused_for fault)
 
 -- how many conditions the decisions of an object have
 abbrev pub condition_count : Object → ℕ
@@ -97,14 +103,14 @@ object_lines o =
     codes "obligations: " ++ (decimal (length o.obligations.statements)
     ++ (codes " statements, " ++ (decimal (length o.obligations.decisions)
     ++ (codes " decisions, " ++ (decimal (condition_count o)
-    ++ (codes " conditions\nobject: " ++ (encode_lower (digest_of o) ++ codes "\n")))))))
+    ++ (codes " conditions\nobject: " ++ (encode_lower o.closing ++ codes "\n")))))))
 
--- the source is not too large, has tokens, and they don't nest too deep; the file is that of an object which names this source alone, and the
--- text tells that object's counts and digest
+-- the source is a legal program; the file is that of an object of it, which is cheap, and the text tells that object's counts and digest
 pub record CompilesTo (main name source : List ℕ) (made : Made) : Type 0 where
-  pub early : early_fault source ≡ None
+  pub program : Program
   pub object : Object
-  pub names : object.files ≡ record { name = name; sha256 = sha256 source } ∷ []
+  pub of_program : IsObjectOf (sources_of name source) main program object
+  pub cheap : IsCheap (sources_of name source) main program object
   pub spelled : made.file ≡ object_bytes object
   pub told : made.text ≡ object_lines object
 

@@ -7,7 +7,7 @@ use Rattle.cov_base.specs.declared.event.Event.{Event}
 use Rattle.cov_base.specs.declared.level.Annotation.{Annotation}
 use Rattle.cov_base.specs.declared.level.Level.{Level}
 use Rattle.cov_io.specs.Outside.{Held, WhereTold, Appends}
-use Rattle.decision_meaning.specs.Pair.{Somewhere}
+use Rattle.decision_meaning.specs.Pair.{Everywhere, Somewhere}
 use Rattle.gnatcov.specs.Content.{IsFileOf, trace_file}
 use Rattle.gnatcov.specs.declared.status.Status.{Status}
 use Rattle.gnatcov.specs.declared.status.Status.TheVariants.{Done}
@@ -32,10 +32,9 @@ pub record ARun : Type 0 where
 abbrev pub transcript_of : Object → ARun → List Seen
 transcript_of o r = (object_run o r.budget r.input).entries
 
--- the bytes are the file of the trace of this run of the object, which ended, with a disciplined transcript
+-- the bytes are the file of the trace of this run of the object, which ended
 pub record IsTraceOf (o : Object) (r : ARun) (bytes : List ℕ) : Type 0 where
   pub ended : (object_run o r.budget r.input).outcome ≡ Ended r.ending
-  pub disciplined : IsDisciplined (facts_of o) (transcript_of o r)
   pub traced : bytes ≡ trace_spelling (traced o (transcript_of o r) r.ending)
   pub reads_back : trace_of bytes ≡ Ok (trace_file o (transcript_of o r) r.ending)
 
@@ -51,14 +50,14 @@ AreTracesOf held o (name ∷ names) (r ∷ rs) =
 abbrev pub digest_of_run : Object → ARun → List ℕ
 digest_of_run o r = (trace_file o (transcript_of o r) r.ending).closing
 
--- After Done of coverage over an object and traces of runs of it, what was put is the report of the events that the transcripts of these
--- runs tell, whatever the list in which they are given, and of the number of their different traces.
+-- After Done of coverage over an object and traces of runs of it with disciplined transcripts, what was put is the report of the events that
+-- these transcripts tell, whatever the list in which they are given, and of the number of their different traces.
 unfoldable pub RunsAreCovered : Option Task → Call → Status → Type 0
 RunsAreCovered task call status =
     (held : Held) (level : Level) (annotation : Annotation) (object : List ℕ) (names : List (List ℕ))
     → call.held ≡ Some held → task ≡ Some (Coverage level annotation object names) → status ≡ Done
     → (bytes : List ℕ) (o : Object) → finmap.get held object ≡ Some bytes → IsFileOf o bytes
-    → (runs : List ARun) → AreTracesOf held o names runs
+    → (runs : List ARun) → AreTracesOf held o names runs → Everywhere (λ r. IsDisciplined (facts_of o) (transcript_of o r)) runs
     → (events : List Event) → ((e : Event) → Somewhere (λ x. x ≡ e) events ↔ Somewhere (λ r. Tells (facts_of o) (transcript_of o r) e) runs)
     → (digests : List (List ℕ)) → ((d : List ℕ) → Somewhere (λ x. x ≡ d) digests ↔ Somewhere (λ r. digest_of_run o r ≡ d) runs)
     → AllPairs (λ x y. x ≢ y) digests

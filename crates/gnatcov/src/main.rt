@@ -1,12 +1,6 @@
 //! gnatcov: structural coverage of programs from the traces of their runs.
 #![tactic(auto)]
 
-mod ada_parser;
-mod ada_syntax;
-mod ada_types;
-mod codegen_rv32;
-mod compiler;
-mod obligations;
 mod ready;
 mod run_lines;
 mod status;

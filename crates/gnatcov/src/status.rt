@@ -5,9 +5,9 @@ ghost use Rattle.gnatcov.specs.declared.status.Status.TheVariants.{WantOfMemory}
 ghost use Rattle.gnatcov.specs.Lines.{number_of, line_of, object_word};
 ghost use Rattle.gnatcov.specs.TraceWords.{address_text, trace_text, place_text, fit_text};
 
-use crate::compiler::Why;
 use decision_map::FitFault;
 use object_format::ObjectFault;
+use parsed_programs::Why;
 use rv_semantics::TrapWhy;
 use std::alloc::{AllocError, Global};
 use trace_format::TraceFault;

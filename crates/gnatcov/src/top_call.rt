@@ -4,7 +4,9 @@ ghost use Rattle.std.specs.Prelude.{◌≡◌, ◌⊎◌, ℕ, List, [], ◌∷�
 ghost use Rattle.command_words.specs.Command.{task_view};
 ghost use Rattle.command_words.specs.Task.{IsWithinLimits, task_of};
 ghost use Rattle.gnatcov.specs.Clauses.{UsageIsExact, DoneIsWhole, RefusalsLeaveFiles, OthersStay, RefusalsPutOneLine, RisenReadsAreTold, ReadFaultHasCause, WriteFaultHasCause};
+ghost use Rattle.gnatcov.specs.Complete.{LegalSourcesCompile, ProgramsRun, ProgramsDoNotTrap, TracesAreCovered};
 ghost use Rattle.gnatcov.specs.declared.status.Status.TheVariants.{Usage, WantOfMemory};
+ghost use Rattle.gnatcov.specs.Headline.{CoverageTellsTheSource};
 ghost use Rattle.gnatcov.specs.Lines.{line_of};
 ghost use Rattle.gnatcov.specs.Outcome.{call_of, PutsText, Delivers, Because, Answers};
 ghost use Rattle.gnatcov.specs.Ready.{output_view};
@@ -42,8 +44,16 @@ pub fn gnatcov<F: Files, S: Sink>(
     ensures read_fault { ReadFaultHasCause (task_of (map string_bytes words.now)) (call_of F.held F.reads_failed F.writes_failed S.written S.failures files.old files.new out.old out.new) result }
     ensures write_fault { WriteFaultHasCause (task_of (map string_bytes words.now)) (call_of F.held F.reads_failed F.writes_failed S.written S.failures files.old files.new out.old out.new) result }
 
-    // What coverage puts, over an object and the traces of its runs.
+    // What coverage puts, over an object and the traces of its runs; and over the object of a program and
+    // traces of its runs: the report of the program's own executions.
     ensures runs { RunsAreCovered (task_of (map string_bytes words.now)) (call_of F.held F.reads_failed F.writes_failed S.written S.failures files.old files.new out.old out.new) result }
+    ensures source { CoverageTellsTheSource (task_of (map string_bytes words.now)) (call_of F.held F.reads_failed F.writes_failed S.written S.failures files.old files.new out.old out.new) result }
+
+    // Legal programs compile, their runs end in time and never trap, and the traces of these are covered.
+    ensures compiles { LegalSourcesCompile (task_of (map string_bytes words.now)) (call_of F.held F.reads_failed F.writes_failed S.written S.failures files.old files.new out.old out.new) result }
+    ensures ends { ProgramsRun (task_of (map string_bytes words.now)) (call_of F.held F.reads_failed F.writes_failed S.written S.failures files.old files.new out.old out.new) result }
+    ensures no_trap { ProgramsDoNotTrap (task_of (map string_bytes words.now)) (call_of F.held F.reads_failed F.writes_failed S.written S.failures files.old files.new out.old out.new) result }
+    ensures covers { TracesAreCovered (task_of (map string_bytes words.now)) (call_of F.held F.reads_failed F.writes_failed S.written S.failures files.old files.new out.old out.new) result }
 {
     answer(alloc, words, files, out)
 }

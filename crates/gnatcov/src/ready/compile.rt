@@ -1,19 +1,21 @@
 //! `compile`: a source is made an object file.
 
-ghost use Rattle.std.specs.Prelude.{◌≡◌, ◌≤◌, IfOk, IfErr, length};
+ghost use Rattle.std.specs.Prelude.{◌≡◌, ◌<◌, ◌≤◌, All, IfOk, IfErr, length, sum_by};
 ghost use Rattle.command_words.specs.Task.{Compile};
-ghost use Rattle.gnatcov.specs.Compiled.{compiled_lines};
-ghost use Rattle.gnatcov.specs.Content.{CompilesTo, RefusesSource};
+ghost use Rattle.compiler.specs.Built.{HasPlainName};
+ghost use Rattle.gnatcov.specs.Content.{CompilesTo, RefusesSource, object_lines, sources_of};
 ghost use Rattle.gnatcov.specs.Outcome.{Prepares};
 ghost use Rattle.gnatcov.specs.Reading.{UnlessMemory};
 ghost use Rattle.gnatcov.specs.Failures.{source_status};
 ghost use Rattle.gnatcov.specs.Ready.{verdict_view};
 
-use crate::compiler::{Compiled, SourceFault, compile};
 use crate::ready::{Ready, ReadyFile, read_file};
 use crate::status::Status;
-use cov_base::{Bytes, Failure, SourceFile};
+use compiler::compile;
+use cov_base::{Bytes, DecEntry, Failure, SourceFile};
 use cov_io::Files;
+use object_format::Object;
+use parsed_programs::SourceFault;
 use std::alloc::{AllocError, Global};
 
 /// Reads the source, compiles it, and makes the lines that tell what came of it.
@@ -40,6 +42,20 @@ pub fn prepare<'a, F: Files>(
     })
 }
 
+/// The sources of a compilation: so far one.
+fn sources(alloc: Global, name: &str, source: Vec<u8>) -> Result<Vec<SourceFile>, AllocError>
+    requires { length name.now ≤ 4096 }
+    ensures files { IfOk result (λ files. files.items ≡ sources_of name.now source.items) }
+    ensures many { IfOk result (λ files. (0 < length files.items) × (length files.items ≤ 64)) }
+    ensures names { IfOk result (λ files. All HasPlainName files.items) }
+{
+    let file = SourceFile {
+        name: Bytes::from(Vec::from_slice(alloc, name.as_bytes())?),
+        bytes: Bytes::from(source),
+    };
+    Ok(vec![in alloc; file]?)
+}
+
 /// The object file of a source, and the lines that tell of it.
 fn compiled(
     alloc: Global,
@@ -51,27 +67,37 @@ fn compiled(
     ensures made { IfOk result (λ made. CompilesTo main.now name.now source.items (record { file = made.0.items; text = made.1.items })) }
     ensures refused { IfErr result (UnlessMemory (RefusesSource main.now name.now source.items)) }
 {
-    let file = SourceFile {
-        name: Bytes::from(Vec::from_slice(alloc, name.as_bytes())?),
-        bytes: Bytes::from(source),
-    };
-    match compile(alloc, &file, main) {
+    let files = sources(alloc, name, source)?;
+    match compile(alloc, files.as_slice(), main) {
         Ok(compiled) => {
-            let text = lines(alloc, &compiled)?;
-            Ok((Vec::from(compiled.bytes), text))
+            let text = lines(alloc, &compiled.object)?;
+            Ok((Vec::from(compiled.file), text))
         }
         Err(failure) => Err(status_of(failure)),
     }
 }
 
-/// The lines that tell what was compiled.
-fn lines(alloc: Global, compiled: &Compiled) -> Result<Vec<u8>, AllocError>
-    ensures { IfOk result (λ text. text.items ≡ compiled_lines compiled.now) }
+/// How many conditions decisions have; none where there is no number for them.
+fn condition_count(decisions: &[DecEntry]) -> Result<usize, AllocError>
+    ensures { IfOk result (λ count. count ≡ sum_by (λ d. length d.conditions) decisions.now) }
 {
-    let statements = compiled.statements;
-    let decisions = compiled.decisions;
-    let conditions = compiled.conditions;
-    let closing = hex::encode(alloc, compiled.closing.as_slice())?;
+    let mut count: usize = 0;
+    for decision in decisions {
+        count = count
+            .checked_add(decision.conditions.len())
+            .ok_or(AllocError)?;
+    }
+    Ok(count)
+}
+
+/// The lines that tell what was compiled.
+fn lines(alloc: Global, object: &Object) -> Result<Vec<u8>, AllocError>
+    ensures { IfOk result (λ text. text.items ≡ object_lines object.now) }
+{
+    let statements = object.obligations.statements.len();
+    let decisions = object.obligations.decisions.len();
+    let conditions = condition_count(object.obligations.decisions.as_slice())?;
+    let closing = hex::encode(alloc, object.closing.as_slice())?;
     let text = format!(in alloc;
         "obligations: {statements} statements, {decisions} decisions, {conditions} conditions\nobject: {closing}\n"
     )?;

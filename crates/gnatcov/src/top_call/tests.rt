@@ -1,11 +1,13 @@
 //! Tests of the public call over files and a sink in memory.
 
+mod refused_sources;
+
 use super::gnatcov;
-use crate::compiler::Why;
 use crate::status::{FileRef, Status, TraceWhy};
 use cov_io::{Entry, Files, MemFiles, MemSink};
 use decision_map::FitFault;
 use object_format::ObjectFault;
+use parsed_programs::Why;
 use std::alloc::{AllocError, Global};
 use std::test::Fail;
 use trace_format::TraceFault;
@@ -109,7 +111,7 @@ const P1_TRACE: Making = Making {
 
 /// The same where the budget is just enough, and an input that is not read by the program.
 const P1_TRACE_AGAIN: Making = Making {
-    line: "gnatcov run --budget 7 -o p1.trace --input least p1.obj",
+    line: "gnatcov run --budget 26 -o p1.trace --input least p1.obj",
     ..P1_TRACE
 };
 
@@ -448,9 +450,9 @@ fn goes_from_sources_to_a_report(rt: HostRuntime) -> Result<(), Fail> {
     let mut files = sources(alloc)?;
     assert_eq!(rt; number_by(alloc, &P1_OBJECT, &mut files)?, Some(3));
     assert_eq!(rt; number_by(alloc, &Z_OBJECT, &mut files)?, Some(1));
-    assert_eq!(rt; number_by(alloc, &P1_TRACE, &mut files)?, Some(7));
-    assert_eq!(rt; number_by(alloc, &P1_TRACE_AGAIN, &mut files)?, Some(7));
-    assert_eq!(rt; number_by(alloc, &Z_TRACE, &mut files)?, Some(4));
+    assert_eq!(rt; number_by(alloc, &P1_TRACE, &mut files)?, Some(26));
+    assert_eq!(rt; number_by(alloc, &P1_TRACE_AGAIN, &mut files)?, Some(26));
+    assert_eq!(rt; number_by(alloc, &Z_TRACE, &mut files)?, Some(14));
     let report = put_by(alloc, COVERAGE, &mut files)?;
     assert_eq!(rt; report.as_str(), P1_REPORT);
     Ok(())
@@ -493,9 +495,9 @@ const NO_TOKEN: Status = Status::SourceRefused {
 
 const SOURCE_REFUSED: Status = Status::SourceRefused {
     file: 0,
-    line: 1,
-    col: 1,
-    why: Why::Syntax,
+    line: 3,
+    col: 4,
+    why: Why::Naming,
 };
 
 const OBJECT_REFUSED: Status = Status::ObjectRefused {
@@ -504,14 +506,14 @@ const OBJECT_REFUSED: Status = Status::ObjectRefused {
 
 /// The closing digest of the object of `P1`, which it has by another reckoning.
 const P1_DIGEST: [u8; 32] = [
-    0x21, 0x75, 0x3e, 0x00, 0xcf, 0xd0, 0x83, 0x18, 0x8e, 0x17, 0x76, 0x23, 0x58, 0x6a, 0x33, 0x5c,
-    0x93, 0xf1, 0x40, 0x83, 0x63, 0xe4, 0x08, 0x3c, 0xeb, 0x9a, 0xa2, 0x3e, 0xb5, 0xa5, 0xba, 0x6c,
+    0x8a, 0xc0, 0x7c, 0x24, 0x43, 0x0d, 0x68, 0x0a, 0x62, 0x94, 0x61, 0xbf, 0xc5, 0x19, 0x8d, 0x58,
+    0xfb, 0x5c, 0x6c, 0x19, 0xf0, 0x7b, 0x07, 0x5d, 0x9e, 0x1b, 0xfb, 0x7b, 0x7e, 0xcb, 0x63, 0x3d,
 ];
 
 /// The same of `Z`.
 const Z_DIGEST: [u8; 32] = [
-    0xc8, 0xcf, 0x6a, 0x1f, 0x88, 0x2c, 0xe2, 0xf8, 0x11, 0xa8, 0x31, 0x89, 0x3f, 0xb9, 0xd7, 0x01,
-    0xb7, 0x34, 0x04, 0xd5, 0xd9, 0x54, 0x7f, 0xbc, 0xc0, 0xc0, 0xea, 0x5a, 0x55, 0x24, 0x19, 0x43,
+    0x0c, 0x71, 0xa0, 0xf0, 0x6f, 0x62, 0xec, 0x2b, 0x59, 0x46, 0x92, 0x89, 0xf2, 0x58, 0xb3, 0x2b,
+    0xd0, 0x9b, 0xb0, 0xef, 0x1d, 0x96, 0x9d, 0xe0, 0xaf, 0x8b, 0x91, 0x67, 0x8f, 0xb1, 0xef, 0x4f,
 ];
 
 const FOREIGN: Status = Status::TraceRefused {
@@ -541,7 +543,7 @@ fn refused_trace(line: &'static str, why: TraceFault, put: &'static str) -> Case
 
 fn refusals() -> [Case<'static>; 9] {
     [
-        quiet(COMPILE, SOURCE_REFUSED, "gnatcov: p1.adb:1:1: syntax\n"),
+        quiet(COMPILE, SOURCE_REFUSED, "gnatcov: p1.adb:3:4: naming\n"),
         quiet(
             "gnatcov compile --main=P1 -o new odd",
             NO_TOKEN,
@@ -550,7 +552,7 @@ fn refusals() -> [Case<'static>; 9] {
         quiet(
             "gnatcov coverage --level=stmt --annotate=report --object=z.obj p1.trace",
             FOREIGN,
-            "gnatcov: trace 1 refused: foreign: kept 21753e00cfd083188e177623586a335c93f1408363e4083ceb9aa23eb5a5ba6c, object c8cf6a1f882ce2f811a831893fb9d701b73404d5d9547fbcc0c0ea5a55241943\n",
+            "gnatcov: trace 1 refused: foreign: kept 8ac07c24430d680a629461bfc5198d58fb5c6c19f07b075d9e1bfb7b7ecb633d, object 0c71a0f06f62ec2b59469289f258b32bd09bb0ef1d969de0af8b91678fb1ef4f\n",
         ),
         quiet(
             "gnatcov run --input=empty -o new p1.trace",
@@ -560,7 +562,7 @@ fn refusals() -> [Case<'static>; 9] {
         quiet(
             TWO_TRACES,
             FOREIGN_SECOND,
-            "gnatcov: trace 2 refused: foreign: kept c8cf6a1f882ce2f811a831893fb9d701b73404d5d9547fbcc0c0ea5a55241943, object 21753e00cfd083188e177623586a335c93f1408363e4083ceb9aa23eb5a5ba6c\n",
+            "gnatcov: trace 2 refused: foreign: kept 0c71a0f06f62ec2b59469289f258b32bd09bb0ef1d969de0af8b91678fb1ef4f, object 8ac07c24430d680a629461bfc5198d58fb5c6c19f07b075d9e1bfb7b7ecb633d\n",
         ),
         quiet(
             "gnatcov run --input=z.adb -o new p1.obj",
@@ -578,9 +580,9 @@ fn refusals() -> [Case<'static>; 9] {
             "gnatcov: input line 1 refused\n",
         ),
         quiet(
-            "gnatcov run --input=empty --budget=6 -o new p1.obj",
-            Status::OverBudget { count: 6 },
-            "gnatcov: over budget after 6 instructions\n",
+            "gnatcov run --input=empty --budget=25 -o new p1.obj",
+            Status::OverBudget { count: 25 },
+            "gnatcov: over budget after 25 instructions\n",
         ),
     ]
 }

@@ -1,4 +1,6 @@
 use Rattle.gnatcov.proofs.ClauseLaws.{usage_law, done_law, files_law, others_law, line_law, rose_law, read_fault_law, write_fault_law}
+use Rattle.gnatcov.proofs.CompleteLaws.{compile_law, run_law, trap_law, coverage_law}
+use Rattle.gnatcov.proofs.HeadlineLaws.{headline_law}
 use Rattle.gnatcov.proofs.RunsLaw.{runs_law}
 use Rattle.gnatcov.proofs.top_call.gnatcov.Goals as goal
 
@@ -28,3 +30,18 @@ returns-clause-write_fault g c = write_fault_law _ _ _ c.answer.ensures
 
 pub returns-clause-runs : goal.returns-clause-runs
 returns-clause-runs g c = runs_law _ _ _ c.answer.ensures
+
+pub returns-clause-source : goal.returns-clause-source
+returns-clause-source g c = headline_law _ _ _ c.answer.ensures
+
+pub returns-clause-compiles : goal.returns-clause-compiles
+returns-clause-compiles g c = compile_law _ _ _ c.answer.ensures
+
+pub returns-clause-ends : goal.returns-clause-ends
+returns-clause-ends g c = run_law _ _ _ c.answer.ensures
+
+pub returns-clause-no_trap : goal.returns-clause-no_trap
+returns-clause-no_trap g c = trap_law _ _ _ c.answer.ensures
+
+pub returns-clause-covers : goal.returns-clause-covers
+returns-clause-covers g c = coverage_law _ _ _ c.answer.ensures

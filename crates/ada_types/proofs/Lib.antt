@@ -1,0 +1,6 @@
+pub mod Lookups
+pub mod Blame
+pub mod Steps
+pub mod TypingLaws
+pub mod Programs
+pub mod Laws

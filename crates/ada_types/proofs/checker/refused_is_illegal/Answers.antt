@@ -1,0 +1,5 @@
+use Rattle.ada_types.proofs.Laws as laws
+use Rattle.ada_types.proofs.checker.refused_is_illegal.Goals as goal
+
+pub returns : goal.returns
+returns c units main fault h = laws.refused_is_illegal units main fault h

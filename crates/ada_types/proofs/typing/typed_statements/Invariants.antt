@@ -1,0 +1,16 @@
+-- The statements so far and those of the rest are all, and a refusal of the rest is one of all.
+use Rattle.std.proofs.Common.{◌≡◌, drop, ◌++◌, option_map}
+use Rattle.cov_base.specs.declared.failure.Failure.{Failure}
+use Rattle.ada_syntax.specs.StatementView.{statements_of}
+use Rattle.ada_types.specs.declared.fault.CheckFault.{CheckFault}
+use Rattle.ada_types.specs.Typing as spec
+use Rattle.ada_types.specs.TypingCode.{context}
+use Rattle.ada_types.specs.Legal.{typing, sequence}
+use Rattle.ada_types.specs.Answer.{Refused}
+use Rattle.ada_types.proofs.typing.typed_statements.Given as goal
+
+abbrev pub invariant-loop-statement : goal.invariant-loop-statement
+invariant-loop-statement l = record {
+  typed : spec.typed_statements (context l.seen l.places) (statements_of l.statements) ≡ option_map (λ more. l.typed.items ++ more) (spec.typed_statements (context l.seen l.places) (statements_of (drop l.statement-index l.statements)));
+  refused : (f : Failure CheckFault) → Refused typing (sequence (context l.seen l.places) (statements_of (drop l.statement-index l.statements))) f → Refused typing (sequence (context l.seen l.places) (statements_of l.statements)) f;
+}

@@ -1,0 +1,10 @@
+pub mod Names
+pub mod RegionView
+pub mod Library
+pub mod Typing
+pub mod Naming
+pub mod Legal
+pub mod Answer
+pub mod NameCode
+pub mod TypingCode
+pub mod Checked

@@ -1,0 +1,202 @@
+//! The pieces of a kernel.
+
+ghost use Rattle.std.specs.Prelude.{◌≡◌, ◌+◌, ◌++◌, map, IfOk, OnOk};
+ghost use Rattle.assembler.specs.declared.piece.Mark.TheVariants as mark;
+ghost use Rattle.kernel_code.specs.Line.{items_of, mark_of, marks_from};
+ghost use Rattle.kernel_code.specs.Marked.{piece_of};
+ghost use Rattle.kernel_code.specs.Code.{body_lines, start_lines};
+ghost use Rattle.kernel_code.specs.FillCode.{layout_lines};
+ghost use Rattle.kernel_code.specs.Pieces.{layout_pieces, kernel_pieces};
+ghost use Rattle.codegen_rv32.specs.View.{said_of, lines_of};
+ghost use Rattle.codegen_rv32.specs.Set.{setting_of, body_pieces};
+
+use crate::emitter::{Emitter, further};
+use crate::frame::Frame;
+use crate::line::{Line, Said};
+use crate::sizes::sizes_of;
+use assembler::{Item, Label, Mark, Piece};
+use cov_base::{CondIx, DecId, InstId, Seq};
+use kernel_ir::{Body, Code, Kernel, Layout};
+use line_table::RoleKind;
+use std::alloc::{AllocError, Global};
+
+/// The pieces of a kernel: of the start, of the bodies and of the layouts, in order. There is no memory
+/// for a piece of 2 ^ 32 lines.
+pub fn generate(alloc: Global, kernel: &Kernel) -> Result<Vec<Piece>, AllocError>
+    ensures { IfOk result (λ pieces. pieces.items ≡ kernel_pieces kernel.now) }
+{
+    let layouts = kernel.layouts.as_slice();
+    let bodies = kernel.bodies.as_slice();
+    let sizes = sizes_of(alloc, layouts)?;
+    let count = u32::try_from(bodies.len()).map_err(|_| AllocError)?;
+    let first_layout = further(count, 1)?;
+    let frame = Frame {
+        width: 0,
+        exceptions: kernel.exceptions,
+        layouts,
+        sizes: sizes.as_slice(),
+        first_layout,
+    };
+    let mut pieces = Vec::new(alloc);
+    let start = start_piece(alloc, kernel.main)?;
+    pieces.push(start)?;
+    put_bodies(alloc, &mut pieces, &frame, bodies)?;
+    put_layouts(alloc, &mut pieces, first_layout, layouts)?;
+    Ok(pieces)
+}
+
+/// Puts the pieces of bodies behind the others.
+fn put_bodies(
+    alloc: Global,
+    pieces: &mut Vec<Piece>,
+    frame: &Frame<'_>,
+    bodies: &[Body],
+) -> Result<(), AllocError>
+    ensures { OnOk result (pieces.new.items ≡ pieces.old.items ++ body_pieces (setting_of frame.now) bodies.now) }
+{
+    for body in bodies {
+        let own = Frame {
+            width: body.width,
+            exceptions: frame.exceptions,
+            layouts: frame.layouts,
+            sizes: frame.sizes,
+            first_layout: frame.first_layout,
+        };
+        let piece = body_piece(alloc, &own, &body.code)?;
+        pieces.push(piece)?;
+    }
+    Ok(())
+}
+
+/// Puts the pieces of layouts behind the others.
+fn put_layouts(
+    alloc: Global,
+    pieces: &mut Vec<Piece>,
+    first: u32,
+    layouts: &[Layout],
+) -> Result<(), AllocError>
+    ensures { OnOk result (pieces.new.items ≡ pieces.old.items ++ layout_pieces first 0 layouts.now) }
+{
+    let mut number: u32 = 0;
+    for layout in layouts {
+        let piece = layout_piece(alloc, first, number, layout)?;
+        pieces.push(piece)?;
+        number = further(number, 1)?;
+    }
+    Ok(())
+}
+
+/// The piece of the start.
+fn start_piece(alloc: Global, main: u32) -> Result<Piece, AllocError>
+    ensures { IfOk result (λ piece. piece ≡ piece_of (start_lines main)) }
+{
+    let mut emitter = Emitter::new(alloc);
+    emitter.start_of(main)?;
+    piece_of(alloc, &emitter)
+}
+
+/// The piece of a body.
+fn body_piece(alloc: Global, frame: &Frame<'_>, code: &Code) -> Result<Piece, AllocError>
+    ensures { IfOk result (λ piece. piece ≡ piece_of (body_lines (setting_of frame.now) code.now)) }
+{
+    let mut emitter = Emitter::new(alloc);
+    emitter.body(frame, code)?;
+    piece_of(alloc, &emitter)
+}
+
+/// The piece of a layout.
+fn layout_piece(
+    alloc: Global,
+    first: u32,
+    number: u32,
+    layout: &Layout,
+) -> Result<Piece, AllocError>
+    ensures { IfOk result (λ piece. piece ≡ piece_of (layout_lines first number layout.now)) }
+{
+    let mut emitter = Emitter::new(alloc);
+    emitter.layout(first, number, layout)?;
+    piece_of(alloc, &emitter)
+}
+
+/// The piece of lines.
+fn piece_of(alloc: Global, emitter: &Emitter) -> Result<Piece, AllocError>
+    ensures { IfOk result (λ piece. piece ≡ piece_of emitter.now) }
+{
+    let items = items_of(alloc, emitter.lines())?;
+    let marks = marks_of(alloc, emitter.lines())?;
+    Ok(Piece {
+        items: Seq::from(items),
+        marks: Seq::from(marks),
+    })
+}
+
+/// The items of lines.
+fn items_of(alloc: Global, lines: &[Line]) -> Result<Vec<Item>, AllocError>
+    ensures { IfOk result (λ items. items.items ≡ items_of (lines_of lines.now)) }
+{
+    let mut items = Vec::new(alloc);
+    for line in lines {
+        items.push(line.item)?;
+    }
+    Ok(items)
+}
+
+/// The marks of lines.
+fn marks_of(alloc: Global, lines: &[Line]) -> Result<Vec<Mark>, AllocError>
+    ensures { IfOk result (λ marks. marks.items ≡ marks_from 0 (lines_of lines.now)) }
+{
+    let mut marks = Vec::new(alloc);
+    let mut place: u32 = 0;
+    for line in lines {
+        put_mark(&mut marks, place, line.said)?;
+        place = further(place, 1)?;
+    }
+    Ok(marks)
+}
+
+/// Puts the mark of an item behind the others, if anything is said of the item.
+fn put_mark(marks: &mut Vec<Mark>, place: u32, said: Said) -> Result<(), AllocError>
+    ensures { OnOk result (marks.new.items ≡ marks.old.items ++ mark_of place (said_of said)) }
+{
+    let item = Label(place);
+    match said {
+        Said::Nothing => return Ok(()),
+        Said::Starts {
+            statement,
+            instance,
+        } => marks.push(Mark::Row {
+            item,
+            statement,
+            instance,
+        })?,
+        Said::Decides {
+            decision,
+            condition,
+            instance,
+        } => marks.push(Mark::Role {
+            item,
+            kind: RoleKind::CONDITION,
+            decision,
+            condition,
+            value: 1,
+            instance,
+        })?,
+        Said::Checks => marks.push(no_condition(item, RoleKind::CHECK))?,
+        Said::Steers => marks.push(no_condition(item, RoleKind::STRUCTURE))?,
+    }
+    Ok(())
+}
+
+/// The mark of a branch that decides no condition.
+fn no_condition(item: Label, kind: RoleKind) -> Mark
+    ensures { result ≡ mark.Role item kind (record { 0 = 0 }) (record { 0 = 0 }) 0 (record { 0 = 0 }) }
+{
+    Mark::Role {
+        item,
+        kind,
+        decision: DecId(0),
+        condition: CondIx(0),
+        value: 0,
+        instance: InstId(0),
+    }
+}

@@ -1,0 +1,166 @@
+-- The object that is built of a legal program and its sources is the sources' object, and cheap.
+use Rattle.std.proofs.Common.{◌≡◌, ℕ, ◌+◌, ◌≤◌, ◌<◌, ◌^◌, ◌&&◌, Bool, true, false, nat_lt, nat_le, List, [], ◌∷◌, length, map, sum_by, fold, Option, Some, None, All, if◌then◌else◌, refl, sym, ap, ◌∙◌, subst, arith, lit≤}
+use Rattle.std.specs.List.{list_all, AllByRecursion}
+use Rattle.std.specs.Str.{is_utf8}
+use Rattle.std.proofs.lemmas.Bool.Decides.{nat_tests}
+use Rattle.std.proofs.lemmas.List.{length-map}
+use Rattle.std.proofs.lemmas.List.Elements.{All-from_recursion, recursion_from_All}
+use Rattle.ada_meaning.specs.Collected.{decisions_of}
+use Rattle.ada_meaning.specs.Program.{Program}
+use Rattle.ada_syntax.specs.Nodes.{capped, unit_nodes}
+use Rattle.ada_syntax.specs.declared.unit.Unit.{Unit as LibraryUnit}
+use Rattle.ada_tree.specs.declared.program.UnitEntry.{UnitEntry}
+use Rattle.ada_types.specs.Checked.{entry_of}
+use Rattle.ada_types.specs.Legal.{elaborated}
+use Rattle.ada_types.specs.Typing.{places_of}
+use Rattle.compiler.proofs.Legal.{compilable_law, made_of, passes_law, behaves_law, in_time_law}
+use Rattle.compiler.proofs.MarksOf.{marks_law}
+use Rattle.compiler.proofs.Placing.{text_bound}
+use Rattle.compiler.specs.Built.{HasPlainName, CanBeNamed, AreLegal, IsBuiltOf}
+use Rattle.compiler.specs.Compiled.{IsCompiled}
+use Rattle.compiler.specs.Held.{HoldsImage}
+use Rattle.compiler.specs.Legal.{IsLegal}
+use Rattle.compiler.specs.Made.{IsCompilable}
+use Rattle.compiler.specs.Source.{entry_of_file, IsObjectOf, IsCheap}
+use Rattle.cov_base.specs.declared.obligations.SourceFile.{SourceFile}
+use Rattle.cov_base.specs.declared.position.Pos.{Pos}
+use Rattle.generic_expand.specs.Expanded.{node_limit, first_past}
+use Rattle.legal_programs.proofs.Numbered.{undecided_law as no_decision_law}
+use Rattle.legal_programs.proofs.Programs.{nodes_law}
+use Rattle.legal_programs.specs.Rising.{StatementsRise}
+use Rattle.lower.specs.Lowered.{kernel_of}
+use Rattle.object_format.specs.Counts.{FileFits}
+use Rattle.object_format.specs.Fields.{are_files}
+use Rattle.object_format.specs.File.{closed_object}
+use Rattle.object_format.specs.Read.{IsObject, HasObject, is_plain}
+use Rattle.object_format.specs.declared.object.FileEntry.{FileEntry}
+use Rattle.object_format.specs.declared.object.Object.{Object}
+use Rattle.parsed_programs.specs.Places.{AreInFiles}
+use Rattle.parsed_programs.specs.Sources.{HaveUnits}
+
+both_hold : (a b : Bool) → a ≡ true → b ≡ true → (a && b) ≡ true
+both_hold a b p q = rw (p, q) refl
+
+-- units that never pass the limit are within it
+
+within_limit : (n more : ℕ) → nat_lt node_limit (n + more) ≡ false → n + more ≤ node_limit
+within_limit n more past = grind (arith, nat_tests)
+
+few_from : (n : ℕ) (units : List LibraryUnit) → n ≤ node_limit → first_past n (map entry_of units) ≡ None → fold (λ a u. a + capped (unit_nodes u)) n units ≤ node_limit
+few_from n [] low none = low
+few_from n (u ∷ us) low none = by_test (nat_lt node_limit (n + capped (unit_nodes u))) refl none (λ low none. few_from (n + capped (unit_nodes u)) us low none)
+  where
+    by_test : (b : Bool) → nat_lt node_limit (n + capped (unit_nodes u)) ≡ b → (if b then Some u.pos else first_past (n + capped (unit_nodes u)) (map entry_of us)) ≡ None
+        → (n + capped (unit_nodes u) ≤ node_limit → first_past (n + capped (unit_nodes u)) (map entry_of us) ≡ None → fold (λ a v. a + capped (unit_nodes v)) (n + capped (unit_nodes u)) us ≤ node_limit)
+        → fold (λ a v. a + capped (unit_nodes v)) (n + capped (unit_nodes u)) us ≤ node_limit
+    by_test true past found later = absurd (let x : ⊥ = cc found in x)
+    by_test false past found later = later (within_limit n (capped (unit_nodes u)) past) found
+
+few_units : (units : List LibraryUnit) → first_past 0 (map entry_of units) ≡ None → sum_by (λ u. capped (unit_nodes u)) units ≤ 4096
+few_units units none = few_from 0 units (omega arith) none
+
+-- the sources as files of the object
+
+names_are_utf8 : (files : List SourceFile) → AllByRecursion HasPlainName files → list_all (λ (f : FileEntry). is_utf8 f.name) (map entry_of_file files) ≡ true
+names_are_utf8 [] named = refl
+names_are_utf8 (f ∷ files) named = both_hold (is_utf8 f.name) (list_all (λ (g : FileEntry). is_utf8 g.name) (map entry_of_file files)) named.0.0 (names_are_utf8 files named.1)
+
+names_fit : (files : List SourceFile) → AllByRecursion HasPlainName files → AllByRecursion FileFits (map entry_of_file files)
+names_fit [] named = tt
+names_fit (f ∷ files) named = (omega (arith, named.0.1), names_fit files named.1)
+
+counted : (n : ℕ) → 0 < n → n ≤ 64 → (nat_lt 0 n && nat_le n 64) ≡ true
+counted n some few = both_hold (nat_lt 0 n) (nat_le n 64) (grind (arith, nat_tests)) (grind (arith, nat_tests))
+
+entries_are_files : (files : List SourceFile) → CanBeNamed files → are_files (map entry_of_file files) ≡ true
+entries_are_files files can =
+    let long = length-map files entry_of_file in
+    both_hold (nat_lt 0 (length (map entry_of_file files)) && nat_le (length (map entry_of_file files)) 64) (list_all (λ (f : FileEntry). is_utf8 f.name) (map entry_of_file files))
+    (counted (length (map entry_of_file files)) (omega (arith, long, can.some)) (omega (arith, long, can.few)))
+    (names_are_utf8 files (recursion_from_All HasPlainName files can.names))
+
+compiled_of : (files : List SourceFile) (units : List LibraryUnit) (p : Program) (o : Object) → CanBeNamed files → AreInFiles (length files) (places_of units) → IsBuiltOf files p o → IsCompiled units p o
+compiled_of files units p o can within built = record {
+  holds = built.holds;
+  obligations = built.obligations;
+  files = ap are_files built.sources ∙ entries_are_files files can;
+  names = subst (λ fs. All FileFits fs) (sym built.sources) (All-from_recursion FileFits (map entry_of_file files) (names_fit files (recursion_from_All HasPlainName files can.names)));
+  places = subst (λ n. AreInFiles n (places_of units)) (sym (ap length built.sources ∙ length-map files entry_of_file)) within;
+}
+
+-- the closing digest enters none of this
+pub closed_is_built : (files : List SourceFile) (p : Program) (o : Object) → IsBuiltOf files p o → IsBuiltOf files p (closed_object o)
+closed_is_built files p o built = record {
+  holds = record {
+    items = built.holds.items;
+    text = built.holds.text;
+    entry = built.holds.entry;
+    init_at = built.holds.init_at;
+    init = built.holds.init;
+    rows = built.holds.rows;
+    roles = built.holds.roles;
+    exceptions = built.holds.exceptions;
+  };
+  sources = built.sources;
+  obligations = built.obligations;
+}
+
+module _ (files : List SourceFile) (main : List ℕ) (p : Program) (o : Object) (can : CanBeNamed files) (legal : AreLegal files main p) (built : IsBuiltOf files p o) where
+  few : sum_by (λ u. capped (unit_nodes u)) legal.units ≤ 4096
+  few = few_units legal.units legal.small
+
+  compiled : IsCompiled legal.units p o
+  compiled = compiled_of files legal.units p o can legal.within built
+
+  -- it can be written
+  pub written_law : HasObject o
+  written_law = (passes_law legal.units main p o legal.elaborated legal.rising few compiled).0
+
+  -- what is read back of it is the sources' object
+  object_law : IsObject o → IsObjectOf files main p o
+  object_law is = record {
+    legal = record { units = legal.units; parsed = legal.parsed; elaborated = legal.elaborated; few = legal.small };
+    checked = is;
+    plain = (passes_law legal.units main p o legal.elaborated legal.rising few compiled).1;
+    sources = built.sources;
+    obligations = built.obligations;
+    marks = marks_law p o (compilable_law legal.units main p legal.elaborated legal.rising few) (made_of legal.units main p o legal.elaborated legal.rising compiled);
+    behaves = behaves_law legal.units main p o legal.elaborated legal.rising few compiled;
+  }
+
+  cheap_law : IsCheap files main p o
+  cheap_law = record {
+    legal = record { units = legal.units; parsed = legal.parsed; elaborated = legal.elaborated; few = legal.small };
+    in_time = in_time_law legal.units main p o legal.elaborated legal.rising few compiled;
+    small = text_bound p o (sum_by unit_nodes legal.units) (compilable_law legal.units main p legal.elaborated legal.rising few).straight built.holds (nodes_law legal.units main p legal.elaborated);
+  }
+
+pub closed_law : (files : List SourceFile) (main : List ℕ) (p : Program) (o : Object) → CanBeNamed files → AreLegal files main p → IsBuiltOf files p o → IsObject (closed_object o)
+    → IsObjectOf files main p (closed_object o) × IsCheap files main p (closed_object o)
+closed_law files main p o can legal built is =
+    let whole = closed_is_built files p o built in
+    (object_law files main p (closed_object o) can legal whole is, cheap_law files main p (closed_object o) can legal whole)
+
+-- the object whose digest has been added
+pub made_law : (files : List SourceFile) (main : List ℕ) (p : Program) (o made : Object) → CanBeNamed files → AreLegal files main p → IsBuiltOf files p o → made ≡ closed_object o → IsObject made
+    → IsObjectOf files main p made × IsCheap files main p made
+made_law files main p o made can legal built is checked =
+    subst (λ x. IsObjectOf files main p x × IsCheap files main p x) (sym is) (closed_law files main p o can legal built (subst (λ x. IsObject x) is checked))
+
+-- what has been read and checked
+pub legal_of : (files : List SourceFile) (units read : List LibraryUnit) (main : List ℕ) (p : Program) → HaveUnits files units → StatementsRise units → AreInFiles (length files) (places_of units)
+    → read ≡ units → elaborated read main ≡ Some p → first_past 0 (map entry_of read) ≡ None → AreLegal files main p
+legal_of files units read main p parsed rises within are legal small = record {
+  units = units;
+  parsed = parsed;
+  rising = rises;
+  within = within;
+  elaborated = ap (λ us. elaborated us main) (sym are) ∙ legal;
+  small = ap (λ us. first_past 0 (map entry_of us)) (sym are) ∙ small;
+}
+
+pub able_law : (files : List SourceFile) (main : List ℕ) (p : Program) → AreLegal files main p → IsCompilable p
+able_law files main p legal = compilable_law legal.units main p legal.elaborated legal.rising (few_units legal.units legal.small)
+
+pub undecided_law : (files : List SourceFile) (main : List ℕ) (p : Program) → AreLegal files main p → decisions_of p.subprograms ≡ []
+undecided_law files main p legal = no_decision_law legal.units main p legal.elaborated

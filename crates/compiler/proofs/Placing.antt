@@ -1,0 +1,66 @@
+-- An object that holds the image of a program's kernel has its places in memory.
+use Rattle.std.proofs.Common.{◌≡◌, ℕ, ◌+◌, ◌*◌, ◌%◌, ◌≤◌, ◌<◌, ◌==◌, ◌&&◌, Bool, true, nat_lt, nat_le, List, [], length, map, refl, sym, ap, ◌∙◌, subst, arith, lit≤}
+use Rattle.std.proofs.lemmas.Bool.Decides.{nat_tests}
+use Rattle.ada_meaning.specs.Program.{Program}
+use Rattle.assembler.specs.Placed.{words_in, words_of}
+use Rattle.compiler.specs.Held.{HoldsImage}
+use Rattle.kernel_code.proofs.LengthLimits.{pieces_few}
+use Rattle.kernel_code.proofs.PiecesFit.{pieces_can_be_placed}
+use Rattle.kernel_code.specs.Code.{start_lines}
+use Rattle.kernel_code.specs.Line.{items_of}
+use Rattle.kernel_code.specs.Pieces.{kernel_pieces}
+use Rattle.kernel_ir.specs.declared.kernel.Kernel.{Kernel}
+use Rattle.kernel_ir.specs.Limits.{kernel_instructions}
+use Rattle.linker.proofs.Places.{text_words, is_entered}
+use Rattle.linker.specs.Linked.{linked}
+use Rattle.lower.proofs.Static.{well_formed_law, within_law, short_law}
+use Rattle.lower.specs.Lowered.{kernel_of}
+use Rattle.lower.specs.Marked.{all_statements}
+use Rattle.lower.specs.StraightLine.{IsStraightLine}
+use Rattle.object_format.specs.Fields.{is_placed}
+use Rattle.object_format.specs.Text.{is_in_text, text_end}
+use Rattle.object_format.specs.declared.object.Object.{Object}
+use Rattle.rv_semantics.specs.Layout.{data_start}
+
+both_hold : (a b : Bool) → a ≡ true → b ≡ true → (a && b) ≡ true
+both_hold a b p q = rw (p, q) refl
+
+abbrev pub is_laid_out : (words : ℕ) (in_text : Bool) (init_at count : ℕ) → Bool
+is_laid_out words in_text init_at count =
+    nat_lt 0 words && nat_le words 4194304 && in_text && (init_at % 4 == 0) && nat_le (0x10000 + 4 * words) init_at && nat_le (init_at + 4 * count) 0x2000000
+
+laid_out : (words : ℕ) (in_text : Bool) → 0 < words → 0x10000 + 4 * words ≤ 0x1000000 → in_text ≡ true → is_laid_out words in_text 0x1000000 0 ≡ true
+laid_out words in_text some ends entered =
+    both_hold (nat_lt 0 words && nat_le words 4194304 && in_text && (0x1000000 % 4 == 0) && nat_le (0x10000 + 4 * words) 0x1000000) true
+    (both_hold (nat_lt 0 words && nat_le words 4194304 && in_text && (0x1000000 % 4 == 0)) (nat_le (0x10000 + 4 * words) 0x1000000)
+    (both_hold (nat_lt 0 words && nat_le words 4194304 && in_text) true
+    (both_hold (nat_lt 0 words && nat_le words 4194304) in_text
+    (both_hold (nat_lt 0 words) (nat_le words 4194304) (grind (arith, nat_tests)) (grind (arith, nat_tests))) entered) refl)
+    (grind (arith, nat_tests))) refl
+
+-- how many words the text has
+pub text_long : (k : Kernel) (o : Object) → HoldsImage k o → length o.text ≡ words_in (kernel_pieces k)
+text_long k o holds = ap length holds.text ∙ text_words (kernel_pieces k)
+
+start_long : (k : Kernel) → 7 ≤ words_in (kernel_pieces k)
+start_long k = let start : words_of (items_of (start_lines k.main)) ≡ 7 = refl in omega arith
+
+-- text, entry and data have their places
+pub placed_law : (p : Program) (o : Object) → IsStraightLine p → all_statements p.subprograms + length p.subprograms ≤ 4096 → HoldsImage (kernel_of p) o → is_placed o ≡ true
+placed_law p o plain few holds =
+    let k = kernel_of p in
+    let pieces = kernel_pieces k in
+    let long = text_long k o holds in
+    let some = start_long k in
+    let ends = (pieces_can_be_placed (λ d. []) k (well_formed_law p plain (λ d. [])) (within_law p plain few)).in_time in
+    let entered : is_in_text o.text o.entry ≡ true =
+    ap (λ text. is_in_text text o.entry) holds.text ∙ (ap (is_in_text (linked pieces []).text) holds.entry ∙ is_entered pieces [] (omega arith)) in
+    ap (λ at. is_laid_out (length o.text) (is_in_text o.text o.entry) at (length o.init)) holds.init_at
+    ∙ (ap (λ (words : List ℕ). is_laid_out (length o.text) (is_in_text o.text o.entry) data_start (length words)) holds.init
+    ∙ laid_out (length o.text) (is_in_text o.text o.entry) (omega arith) (omega arith) entered)
+
+-- the text takes at most 240 bytes for each node, and 4,096 beside
+pub text_bound : (p : Program) (o : Object) (nodes : ℕ) → IsStraightLine p → HoldsImage (kernel_of p) o → all_statements p.subprograms + length p.subprograms ≤ nodes
+    → 4 * length o.text ≤ 240 * nodes + 4096
+text_bound p o nodes plain holds few =
+    omega (arith, text_long (kernel_of p) o holds, pieces_few (kernel_of p), short_law p plain, few)

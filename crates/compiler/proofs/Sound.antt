@@ -1,0 +1,193 @@
+-- An object that is made of a program passes the checks of objects.
+use Rattle.std.proofs.Common.{◌≡◌, ◌≢◌, ℕ, zero, suc, ◌+◌, ◌*◌, ◌^◌, ◌≤◌, ◌<◌, ◌==◌, ◌&&◌, Bool, true, false, nat_lt, nat_le, List, [], ◌∷◌, ◌++◌, length, map, All, AllPairs, refl, sym, ap, ◌∙◌, subst, arith, lit≤, length-append}
+use Rattle.std.specs.List.{list_all, AllByRecursion}
+use Rattle.std.proofs.lemmas.Bool.Decides.{nat_tests}
+use Rattle.std.proofs.lemmas.List.{append-nil, length-map}
+use Rattle.std.proofs.lemmas.List.Elements.{All-from_recursion}
+use Rattle.ada_meaning.specs.Collected.{labels_of, labels, all_labels, block_labels}
+use Rattle.ada_meaning.specs.Obligations.{numbers, predefined_names, no_instance}
+use Rattle.ada_meaning.specs.Program.{Subprogram, Program}
+use Rattle.ada_meaning.specs.Tree as tree
+use Rattle.ada_meaning.specs.Types as type
+use Rattle.compiler.proofs.NoRoles.{no_roles}
+use Rattle.compiler.proofs.Placing.{placed_law, text_bound}
+use Rattle.compiler.proofs.RowStarts.{named, start_at, starts_of_linked, starts_differ, rows_in_range}
+use Rattle.compiler.specs.Made.{places_in, IsCompilable, IsMadeOf}
+use Rattle.cov_base.specs.declared.obligations.Obligations.{Obligations}
+use Rattle.cov_base.specs.declared.position.Pos.{Pos}
+use Rattle.decision_meaning.specs.Pair.{Everywhere}
+use Rattle.kernel_code.proofs.PieceLaws.{pieces_are_marked}
+use Rattle.kernel_code.specs.Pieces.{kernel_pieces}
+use Rattle.legal_programs.specs.Listed.{entry_at, obligations_at}
+use Rattle.line_table.specs.declared.roles.Role.{Role}
+use Rattle.line_table.specs.declared.rows.Row.{Row as TableRow}
+use Rattle.linker.proofs.RowMarks.{rows_are_in_order}
+use Rattle.linker.proofs.Roles.{roles_are_branches}
+use Rattle.linker.specs.Linked.{linked}
+use Rattle.lower.proofs.Static.{rows_law}
+use Rattle.lower.specs.Lowered.{kernel_of}
+use Rattle.lower.specs.Marked.{row_of, statement_count, statements_in, all_statements}
+use Rattle.lower.specs.StraightLine.{IsPlainStatement, ArePlainStatements, IsPlainBlock, IsStraightLine}
+use Rattle.object_format.specs.Checked.{IsSound}
+use Rattle.object_format.specs.Counts.{IsCountable, AreCountable, InstanceFits, RegionFits, FileFits, IsCounted}
+use Rattle.object_format.specs.Decisions.{AreExpression}
+use Rattle.object_format.specs.Fields.{is_placed, are_files, are_statements, are_obliged, is_row, is_role, passes_field}
+use Rattle.object_format.specs.Read.{HasObject, is_plain}
+use Rattle.object_format.specs.RoleCheck.{branches_from, conditions_of, AreWhole, PassesRole}
+use Rattle.object_format.specs.RowCheck.{start_of, is_in, PassesRow}
+use Rattle.object_format.specs.declared.object.FileEntry.{FileEntry}
+use Rattle.object_format.specs.declared.object.Object.{Object}
+use Rattle.spelling.specs.Checks.{rising}
+
+both_hold : (a b : Bool) → a ≡ true → b ≡ true → (a && b) ≡ true
+both_hold a b p q = rw (p, q) refl
+
+left_holds : (a b : Bool) → (a && b) ≡ true → a ≡ true
+left_holds true b both = refl
+left_holds false b both = both
+
+right_holds : (a b : Bool) → (a && b) ≡ true → b ≡ true
+right_holds true b both = both
+right_holds false b both = absurd (let x : ⊥ = cc in x)
+
+-- how many labels there are
+
+label_each : (n : ℕ) (s : tree.Stmt) → IsPlainStatement n s → length (labels s) ≡ 1
+label_each n (tree.null_statement l) plain = refl
+label_each n (tree.return_statement l) plain = refl
+label_each n (tree.procedure_call l tree.test_put (tree.by_expression (tree.literal x) tree.no_actual)) plain = refl
+label_each n (tree.procedure_call l (tree.subprogram (type.of_instance zero) m) tree.no_actual) plain = refl
+label_each n s plain = absurd plain
+
+label_all : (n : ℕ) (ss : tree.Stmts) → ArePlainStatements n ss → length (all_labels ss) ≡ statement_count ss
+label_all n tree.no_statement plain = refl
+label_all n (tree.and_statement s ss) plain = omega (arith, length-append (labels s) (all_labels ss), label_each n s plain.0, label_all n ss plain.1)
+
+label_block : (n : ℕ) (b : tree.Block) → IsPlainBlock n b → length (block_labels b) ≡ statements_in b
+label_block n (tree.block [] ss tree.no_handler) plain = ap length (append-nil (all_labels ss)) ∙ label_all n ss plain
+label_block n (tree.block [] ss (tree.handler cs hss hs)) plain = absurd plain
+label_block n (tree.block (x ∷ ds) ss hs) plain = absurd plain
+
+label_bodies : (n : ℕ) (ss : List Subprogram) → Everywhere (λ s. (s.parameters ≡ []) × IsPlainBlock n s.body) ss → length (labels_of ss) ≡ all_statements ss
+label_bodies n [] plain = refl
+label_bodies n (s ∷ ss) plain = omega (arith, length-append (block_labels s.body) (labels_of ss), label_block n s.body plain.0.1, label_bodies n ss plain.1)
+
+numbers_long : (from count : ℕ) → length (numbers from count) ≡ count
+numbers_long from zero = refl
+numbers_long from (suc count) = ap (λ n. suc n) (numbers_long (suc from) count)
+
+-- what rows start
+
+starts_of_labels : (ls : List tree.Label) → map named (map row_of ls) ≡ map start_at (map (λ l. l.number) ls)
+starts_of_labels [] = refl
+starts_of_labels (l ∷ ls) = ap (λ starts. start_at l.number ∷ starts) (starts_of_labels ls)
+
+-- obligations of statements alone
+
+obliged_holds : (files : ℕ) (places : List Pos) → are_statements files (map entry_at places) ≡ true → are_obliged files (obligations_at places []) ≡ true
+obliged_holds files places statements = ap (λ b. true && true && b && true && true) statements
+
+abbrev plain_parts : List ℕ → Obligations → List Role → Bool
+plain_parts init ob roles =
+    (length init == 0) && (length ob.exceptions == 4) && (length ob.instances == 1) && (length ob.decisions == 0) && (length ob.regions == 0) && (length roles == 0)
+
+plain_holds : (places : List Pos) (init : List ℕ) (ob : Obligations) (roles : List Role) → init ≡ [] → ob ≡ obligations_at places [] → roles ≡ [] → plain_parts init ob roles ≡ true
+plain_holds places init ob roles no_init obligations no_role =
+    ap (λ i. plain_parts i ob roles) no_init ∙ (ap (λ x. plain_parts [] x roles) obligations ∙ ap (plain_parts [] (obligations_at places [])) no_role)
+
+few_files : (files : List FileEntry) → are_files files ≡ true → length files ≤ 64
+few_files files are =
+    let front = left_holds (nat_lt 0 (length files) && nat_le (length files) 64) _ are in
+    let few = right_holds (nat_lt 0 (length files)) (nat_le (length files) 64) front in
+    at_most (length files) few
+  where
+    at_most : (n : ℕ) → nat_le n 64 ≡ true → n ≤ 64
+    at_most n few = grind (arith, nat_tests)
+
+-- what the rows of a made object start
+pub starts_law : (p : Program) (o : Object) → IsCompilable p → IsMadeOf p o → map start_of o.rows ≡ map start_at (numbers 0 (length (labels_of p.subprograms)))
+starts_law p o able made =
+    let marked = pieces_are_marked (kernel_of p) in
+    ap (map start_of) made.holds.rows
+    ∙ (starts_of_linked (kernel_pieces (kernel_of p)) [] marked.marks
+    ∙ (ap (map named) (marked.rows_named ∙ rows_law p able.straight)
+    ∙ (starts_of_labels (labels_of p.subprograms)
+    ∙ ap (map start_at) (subst (λ ls. map (λ l. l.number) ls ≡ numbers 0 (length ls)) able.in_order able.numbered.statements))))
+
+pub no_role : (p : Program) (o : Object) → IsCompilable p → IsMadeOf p o → o.roles ≡ []
+no_role p o able made = made.holds.roles ∙ no_roles p [] able.straight able.calls
+
+pub entries_long : (p : Program) → length (map entry_at (places_in p)) ≡ length (labels_of p.subprograms)
+entries_long p = length-map (places_in p) entry_at ∙ length-map (labels_of p.subprograms) (λ l. l.place)
+
+-- the four checks
+
+field_law : (p : Program) (o : Object) → IsCompilable p → IsMadeOf p o → passes_field o ≡ true
+field_law p o able made =
+    let n = length (labels_of p.subprograms) in
+    let obliged : are_obliged (length o.files) o.obligations ≡ true =
+    ap (are_obliged (length o.files)) made.obligations
+    ∙ obliged_holds (length o.files) (places_in p) (sym (ap (λ ob. are_statements (length o.files) ob.statements) made.obligations) ∙ made.statements) in
+    let rows : list_all (is_row (length o.obligations.statements) (length o.obligations.instances)) o.rows ≡ true =
+    ap (λ ob. list_all (is_row (length ob.statements) (length ob.instances)) o.rows) made.obligations
+    ∙ (ap (λ m. list_all (is_row m 1) o.rows) (entries_long p) ∙ rows_in_range n o.rows (starts_law p o able made)) in
+    let roles : list_all (is_role o.obligations.decisions (length o.obligations.instances)) o.roles ≡ true =
+    ap (list_all (is_role o.obligations.decisions (length o.obligations.instances))) (no_role p o able made) in
+    both_hold _ _ (both_hold _ _ (both_hold _ _ (both_hold (is_placed o) (are_files o.files) (placed_law p o able.straight able.few made.holds) made.files) obliged) rows) roles
+
+row_law : (p : Program) (o : Object) → IsCompilable p → IsMadeOf p o → PassesRow o
+row_law p o able made =
+    let pieces = kernel_pieces (kernel_of p) in
+    let ordered = rows_are_in_order pieces [] (pieces_are_marked (kernel_of p)).marks in
+    record {
+      placed = ap (λ text. list_all (is_in text) o.rows) made.holds.text ∙ (ap (list_all (is_in (linked pieces []).text)) made.holds.rows ∙ ordered.0);
+      rising = ap (rising (λ (one next : TableRow). nat_lt one.address next.address)) made.holds.rows ∙ ordered.1;
+      once = subst (λ starts. AllPairs (λ one next. one ≢ next) starts) (sym (starts_law p o able made)) (starts_differ 0 (length (labels_of p.subprograms)));
+    }
+
+role_law : (p : Program) (o : Object) → IsCompilable p → IsMadeOf p o → PassesRole o
+role_law p o able made =
+    let pieces = kernel_pieces (kernel_of p) in
+    let none = no_role p o able made in
+    record {
+      branches = ap (map (λ (role : Role). role.address)) made.holds.roles
+          ∙ (roles_are_branches pieces [] (pieces_are_marked (kernel_of p)).marks made.holds.items ∙ ap (branches_from 0x10000) (sym made.holds.text));
+      single = subst (λ roles. AllPairs (λ one next. one ≢ next) (conditions_of roles)) (sym none) (λ i j d below within. absurd (omega (arith, within)));
+      whole = subst (λ roles. AreWhole o.obligations.decisions (conditions_of roles)) (sym none) (λ one has condition below. absurd (omega (arith, has.1)));
+    }
+
+sound_law : (p : Program) (o : Object) → IsCompilable p → IsMadeOf p o → IsSound o
+sound_law p o able made = record {
+  field = field_law p o able made;
+  decision = subst (λ ob. AllByRecursion (λ d. AreExpression d.expression.postfix (length d.conditions)) ob.decisions) (sym made.obligations) tt;
+  row = row_law p o able made;
+  role = role_law p o able made;
+}
+
+-- the counts
+
+counted_law : (p : Program) (o : Object) → IsCompilable p → IsMadeOf p o → IsCounted o
+counted_law p o able made =
+    let n = length (labels_of p.subprograms) in
+    let few : n ≤ 4096 = omega (arith, label_bodies (length p.subprograms) p.subprograms able.straight.bodies, able.few) in
+    let rows_long : length o.rows ≡ n =
+    sym (length-map o.rows start_of) ∙ (ap length (starts_law p o able made) ∙ (length-map (numbers 0 n) start_at ∙ numbers_long 0 n)) in
+    record {
+      text = omega (arith, text_bound p o 4096 able.straight made.holds able.few);
+      init = subst (λ (words : List ℕ). length words < 2 ^ 32) (sym made.holds.init) (lit≤ tt);
+      files = (omega (arith, few_files o.files made.files), made.names);
+      instances = subst (λ ob. AreCountable InstanceFits ob.instances) (sym made.obligations) (lit≤ tt, All-from_recursion InstanceFits (no_instance ∷ []) (lit≤ tt, tt));
+      exceptions = subst (λ ob. AreCountable IsCountable ob.exceptions) (sym made.obligations)
+          (lit≤ tt, All-from_recursion IsCountable predefined_names (lit≤ tt, (lit≤ tt, (lit≤ tt, (lit≤ tt, tt)))));
+      statements = subst (λ ob. IsCountable ob.statements) (sym made.obligations) (omega (arith, entries_long p, few));
+      decisions = subst (λ ob. IsCountable ob.decisions) (sym made.obligations) (lit≤ tt);
+      regions = subst (λ ob. AreCountable RegionFits ob.regions) (sym made.obligations) (lit≤ tt, All-from_recursion RegionFits [] tt);
+      rows = omega (arith, rows_long, few);
+      roles = subst (λ (roles : List Role). length roles < 2 ^ 32) (sym (no_role p o able made)) (lit≤ tt);
+    }
+
+pub made_law : (p : Program) (o : Object) → IsCompilable p → IsMadeOf p o → HasObject o × (is_plain o ≡ true)
+made_law p o able made = (
+  record { sound = sound_law p o able made; counted = counted_law p o able made },
+  plain_holds (places_in p) o.init o.obligations o.roles made.holds.init made.obligations (no_role p o able made),
+)

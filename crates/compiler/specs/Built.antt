@@ -1,0 +1,44 @@
+-- The object that is built of a program and its sources.
+use Rattle.std.specs.Prelude.{◌≡◌, ◌≤◌, ◌<◌, ℕ, true, List, [], length, map, Some, None}
+use Rattle.std.specs.List.{All}
+use Rattle.std.specs.Str.{is_utf8}
+use Rattle.ada_meaning.specs.Obligations.{obligations_of}
+use Rattle.ada_meaning.specs.Program.{Program}
+use Rattle.ada_syntax.specs.declared.unit.Unit.{Unit as LibraryUnit}
+use Rattle.ada_types.specs.Checked.{entry_of}
+use Rattle.ada_types.specs.Legal.{elaborated}
+use Rattle.ada_types.specs.Typing.{places_of}
+use Rattle.compiler.specs.Held.{HoldsImage}
+use Rattle.compiler.specs.Source.{entry_of_file}
+use Rattle.cov_base.specs.declared.obligations.SourceFile.{SourceFile}
+use Rattle.generic_expand.specs.Expanded.{first_past}
+use Rattle.legal_programs.specs.Rising.{StatementsRise}
+use Rattle.lower.specs.Lowered.{kernel_of}
+use Rattle.object_format.specs.declared.object.Object.{Object}
+use Rattle.parsed_programs.specs.Places.{AreInFiles}
+use Rattle.parsed_programs.specs.Sources.{HaveUnits}
+
+-- a source has a name that an object can have: UTF-8 of at most 4,096 bytes
+abbrev pub HasPlainName : SourceFile → Type 0
+HasPlainName f = (is_utf8 f.name ≡ true) × (length f.name ≤ 4096)
+
+-- sources that an object can name: 1 to 64
+pub record CanBeNamed (files : List SourceFile) : Type 0 where
+  pub some : 0 < length files
+  pub few : length files ≤ 64
+  pub names : All HasPlainName files
+
+-- the object holds the image of the program's kernel, names the sources with their digests, and has the program's obligations
+pub record IsBuiltOf (files : List SourceFile) (p : Program) (o : Object) : Type 0 where
+  pub holds : HoldsImage (kernel_of p) o
+  pub sources : o.files ≡ map entry_of_file files
+  pub obligations : o.obligations ≡ obligations_of p []
+
+-- sources that are this legal program, as `IsLegal` says, whose statements stand in the files in order
+pub record AreLegal (files : List SourceFile) (main : List ℕ) (p : Program) : Type 0 where
+  pub units : List LibraryUnit
+  pub parsed : HaveUnits files units
+  pub rising : StatementsRise units
+  pub within : AreInFiles (length files) (places_of units)
+  pub elaborated : elaborated units main ≡ Some p
+  pub small : first_past 0 (map entry_of units) ≡ None

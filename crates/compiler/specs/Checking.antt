@@ -1,0 +1,43 @@
+-- How refusals of units are told as faults of their sources.
+use Rattle.std.specs.Prelude.{◌≡◌, ℕ, true, List, Some}
+use Rattle.ada_syntax.specs.declared.unit.Unit.{Unit as LibraryUnit}
+use Rattle.ada_tree.specs.declared.program.UnitEntry.{UnitEntry}
+use Rattle.ada_types.specs.Legal.{naming, typing, holds, Offends}
+use Rattle.ada_types.specs.declared.fault.CheckFault.{CheckFault}
+use Rattle.ada_types.specs.declared.fault.CheckFault.TheVariants as check_fault
+use Rattle.compiler.specs.Legal.{whole}
+use Rattle.cov_base.specs.declared.failure.Failure.{Failure}
+use Rattle.cov_base.specs.declared.failure.Failure.TheVariants.{Fault, WantOfMemory}
+use Rattle.cov_base.specs.declared.position.Pos.{Pos}
+use Rattle.generic_expand.specs.Expanded.{first_past}
+use Rattle.generic_expand.specs.declared.fault.ExpandFault.{ExpandFault}
+use Rattle.generic_expand.specs.declared.fault.ExpandFault.TheVariants.{TooBig, TooMany}
+use Rattle.parsed_programs.specs.Sources.{fault_at}
+use Rattle.parsed_programs.specs.declared.fault.SourceFault.{SourceFault}
+use Rattle.parsed_programs.specs.declared.fault.Why.{Why}
+use Rattle.parsed_programs.specs.declared.fault.Why.TheVariants.{Limit, Naming, Typing}
+
+abbrev pub failure_at : Pos → Why → Failure SourceFault
+failure_at pos why = Fault (fault_at pos why)
+
+abbrev pub illegal : Failure CheckFault → Failure SourceFault
+illegal (Fault (check_fault.Naming f)) = failure_at f.pos Naming
+illegal (Fault (check_fault.Typing f)) = failure_at f.pos Typing
+illegal (Fault (check_fault.Limit f)) = failure_at f.pos Limit
+illegal WantOfMemory = WantOfMemory
+
+abbrev pub too_large : Failure ExpandFault → Failure SourceFault
+too_large (Fault (TooBig pos)) = failure_at pos Limit
+too_large (Fault (TooMany pos)) = failure_at pos Limit
+too_large WantOfMemory = WantOfMemory
+
+-- units that are refused by the rules on names or on types, with their first fault
+pub data UnitsAreRefused (units : List LibraryUnit) (main : List ℕ) : Failure SourceFault → Type 0 where
+  breaks_names : {pos : Pos} → Offends naming (whole units main) pos → UnitsAreRefused units main (failure_at pos Naming)
+  breaks_types : {pos : Pos} → holds naming (whole units main) ≡ true → Offends typing (whole units main) pos → UnitsAreRefused units main (failure_at pos Typing)
+  memory_is_out : UnitsAreRefused units main WantOfMemory
+
+-- units with these entries are refused: the nodes of all pass the limit first with the one at this place
+pub data PassesLimit (units : List UnitEntry) : Failure SourceFault → Type 0 where
+  passes : {pos : Pos} → first_past 0 units ≡ Some pos → PassesLimit units (failure_at pos Limit)
+  no_memory : PassesLimit units WantOfMemory

@@ -1,0 +1,42 @@
+-- Which sources are a legal program, which program they are, and why others are refused.
+use Rattle.std.specs.Prelude.{◌≡◌, ℕ, true, List, map, Some, None}
+use Rattle.std.specs.Str.{str_to_ascii_lowercase}
+use Rattle.ada_meaning.specs.Program.{Program}
+use Rattle.ada_syntax.specs.declared.unit.Unit.{Unit as LibraryUnit}
+use Rattle.ada_types.specs.Checked.{entry_of}
+use Rattle.ada_types.specs.Legal.{naming, typing, Construct, program, holds, Offends, elaborated}
+use Rattle.cov_base.specs.declared.failure.Failure.{Failure}
+use Rattle.cov_base.specs.declared.failure.Failure.TheVariants.{Fault, WantOfMemory}
+use Rattle.cov_base.specs.declared.obligations.SourceFile.{SourceFile}
+use Rattle.cov_base.specs.declared.position.Pos.{Pos}
+use Rattle.generic_expand.specs.Expanded.{first_past}
+use Rattle.parsed_programs.specs.Sources.{HaveUnits, HaveNoUnits, fault_at}
+use Rattle.parsed_programs.specs.declared.fault.SourceFault.{SourceFault}
+use Rattle.parsed_programs.specs.declared.fault.Why.TheVariants.{Limit, Naming, Typing}
+
+-- the sources are this legal program with a main procedure of this name, whose case does not count: their units pass the rules on names and
+-- types, and are within the limit on nodes
+pub record IsLegal (files : List SourceFile) (main : List ℕ) (p : Program) : Type 0 where
+  pub units : List LibraryUnit
+  pub parsed : HaveUnits files units
+  pub elaborated : elaborated units main ≡ Some p
+  pub few : first_past 0 (map entry_of units) ≡ None
+
+-- all units with a main procedure
+abbrev pub whole : List LibraryUnit → (main : List ℕ) → Construct
+whole units main = program units (str_to_ascii_lowercase main)
+
+-- sources that are refused, with their first fault: they have no units; else a construct breaks a rule on names; else one on types; else
+-- there are too many nodes
+pub data AreRefused (files : List SourceFile) (main : List ℕ) : SourceFault → Type 0 where
+  no_units : {fault : SourceFault} → HaveNoUnits files fault → AreRefused files main fault
+  breaks_names : {units : List LibraryUnit} {pos : Pos} → HaveUnits files units → Offends naming (whole units main) pos → AreRefused files main (fault_at pos Naming)
+  breaks_types : {units : List LibraryUnit} {pos : Pos} → HaveUnits files units → holds naming (whole units main) ≡ true → Offends typing (whole units main) pos
+      → AreRefused files main (fault_at pos Typing)
+  too_many_nodes : {units : List LibraryUnit} {p : Program} {pos : Pos} → HaveUnits files units → elaborated units main ≡ Some p → first_past 0 (map entry_of units) ≡ Some pos
+      → AreRefused files main (fault_at pos Limit)
+
+-- a call refused the sources, where memory was not refused
+abbrev pub RefusesFor : List SourceFile → (main : List ℕ) → Failure SourceFault → Type 0
+RefusesFor files main (Fault fault) = AreRefused files main fault
+RefusesFor files main WantOfMemory = Unit {0}

@@ -1,0 +1,79 @@
+//! From a legal program to its object, but for the closing digest.
+
+ghost use Rattle.std.specs.Prelude.{◌≡◌, [], IfOk, OnOk, map};
+ghost use Rattle.ada_meaning.specs.Collected.{decisions_of};
+ghost use Rattle.ada_tree.specs.View.{program_of};
+ghost use Rattle.assembler.specs.Reach.{AreItems};
+ghost use Rattle.compiler.specs.Built.{IsBuiltOf};
+ghost use Rattle.compiler.specs.Made.{IsCompilable};
+ghost use Rattle.compiler.specs.Source.{entry_of_file};
+ghost use Rattle.kernel_code.specs.Pieces.{kernel_pieces};
+ghost use Rattle.linker.specs.Linked.{linked};
+ghost use Rattle.lower.specs.Lowered.{kernel_of};
+
+use ada_tree::Program;
+use codegen_rv32::generate;
+use cov_base::{Bytes, Seq, SourceFile};
+use linker::{Image, link};
+use lower::lower;
+use object_format::{FileEntry, Object, digest};
+use obligations::obligations;
+use std::alloc::{AllocError, Global};
+
+/// The object of a program and its sources. Its closing digest is not there yet.
+pub(crate) fn object_of(
+    alloc: Global,
+    files: &[SourceFile],
+    program: &Program,
+) -> Result<Object, AllocError>
+    requires compilable { IsCompilable (program_of program.now) }
+    requires undecided { decisions_of (program_of program.now).subprograms ≡ [] }
+    ensures { IfOk result (IsBuiltOf files.now (program_of program.now)) }
+{
+    let files = file_entries(alloc, files)?;
+    let obligations = obligations(alloc, program)?;
+    let image = image_of(alloc, program)?;
+    Ok(Object {
+        entry: image.entry,
+        text: image.text,
+        init_at: image.init_at,
+        init: image.init,
+        files: Seq::from(files),
+        obligations,
+        rows: image.rows,
+        roles: image.roles,
+        closing: [0; 32],
+    })
+}
+
+/// The image of a program: its linked machine code, without data.
+fn image_of(alloc: Global, program: &Program) -> Result<Image, AllocError>
+    requires { IsCompilable (program_of program.now) }
+    ensures linked { IfOk result (λ image. image ≡ linked (kernel_pieces (kernel_of (program_of program.now))) []) }
+    ensures fits { OnOk result (AreItems (kernel_pieces (kernel_of (program_of program.now)))) }
+{
+    let kernel = lower(alloc, program)?;
+    let pieces = generate(alloc, &kernel)?;
+    link(alloc, pieces.as_slice(), &[])
+}
+
+/// How the object names its sources.
+fn file_entries(alloc: Global, files: &[SourceFile]) -> Result<Vec<FileEntry>, AllocError>
+    ensures { IfOk result (λ entries. entries.items ≡ map entry_of_file files.now) }
+{
+    let mut entries = Vec::new(alloc);
+    for file in files {
+        entries.push(file_entry(alloc, file)?)?;
+    }
+    Ok(entries)
+}
+
+/// How the object names a source: by its name, and the digest of its bytes.
+fn file_entry(alloc: Global, file: &SourceFile) -> Result<FileEntry, AllocError>
+    ensures { IfOk result (λ entry. entry ≡ entry_of_file file.now) }
+{
+    Ok(FileEntry {
+        name: Bytes::from(Vec::from_slice(alloc, file.name.as_slice())?),
+        sha256: digest(file.bytes.as_slice()),
+    })
+}

@@ -1,0 +1,96 @@
+//! Which sources are a program within the limits.
+
+ghost use Rattle.std.specs.Prelude.{◌≡◌, ◌≤◌, length, List, Some, None, IfOk, IfErr, OnOk, map};
+ghost use Rattle.ada_tree.specs.View.{program_of};
+ghost use Rattle.ada_types.specs.Checked.{entry_of};
+ghost use Rattle.ada_types.specs.Legal.{elaborated};
+ghost use Rattle.compiler.specs.Built.{AreLegal};
+ghost use Rattle.compiler.specs.Checking as spec;
+ghost use Rattle.compiler.specs.Checking.{UnitsAreRefused, PassesLimit};
+ghost use Rattle.compiler.specs.Legal.{RefusesFor};
+ghost use Rattle.generic_expand.specs.Expanded as expanded;
+
+use ada_syntax::Unit;
+use ada_tree::Program;
+use ada_types::{CheckFault, LimitFault, NameFault, TypeFault, check};
+use cov_base::{Failure, Pos, SourceFile};
+use generic_expand::{ExpandFault, expand};
+use parsed_programs::{SourceFault, Why, units_of};
+use std::alloc::Global;
+
+/// The legal program that sources are, whose main procedure has this name, where case does not
+/// count. It has no more nodes than an expanded program may have.
+pub(crate) fn legal_program(
+    alloc: Global,
+    files: &[SourceFile],
+    main: &str,
+) -> Result<Program, Failure<SourceFault>>
+    requires { length files.now ≤ 64 }
+    ensures legal { IfOk result (λ p. AreLegal files.now main.now (program_of p)) }
+    ensures refused { IfErr result (RefusesFor files.now main.now) }
+{
+    let units = units_of(alloc, files)?;
+    let program = checked_program(alloc, units.as_slice(), main)?;
+    check_size(alloc, &program)?;
+    Ok(program)
+}
+
+/// The program of units that pass the rules on names and types.
+#[tactic(auto, using(crate::proofs::Checked::refusals))]
+fn checked_program(
+    alloc: Global,
+    units: &[Unit],
+    main: &str,
+) -> Result<Program, Failure<SourceFault>>
+    ensures legal { IfOk result (λ p. elaborated units.now main.now ≡ Some (program_of p)) }
+    ensures entries { IfOk result (λ p. p.units ≡ map entry_of units.now) }
+    ensures refused { IfErr result (UnitsAreRefused units.now main.now) }
+{
+    check(alloc, units, main).map_err(illegal)
+}
+
+/// The limit on nodes. The copies that generics have are not needed beyond it, since so far each body
+/// has one.
+#[tactic(auto, using(crate::proofs::Checked::refusals))]
+fn check_size(alloc: Global, program: &Program) -> Result<(), Failure<SourceFault>>
+    ensures small { OnOk result (expanded.first_past 0 program.now.units ≡ None) }
+    ensures refused { IfErr result (PassesLimit program.now.units) }
+{
+    expand(alloc, program).map_err(too_large)?;
+    Ok(())
+}
+
+/// The answer for units that are no legal program.
+fn illegal(failure: Failure<CheckFault>) -> Failure<SourceFault>
+    ensures { result ≡ spec.illegal failure }
+{
+    match failure {
+        Failure::Fault(CheckFault::Naming(NameFault { pos })) => fault_at(pos, Why::Naming),
+        Failure::Fault(CheckFault::Typing(TypeFault { pos })) => fault_at(pos, Why::Typing),
+        Failure::Fault(CheckFault::Limit(LimitFault { pos })) => fault_at(pos, Why::Limit),
+        Failure::WantOfMemory => Failure::WantOfMemory,
+    }
+}
+
+/// The answer for a program that is too large to be expanded.
+fn too_large(failure: Failure<ExpandFault>) -> Failure<SourceFault>
+    ensures { result ≡ spec.too_large failure }
+{
+    match failure {
+        Failure::Fault(ExpandFault::TooBig { pos }) => fault_at(pos, Why::Limit),
+        Failure::Fault(ExpandFault::TooMany { pos }) => fault_at(pos, Why::Limit),
+        Failure::WantOfMemory => Failure::WantOfMemory,
+    }
+}
+
+/// A fault for this reason at a place.
+fn fault_at(pos: Pos, why: Why) -> Failure<SourceFault>
+    ensures { result ≡ spec.failure_at pos why }
+{
+    Failure::Fault(SourceFault {
+        file: pos.file,
+        line: pos.line,
+        col: pos.col,
+        why,
+    })
+}

@@ -1,0 +1,33 @@
+//! What objects of programs are.
+
+ghost use Rattle.std.specs.Prelude.{◌≡◌, ◌+◌, ◌*◌, ◌≤◌, ℕ, List, true, length, map};
+ghost use Rattle.ada_meaning.specs.Program.{Program};
+ghost use Rattle.compiler.specs.Held.{HoldsImage};
+ghost use Rattle.compiler.specs.Made.{IsCompilable, IsMadeOf};
+ghost use Rattle.parsed_programs.specs.Places.{AreInFiles};
+ghost use Rattle.cov_base.specs.declared.position.Pos.{Pos};
+ghost use Rattle.legal_programs.specs.Listed.{entry_at};
+ghost use Rattle.legal_programs.specs.Rising.{rise};
+ghost use Rattle.lower.specs.Lowered.{kernel_of};
+ghost use Rattle.lower.specs.Marked.{all_statements};
+ghost use Rattle.lower.specs.StraightLine.{IsStraightLine};
+ghost use Rattle.object_format.specs.Fields.{are_statements};
+ghost use Rattle.object_format.specs.Read.{HasObject, is_plain};
+ghost use Rattle.object_format.specs.declared.object.Object.{Object};
+
+/// The object that is made of a program passes the checks of objects, and has a file.
+pub fn made_objects_pass_their_checks()
+    ensures { (p : Program) (o : Object) → IsCompilable p → IsMadeOf p o → HasObject o × (is_plain o ≡ true) }
+{}
+
+/// Places that rise, within files, are places of statements as an object has them.
+pub fn rising_places_are_statements()
+    ensures { (files : ℕ) (places : List Pos) → rise places ≡ true → AreInFiles files places
+        → are_statements files (map entry_at places) ≡ true }
+{}
+
+/// The text of a program's image takes at most 240 bytes for each node, and 4,096 beside.
+pub fn texts_are_bounded()
+    ensures { (p : Program) (o : Object) (nodes : ℕ) → IsStraightLine p → HoldsImage (kernel_of p) o
+        → all_statements p.subprograms + length p.subprograms ≤ nodes → 4 * length o.text ≤ 240 * nodes + 4096 }
+{}

@@ -1,0 +1,27 @@
+//! What the objects of sources are.
+
+ghost use Rattle.std.specs.Prelude.{ℕ, List};
+ghost use Rattle.ada_meaning.specs.Program.{Program};
+ghost use Rattle.compiler.specs.Built.{CanBeNamed, IsBuiltOf, AreLegal};
+ghost use Rattle.compiler.specs.Legal.{IsLegal, AreRefused};
+ghost use Rattle.compiler.specs.Source.{IsObjectOf, IsCheap};
+ghost use Rattle.cov_base.specs.declared.obligations.SourceFile.{SourceFile};
+ghost use Rattle.object_format.specs.File.{closed_object};
+ghost use Rattle.object_format.specs.Read.{IsObject, HasObject};
+ghost use Rattle.object_format.specs.declared.object.Object.{Object};
+ghost use Rattle.parsed_programs.specs.declared.fault.SourceFault.{SourceFault};
+
+/// Sources that are a legal program are not refused, for no fault.
+pub fn legal_sources_are_not_refused()
+    ensures { (files : List SourceFile) (main : List ℕ) (p : Program) (fault : SourceFault) → IsLegal files main p → AreRefused files main fault → ⊥ }
+{}
+
+/// The object that is built of a legal program and its sources has a file. With the digest of its
+/// file it is the sources' object, and cheap.
+pub fn built_objects_are_of_their_sources()
+    ensures written { (files : List SourceFile) (main : List ℕ) (p : Program) (o : Object) → CanBeNamed files
+        → AreLegal files main p → IsBuiltOf files p o → HasObject o }
+    ensures object { (files : List SourceFile) (main : List ℕ) (p : Program) (o : Object) → CanBeNamed files
+        → AreLegal files main p → IsBuiltOf files p o → IsObject (closed_object o)
+        → IsObjectOf files main p (closed_object o) × IsCheap files main p (closed_object o) }
+{}

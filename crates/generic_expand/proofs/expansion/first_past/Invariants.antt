@@ -1,0 +1,7 @@
+-- The answer for the rest, after the nodes of the units so far, is that for all.
+use Rattle.std.proofs.Common.{◌≡◌, drop}
+use Rattle.generic_expand.specs.Expanded as spec
+use Rattle.generic_expand.proofs.expansion.first_past.Given as goal
+
+abbrev pub invariant-loop-unit : goal.invariant-loop-unit
+invariant-loop-unit l = spec.first_past l.nodes (drop l.unit-index l.units) ≡ spec.first_past 0 l.units

@@ -1,0 +1,27 @@
+-- What holds of the value in an option, if there is one.
+use Rattle.std.proofs.Common.{◌≡◌, Bool, true, false, cond, if◌then◌else◌, Option, Some, None, option_map, refl, subst}
+use Rattle.std.specs.Option.{option_and_then, option_or}
+use Rattle.std.specs.Prelude.{IfSome}
+
+pub if_then : {X Y : Type 0} (P : X → Type 0) (Q : Y → Type 0) (f : X → Option Y) (o : Option X) → IfSome o P → ((x : X) → P x → IfSome (f x) Q) → IfSome (option_and_then f o) Q
+if_then P Q f None h next = tt
+if_then P Q f (Some x) h next = next x h
+
+pub if_map : {X Y : Type 0} (P : X → Type 0) (Q : Y → Type 0) (f : X → Y) (o : Option X) → IfSome o P → ((x : X) → P x → Q (f x)) → IfSome (option_map f o) Q
+if_map P Q f None h next = tt
+if_map P Q f (Some x) h next = next x h
+
+pub if_cond : {X : Type 0} (P : X → Type 0) (b : Bool) (x : X) (o : Option X) → P x → IfSome o P → IfSome (cond b (Some x) o) P
+if_cond P true x o first rest = first
+if_cond P false x o first rest = rest
+
+pub if_test : {X : Type 0} (P : X → Type 0) (b : Bool) (o : Option X) → (b ≡ true → IfSome o P) → IfSome (if b then o else None) P
+if_test P true o h = h refl
+if_test P false o h = tt
+
+pub if_or : {X : Type 0} (P : X → Type 0) (o r : Option X) → IfSome o P → IfSome r P → IfSome (option_or o r) P
+if_or P None r first rest = rest
+if_or P (Some x) r first rest = first
+
+pub of_some : {X : Type 0} (P : X → Type 0) (o : Option X) (x : X) → IfSome o P → o ≡ Some x → P x
+of_some P o x h is = subst (λ r. IfSome r P) is h

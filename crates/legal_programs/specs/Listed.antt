@@ -1,0 +1,27 @@
+-- The obligations of programs of statements alone.
+use Rattle.std.specs.Prelude.{ℕ, List, [], ◌∷◌, map}
+use Rattle.cov_base.specs.declared.position.Pos.{Pos}
+use Rattle.cov_base.specs.declared.obligations.StmtEntry.{StmtEntry}
+use Rattle.cov_base.specs.declared.obligations.Region.{Region}
+use Rattle.cov_base.specs.declared.obligations.Obligations.{Obligations}
+use Rattle.ada_meaning.specs.Obligations.{no_instance, predefined_names}
+use Rattle.kernel_ir.specs.Obligations.{Row}
+
+-- the entry of the statement that begins here
+abbrev pub entry_at : Pos → StmtEntry
+entry_at p = record { file = p.file; line = p.line; column = p.col }
+
+-- the obligations where statements begin at these places: there is no decision, nothing stands in a generic, and the exceptions are the
+-- four predefined ones
+abbrev pub obligations_at : List Pos → List Region → Obligations
+obligations_at places regions = record {
+  statements = map entry_at places;
+  decisions = [];
+  regions = regions;
+  instances = no_instance ∷ [];
+  exceptions = predefined_names;
+}
+
+-- the row of a statement obligation by its number, in the one instance that is no generic's
+abbrev pub row_at : ℕ → Row
+row_at n = record { statement = record { 0 = n }; instance = record { 0 = 0 } }

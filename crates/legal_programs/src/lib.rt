@@ -1,0 +1,76 @@
+//! What legal programs are like: laws over the typed program of units (Ada RM 2012, 10.1, 10.2). The
+//! functions here do nothing: each carries a law of the definitions as its contract.
+#![tactic(auto)]
+
+ghost use Rattle.std.specs.Prelude.{◌≡◌, ◌≤◌, ◌<◌, ◌+◌, ◌-◌, ◌^◌, ℕ, List, [], Some, length, map, sum_by};
+ghost use Rattle.ada_syntax.specs.Nodes.{capped, unit_nodes};
+ghost use Rattle.ada_syntax.specs.declared.unit.Unit.{Unit as LibraryUnit};
+ghost use Rattle.cov_base.specs.declared.obligations.Region.{Region};
+ghost use Rattle.ada_meaning.specs.Collected.{labels_of, decisions_of};
+ghost use Rattle.ada_meaning.specs.Obligations.{numbers, obligations_of, ordered_labels, IsNumbered, IsResolved};
+ghost use Rattle.ada_meaning.specs.Program.{Program};
+ghost use Rattle.ada_types.specs.Legal.{elaborated};
+ghost use Rattle.ada_types.specs.Typing.{label_at, places_of};
+ghost use Rattle.legal_programs.specs.Listed.{obligations_at, row_at};
+ghost use Rattle.legal_programs.specs.Rising.{StatementsRise};
+ghost use Rattle.lower.specs.Marked.{row_of, all_statements};
+ghost use Rattle.lower.specs.StraightLine.{IsStraightLine};
+
+/// A legal program has procedures without parameters, whose statements are `null`, `return`, `Put` of
+/// a numeral of the base range, and calls of one another; its main procedure is one of them. There is
+/// one for each unit.
+pub fn legal_programs_are_straight_lines()
+    ensures straight { (units : List LibraryUnit) (main : List ℕ) (p : Program) → elaborated units main ≡ Some p → IsStraightLine p }
+    ensures as_many { (units : List LibraryUnit) (main : List ℕ) (p : Program) → elaborated units main ≡ Some p
+        → length p.subprograms ≡ length units }
+    ensures decisions { (units : List LibraryUnit) (main : List ℕ) (p : Program) → elaborated units main ≡ Some p
+        → decisions_of p.subprograms ≡ [] }
+{}
+
+/// A legal program has, with its subprograms, no more statements than its units have nodes.
+pub fn each_statement_has_a_node()
+    ensures { (units : List LibraryUnit) (main : List ℕ) (p : Program) → elaborated units main ≡ Some p
+        → all_statements p.subprograms + length p.subprograms ≤ sum_by unit_nodes units }
+{}
+
+/// The statement obligations of a legal program stand where the statements of its units stand, in the
+/// order of the text.
+pub fn labels_stand_at_their_statements()
+    ensures labels { (units : List LibraryUnit) (main : List ℕ) (p : Program) → elaborated units main ≡ Some p
+        → labels_of p.subprograms ≡ map (label_at (places_of units)) (places_of units) }
+    ensures places { (units : List LibraryUnit) (main : List ℕ) (p : Program) → elaborated units main ≡ Some p
+        → map (λ l. l.place) (labels_of p.subprograms) ≡ places_of units }
+{}
+
+/// The numbers in a legal program are those of its obligations, where the places of its statements
+/// rise. What its instances have for formals is resolved, since there are none.
+pub fn legal_programs_are_numbered()
+    ensures numbered { (units : List LibraryUnit) (main : List ℕ) (p : Program) → elaborated units main ≡ Some p → StatementsRise units
+        → IsNumbered p }
+    ensures in_order { (units : List LibraryUnit) (main : List ℕ) (p : Program) → elaborated units main ≡ Some p → StatementsRise units
+        → ordered_labels p ≡ labels_of p.subprograms }
+    ensures resolved { (units : List LibraryUnit) (main : List ℕ) (p : Program) → elaborated units main ≡ Some p → IsResolved p }
+{}
+
+/// The obligations of a legal program are its statements, at the places of the text, where these
+/// rise. There is no decision, nothing stands in a generic, and the exceptions are the predefined ones.
+pub fn obligations_are_the_statements()
+    ensures { (units : List LibraryUnit) (main : List ℕ) (p : Program) (regions : List Region) → elaborated units main ≡ Some p → StatementsRise units
+        → obligations_of p regions ≡ obligations_at (places_of units) regions }
+{}
+
+/// The rows of a legal program's statement obligations, in the order of the text, have the numbers
+/// from 0 on, where the places of its statements rise: row k is that of obligation k.
+pub fn rows_have_the_numbers_of_obligations()
+    ensures { (units : List LibraryUnit) (main : List ℕ) (p : Program) → elaborated units main ≡ Some p → StatementsRise units
+        → map row_of (labels_of p.subprograms) ≡ map row_at (numbers 0 (length (places_of units))) }
+{}
+
+/// A legal program has a statement for each place of its units, and where the nodes of its units, as
+/// they are counted, are within a limit, so are its statements with its subprograms.
+pub fn statements_are_counted()
+    ensures statements { (units : List LibraryUnit) (main : List ℕ) (p : Program) → elaborated units main ≡ Some p
+        → all_statements p.subprograms ≡ length (places_of units) }
+    ensures limit { (units : List LibraryUnit) (main : List ℕ) (p : Program) (limit : ℕ) → elaborated units main ≡ Some p → limit < 2 ^ 32 - 1
+        → sum_by (λ u. capped (unit_nodes u)) units ≤ limit → all_statements p.subprograms + length p.subprograms ≤ limit }
+{}

@@ -1,0 +1,4 @@
+pub mod Picks
+pub mod Files
+pub mod Within
+pub mod SourceLaws
