@@ -1,3 +1,4 @@
+pub mod Order
 pub mod Lookups
 pub mod Blame
 pub mod Steps

@@ -3,6 +3,7 @@ pub mod RegionView
 pub mod Library
 pub mod Typing
 pub mod Naming
+pub mod Order
 pub mod Legal
 pub mod Answer
 pub mod NameCode

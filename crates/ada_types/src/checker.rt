@@ -85,10 +85,7 @@ pub fn check(alloc: Global, units: &[Unit], main: &str) -> Result<Program, Failu
     let lower = main.as_bytes().to_ascii_lowercase(alloc)?;
     let named = check_names(alloc, units, lower.as_slice())?;
     let places = places_of(alloc, units)?;
-    if places.len() > u32::MAX as usize {
-        return Err(Failure::WantOfMemory);
-    }
-    let subprograms = typed_units(alloc, &named.library, places.as_slice(), units)?;
+    let subprograms = typed_units(alloc, &named.library, &places, units)?;
     Ok(Program {
         subprograms: Seq::from(subprograms),
         main: named.main,

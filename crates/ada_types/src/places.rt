@@ -1,23 +1,70 @@
 //! The places of statements, and their ranks (Ada RM 2012, 5.1).
 
-ghost use Rattle.std.specs.Prelude.{◌≡◌, ◌<◌, ◌^◌, length, ◌++◌, IfOk, OnOk};
+ghost use Rattle.std.specs.Prelude.{◌≡◌, ◌<◌, ◌^◌, true, List, length, ◌++◌, IfOk, OnOk};
 ghost use Rattle.std.specs.List.{count_by};
 ghost use Rattle.ada_syntax.specs.StatementView.{statements_of};
 ghost use Rattle.ada_meaning.specs.Obligations.{precedes};
 ghost use Rattle.ada_tree.specs.View.{label_of};
+ghost use Rattle.ada_types.specs.Order.{AreOrdered};
 ghost use Rattle.ada_types.specs.Typing as spec;
+ghost use Rattle.cov_base.specs.declared.position.Pos.{Pos as Place};
 
 use crate::naming;
 use ada_syntax::{Statement, StatementKind, Unit};
 use ada_tree::Label;
 use cov_base::Pos;
 use std::alloc::{AllocError, Global};
+use std::marker::Model;
 
 /// Whether a place comes before another.
 fn precedes(a: Pos, b: Pos) -> bool
     ensures { result ≡ precedes a b }
 {
     a.file < b.file || a.file == b.file && (a.line < b.line || a.line == b.line && a.col < b.col)
+}
+
+/// The places of all statements of a program, in the order of the text, and whether each comes before
+/// the next. In sources that are read from the left it does.
+#[derive(Drop)]
+pub struct Places {
+    all: Vec<Pos>,
+    rising: bool,
+}
+
+impl Model for Places {
+    ghost Value = { List Place };
+
+    ghost view = { λ p. p.all.items };
+
+    ghost invariant = { λ p. p.rising ≡ true → AreOrdered p.all.items };
+}
+
+impl Places {
+    /// How many places come before one.
+    fn rank(&self, place: Pos) -> usize
+        ensures { result ≡ count_by (λ q. precedes q place) self.now }
+    {
+        if self.rising {
+            rank_in_order(self.all.as_slice(), place)
+        } else {
+            rank(self.all.as_slice(), place)
+        }
+    }
+}
+
+/// Whether each place comes before the next.
+fn are_ordered(places: &[Pos]) -> bool
+    ensures { result ≡ true → AreOrdered places.now }
+{
+    places.is_sorted_by(|one, next| precedes(*one, *next))
+}
+
+/// How many places come before one, where they are in order: found by halving.
+fn rank_in_order(places: &[Pos], place: Pos) -> usize
+    requires { AreOrdered places.now }
+    ensures { result ≡ count_by (λ q. precedes q place) places.now }
+{
+    places.partition_point(|other| precedes(*other, place))
 }
 
 /// How many places come before one.
@@ -35,12 +82,12 @@ fn rank(places: &[Pos], place: Pos) -> usize
 }
 
 /// The label of a statement at this place.
-pub fn label_at(places: &[Pos], place: Pos) -> Label
+pub fn label_at(places: &Places, place: Pos) -> Label
     requires { length places.now < 2 ^ 32 }
     ensures { label_of result ≡ spec.label_at places.now place }
 {
     Label {
-        number: rank(places, place) as u32,
+        number: places.rank(place) as u32,
         place,
     }
 }
@@ -69,14 +116,23 @@ fn push_places(statements: &[Statement], places: &mut Vec<Pos>) -> Result<(), Al
     Ok(())
 }
 
-/// The places of all statements.
+/// The places of all statements. Where there are more than numbers for them, there is no memory for
+/// the program.
 #[tactic(auto, using(crate::proofs::Steps::appended))]
-pub fn places_of(alloc: Global, units: &[Unit]) -> Result<Vec<Pos>, AllocError>
-    ensures { IfOk result (λ places. places.items ≡ spec.places_of units.now) }
+pub fn places_of(alloc: Global, units: &[Unit]) -> Result<Places, AllocError>
+    ensures places { IfOk result (λ places. places ≡ spec.places_of units.now) }
+    ensures few { IfOk result (λ places. length places < 2 ^ 32) }
 {
     let mut places = Vec::new(alloc);
     for unit in units {
         push_places(naming::statements_of(&unit.item), &mut places)?;
     }
-    Ok(places)
+    if places.len() > u32::MAX as usize {
+        return Err(AllocError);
+    }
+    let rising = are_ordered(places.as_slice());
+    Ok(Places {
+        all: places,
+        rising,
+    })
 }

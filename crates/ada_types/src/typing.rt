@@ -23,7 +23,7 @@ use crate::fault::{CheckFault, mistyped};
 use crate::library::{Library, key, numbered, seen};
 use crate::naming;
 use crate::naming::{find, is_bare_procedure};
-use crate::places::label_at;
+use crate::places::{Places, label_at};
 use crate::region::{Region, test_io};
 use ada_syntax::{
     Expr, ExprKind, HandledStatements, Handler, Identifier, LibraryItem, Mode, Name, Statement,
@@ -212,7 +212,7 @@ fn call_statement(label: Label, callee: Callee, actuals: Seq<Actual>) -> ada_tre
 fn typed_statement(
     alloc: Global,
     seen: &Region,
-    places: &[Pos],
+    places: &Places,
     statement: &Statement,
 ) -> Result<ada_tree::Statement, Failure<CheckFault>>
     requires { length places.now < 2 ^ 32 }
@@ -245,7 +245,7 @@ fn typed_statement(
 fn typed_statements(
     alloc: Global,
     seen: &Region,
-    places: &[Pos],
+    places: &Places,
     statements: &[Statement],
 ) -> Result<Vec<ada_tree::Statement>, Failure<CheckFault>>
     requires { length places.now < 2 ^ 32 }
@@ -295,7 +295,7 @@ fn is_without(handlers: &[Handler]) -> bool
 fn typed_unit(
     alloc: Global,
     library: &Library,
-    places: &[Pos],
+    places: &Places,
     number: u32,
     unit: &Unit,
 ) -> Result<Subprogram, Failure<CheckFault>>
@@ -318,7 +318,7 @@ fn typed_unit(
 pub fn typed_units(
     alloc: Global,
     library: &Library,
-    places: &[Pos],
+    places: &Places,
     units: &[Unit],
 ) -> Result<Vec<Subprogram>, Failure<CheckFault>>
     requires { length places.now < 2 ^ 32 }

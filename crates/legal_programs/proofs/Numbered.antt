@@ -15,7 +15,8 @@ use Rattle.lower.specs.StraightLine.{IsPlainCall, IsPlainStatement, ArePlainStat
 use Rattle.legal_programs.specs.Rising.{StatementsRise}
 use Rattle.legal_programs.specs.Listed.{entry_at, obligations_at}
 use Rattle.legal_programs.proofs.Programs.{IsElaborated, elaborated_facts, labels_law}
-use Rattle.legal_programs.proofs.Order.{AreOrdered, ordered, numbered_labels, labels_in_order, length_labels, stands_before}
+use Rattle.ada_types.specs.Order.{AreOrdered}
+use Rattle.legal_programs.proofs.Order.{ordered, numbered_labels, labels_in_order, length_labels, stands_before}
 
 -- plain statements hold no decision
 in_plain_call : (n number : ℕ) (c : tree.Callee) (actuals : tree.Actuals) → IsPlainCall n c actuals → in_actuals number actuals ≡ []

@@ -1,72 +1,15 @@
 -- Places that rise, and their ranks.
-use Rattle.std.proofs.Common.{◌≡◌, ℕ, suc, ◌+◌, ◌<◌, ◌⊎◌, inl, inr, ⊎_elim, length, Bool, true, false, cond, ◌&&◌, ◌||◌, List, [], ◌∷◌, map, refl, ap, ◌∙◌, arith, nat_eq, nat_lt}
+use Rattle.std.proofs.Common.{◌≡◌, ℕ, suc, ◌+◌, length, Bool, true, false, cond, ◌&&◌, List, [], ◌∷◌, map, refl, ap, ◌∙◌, arith}
 use Rattle.std.specs.List.{count_by}
 use Rattle.std.proofs.lemmas.List.Sums.{sum_by-cons}
-use Rattle.std.proofs.lemmas.Bool.Decides.{nat_tests}
 use Rattle.decision_meaning.specs.Pair.{Everywhere}
 use Rattle.cov_base.specs.declared.position.Pos.{Pos}
 use Rattle.ada_meaning.specs.Obligations.{precedes, inserted, in_order, numbers}
 use Rattle.ada_meaning.specs.Tree.{Label}
+use Rattle.ada_types.specs.Order.{AreOrdered}
 use Rattle.ada_types.specs.Typing.{label_at}
+use Rattle.ada_types.proofs.Order.{never_itself, not_back, transitive}
 use Rattle.legal_programs.specs.Rising.{is_followed, rise}
-
--- the order, in words
-abbrev pub Earlier : Pos → Pos → Type 0
-Earlier a b = (a.file < b.file) ⊎ ((a.file ≡ b.file) × ((a.line < b.line) ⊎ ((a.line ≡ b.line) × (a.col < b.col))))
-
-is_earlier : (a b : Pos) → precedes a b ≡ true → Earlier a b
-is_earlier a b is = by_file (nat_lt a.file b.file) refl (nat_eq a.file b.file) refl (nat_lt a.line b.line) refl (nat_eq a.line b.line) refl (nat_lt a.col b.col) refl is
-  where
-    by_file : (f : Bool) → nat_lt a.file b.file ≡ f → (g : Bool) → nat_eq a.file b.file ≡ g → (l : Bool) → nat_lt a.line b.line ≡ l → (m : Bool) → nat_eq a.line b.line ≡ m → (c : Bool) → nat_lt a.col b.col ≡ c → (f || (g && (l || (m && c)))) ≡ true → Earlier a b
-    by_file true f g sg l sl m sm c sc e = inl (grind (arith, nat_tests))
-    by_file false f true sg true sl m sm c sc e = inr (grind (arith, nat_tests), inl (grind (arith, nat_tests)))
-    by_file false f true sg false sl true sm true sc e = inr (grind (arith, nat_tests), inr (grind (arith, nat_tests), grind (arith, nat_tests)))
-    by_file false f true sg false sl true sm false sc e = absurd (cc e)
-    by_file false f true sg false sl false sm c sc e = absurd (cc e)
-    by_file false f false sg l sl m sm c sc e = absurd (cc e)
-
-pub earlier_precedes : (a b : Pos) → Earlier a b → precedes a b ≡ true
-earlier_precedes a b is =
-    ⊎_elim
-    (λ file. grind (arith, nat_tests))
-    (λ rest. ⊎_elim (λ line. let same = rest.0 in grind (arith, nat_tests)) (λ last. let same = rest.0 in let line = last.0 in let col = last.1 in grind (arith, nat_tests)) rest.1)
-    is
-
-then_earlier : (a b c : Pos) → Earlier a b → Earlier b c → Earlier a c
-then_earlier a b c first second =
-    ⊎_elim
-    (λ f. ⊎_elim (λ g. inl (omega (arith, f, g))) (λ r. inl (omega (arith, f, r.0))) second)
-    (λ q. ⊎_elim
-    (λ g. inl (omega (arith, q.0, g)))
-    (λ r. inr (
-      omega (arith, q.0, r.0),
-      ⊎_elim
-          (λ l. ⊎_elim (λ m. inl (omega (arith, l, m))) (λ s. inl (omega (arith, l, s.0))) r.1)
-          (λ t. ⊎_elim (λ m. inl (omega (arith, t.0, m))) (λ s. inr (omega (arith, t.0, s.0), omega (arith, t.1, s.1))) r.1) q.1,
-    ))
-    second)
-    first
-
-not_itself : (a : Pos) → Earlier a a → ⊥
-not_itself a is = ⊎_elim (λ f. absurd (omega (arith, f))) (λ r. ⊎_elim (λ l. absurd (omega (arith, l))) (λ s. absurd (omega (arith, s.1))) r.1) is
-
-falsely : (b : Bool) → (b ≡ true → ⊥) → b ≡ false
-falsely true h = absurd (h refl)
-falsely false h = refl
-
-pub never_itself : (a : Pos) → precedes a a ≡ false
-never_itself a = falsely (precedes a a) (λ h. not_itself a (is_earlier a a h))
-
-pub not_back : (a b : Pos) → precedes a b ≡ true → precedes b a ≡ false
-not_back a b is = falsely (precedes b a) (λ h. not_itself a (then_earlier a b a (is_earlier a b is) (is_earlier b a h)))
-
-pub transitive : (a b c : Pos) → precedes a b ≡ true → precedes b c ≡ true → precedes a c ≡ true
-transitive a b c first second = earlier_precedes a c (then_earlier a b c (is_earlier a b first) (is_earlier b c second))
-
--- each place comes before all later ones
-abbrev pub AreOrdered : List Pos → Type 0
-AreOrdered [] = Unit {0}
-AreOrdered (p ∷ ps) = Everywhere (λ q. precedes p q ≡ true) ps × AreOrdered ps
 
 both : (a b : Bool) → (a && b) ≡ true → (a ≡ true) × (b ≡ true)
 both true true h = (refl, refl)

@@ -12,7 +12,9 @@ use Rattle.ada_types.specs.Typing.{places_of}
 use Rattle.expression_parser.specs.declared.extent.Extent.{Extent}
 use Rattle.expression_parser.specs.Reading.{Tokens}
 use Rattle.legal_programs.specs.Rising.{StatementsRise}
-use Rattle.legal_programs.proofs.Order.{AreOrdered, earlier_precedes, rise_ordered}
+use Rattle.ada_types.specs.Order.{AreOrdered}
+use Rattle.ada_types.proofs.Order.{earlier_precedes}
+use Rattle.legal_programs.proofs.Order.{rise_ordered}
 use Rattle.parsed_programs.specs.Parsed.{AreOfFiles, no_file, and_file}
 use Rattle.parsed_programs.proofs.Picks.{Picks, ended, taken, passed, units_picked, places_joined}
 

@@ -26,6 +26,6 @@ returns-in_err-subprograms-clause-refused c =
     let lower : m ≡ str_to_ascii_lowercase c.args.main.now = c.as_slice.ensures.value ∙ (c.in_ok-lower.ensures.ok ∙ ap (λ n. str_to_ascii_lowercase n) c.as_bytes.ensures.value) in
     let one = c.in_err-subprograms.ensures.refused in
     let two : SomeRefused typing (units_from (library_of us) (places_of us) 0 us) f =
-    subst (λ (ps : List Pos). SomeRefused typing (units_from (library_of us) ps 0 us) f) (c.as_slice-2.ensures.value ∙ c.in_ok-places.ensures) (subst (λ (l : Library). SomeRefused typing (units_from l c.as_slice-2.result.now 0 us) f) c.in_ok-named.ensures.library one) in
+    subst (λ (ps : List Pos). SomeRefused typing (units_from (library_of us) ps 0 us) f) c.in_ok-places.ensures.places (subst (λ (l : Library). SomeRefused typing (units_from l c.in_ok-places.places 0 us) f) c.in_ok-named.ensures.library one) in
     let r : Refuses us (str_to_ascii_lowercase c.args.main.now) f = subst (λ n. Refuses us n f) lower (refuses_typed us m f c.in_ok-named.ensures.named (by_unit typing us m two)) in
     search (rules, r)
