@@ -1,4 +1,5 @@
-//! Two runs of one object, one of them twice; what two coverages have together; a history that breaks.
+//! What single runs cover; two runs of one object, one of them twice; what two coverages have together;
+//! a history that breaks.
 
 ghost use Rattle.std.specs.Prelude.{◌≡◌, IfOk};
 ghost use Rattle.object_format.specs.Checked.{IsSound};
@@ -8,7 +9,7 @@ mod given;
 use crate::Coverage;
 use cov_base::{DecId, Event, Failure, InstId, StmtId, Vector};
 use decision_map::{DecisionMap, checked_objects_have_maps};
-use given::{BROKEN, FIRST, OBJECT, SECOND};
+use given::{ABANDONED, BROKEN, Given, INSTANCES, NO_TREE, Run, TREE};
 use object_format::{Object, read_whole_object};
 use std::alloc::{AllocError, Global};
 use std::test::Fail;
@@ -88,11 +89,14 @@ fn covered<'a>(
 
 #[test]
 fn two_runs_are_joined(rt: HostRuntime) -> Result<(), Fail> {
-    let bytes = whole(rt.alloc(), &OBJECT)?;
+    let [first, second, ..] = NO_TREE.runs else {
+        panic!(rt; "there are three runs")
+    };
+    let bytes = whole(rt.alloc(), NO_TREE.object)?;
     let object = read_whole_object(rt.alloc(), bytes.as_slice())?;
     let map = map_of(rt.alloc(), &object)?;
-    let mut coverage = covered(rt.alloc(), &map, &object, &FIRST)?;
-    let other = covered(rt.alloc(), &map, &object, &SECOND)?;
+    let mut coverage = covered(rt.alloc(), &map, &object, first.trace)?;
+    let other = covered(rt.alloc(), &map, &object, second.trace)?;
     coverage.join(&other)?;
     assert_eq!(rt; coverage.runs(), 2);
     let events = coverage.events(rt.alloc())?;
@@ -111,13 +115,16 @@ fn two_runs_are_joined(rt: HostRuntime) -> Result<(), Fail> {
 
 #[test]
 fn one_run_counts_once(rt: HostRuntime) -> Result<(), Fail> {
-    let bytes = whole(rt.alloc(), &OBJECT)?;
+    let [first, ..] = NO_TREE.runs else {
+        panic!(rt; "there are three runs")
+    };
+    let bytes = whole(rt.alloc(), NO_TREE.object)?;
     let object = read_whole_object(rt.alloc(), bytes.as_slice())?;
     let map = map_of(rt.alloc(), &object)?;
-    let mut coverage = covered(rt.alloc(), &map, &object, &FIRST)?;
-    let first = whole(rt.alloc(), &FIRST)?;
+    let mut coverage = covered(rt.alloc(), &map, &object, first.trace)?;
+    let again = whole(rt.alloc(), first.trace)?;
     assert_eq!(rt;
-        offer(&map, &mut coverage, first.as_slice()),
+        offer(&map, &mut coverage, again.as_slice()),
         Offered::Taken
     );
     assert_eq!(rt; coverage.runs(), 1);
@@ -126,15 +133,60 @@ fn one_run_counts_once(rt: HostRuntime) -> Result<(), Fail> {
 
 #[test]
 fn a_broken_history_adds_nothing(rt: HostRuntime) -> Result<(), Fail> {
-    let bytes = whole(rt.alloc(), &OBJECT)?;
+    let [_, second, ..] = NO_TREE.runs else {
+        panic!(rt; "there are three runs")
+    };
+    let bytes = whole(rt.alloc(), NO_TREE.object)?;
     let object = read_whole_object(rt.alloc(), bytes.as_slice())?;
     let map = map_of(rt.alloc(), &object)?;
     let broken = whole(rt.alloc(), &BROKEN)?;
-    let mut coverage = Coverage::new(rt.alloc(), &object);
+    let mut coverage = covered(rt.alloc(), &map, &object, second.trace)?;
+    let before = coverage.events(rt.alloc())?;
     assert_eq!(rt;
         offer(&map, &mut coverage, broken.as_slice()),
         Offered::Broken(0)
     );
-    assert_eq!(rt; coverage.runs(), 0);
+    assert_eq!(rt; coverage.runs(), 1);
+    let after = coverage.events(rt.alloc())?;
+    assert_eq!(rt; after.as_slice(), before.as_slice());
+    Ok(())
+}
+
+/// Whether a run alone covers what is due.
+fn covers(
+    alloc: Global,
+    map: &DecisionMap<'_>,
+    object: &Object,
+    due: &Run,
+) -> Result<bool, AllocError>
+    requires sound { IsSound map.now }
+    requires object { map.now ≡ object.now }
+{
+    let bytes = whole(alloc, due.trace)?;
+    let mut coverage = Coverage::new(alloc, object);
+    let offered = offer(map, &mut coverage, bytes.as_slice());
+    let events = coverage.events(alloc)?;
+    Ok(offered == Offered::Taken && events.as_slice() == due.events)
+}
+
+/// Whether each run of an object covers what is due.
+fn each_covers(alloc: Global, given: &Given) -> Result<bool, Fail> {
+    let bytes = whole(alloc, given.object)?;
+    let object = read_whole_object(alloc, bytes.as_slice())?;
+    let map = map_of(alloc, &object)?;
+    for due in given.runs {
+        if !covers(alloc, &map, &object, due)? {
+            return Ok(false);
+        }
+    }
+    Ok(true)
+}
+
+#[test]
+fn runs_cover_what_they_executed(rt: HostRuntime) -> Result<(), Fail> {
+    assert!(rt; each_covers(rt.alloc(), &TREE)?);
+    assert!(rt; each_covers(rt.alloc(), &NO_TREE)?);
+    assert!(rt; each_covers(rt.alloc(), &ABANDONED)?);
+    assert!(rt; each_covers(rt.alloc(), &INSTANCES)?);
     Ok(())
 }

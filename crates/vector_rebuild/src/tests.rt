@@ -1,15 +1,18 @@
-//! The history of a recursive function, one that breaks, and the flags of tree decisions.
+//! The history of a recursive function, histories of runs, one that breaks, and the flags of tree
+//! decisions.
 
 ghost use Rattle.std.specs.Prelude.{◌≡◌, IfOk};
 ghost use Rattle.object_format.specs.Checked.{IsSound};
 
 mod given;
+mod runs;
 
 use crate::{Rebuild, from_edges};
 use cov_base::{DecId, Event, Failure, InstId, Seq, Vector};
 use decision_map::{DecisionMap, checked_objects_have_maps};
 use given::{NO_TREE, TREES};
 use object_format::{Object, read_whole_object};
+use runs::{ABANDONED, Given, RECURSIVE};
 use spelling::write_file;
 use std::alloc::{AllocError, Global};
 use std::process::Abort;
@@ -133,5 +136,38 @@ fn flags_give_the_evaluations_of_trees(rt: HostRuntime) -> Result<(), Fail> {
         events.as_slice(),
         [done(1, 1, 1), done(1, 3, 2), done(0, 1, 0)].as_slice()
     );
+    Ok(())
+}
+
+/// What the history of a trace gives, entry by entry.
+fn rebuilt(alloc: Global, map: &DecisionMap<'_>, view: &TraceView<'_>) -> Result<Vec<Event>, Fail>
+    requires { IsSound map.now }
+{
+    let mut rebuild = Rebuild::new(alloc);
+    let mut events = Vec::new(alloc);
+    for at in 0..view.history() {
+        let entry = view.entry(at);
+        if map.needs_history(entry.address) && rebuild.fed() == at {
+            events.extend(rebuild.feed(map, entry)?)?;
+        }
+    }
+    Ok(events)
+}
+
+/// Whether the history of an object's trace gives what is due.
+fn gives(alloc: Global, given: &Given) -> Result<bool, Fail> {
+    let bytes = whole(alloc, given.object)?;
+    let object = read_whole_object(alloc, bytes.as_slice())?;
+    let map = map_of(alloc, &object)?;
+    let trace = whole(alloc, given.trace)?;
+    let view = TraceView::view(trace.as_slice())?;
+    let events = rebuilt(alloc, &map, &view)?;
+    Ok(view.history() == 7 && events.as_slice() == given.events)
+}
+
+#[test]
+fn histories_give_the_evaluations_of_their_runs(rt: HostRuntime) -> Result<(), Fail> {
+    assert!(rt; gives(rt.alloc(), &RECURSIVE)?);
+    assert!(rt; gives(rt.alloc(), &ABANDONED)?);
     Ok(())
 }
