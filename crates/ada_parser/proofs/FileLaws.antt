@@ -9,7 +9,9 @@ use Rattle.ada_parser.specs.UnitReading as read
 use Rattle.expression_parser.specs.Shows.{Reads}
 use Rattle.expression_parser.proofs.Agree.{local_stuck}
 use Rattle.expression_parser.proofs.Yields.{Yields}
-use Rattle.ada_parser.proofs.UnitLaws.{file_local, file_sound, file_complete}
+use Rattle.ada_parser.proofs.UnitLocal.{file_local}
+use Rattle.ada_parser.proofs.UnitSound.{file_sound}
+use Rattle.ada_parser.proofs.UnitComplete.{file_complete}
 
 module _ (x : Extent) where
   -- what was read derives the tokens

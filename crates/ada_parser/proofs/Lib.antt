@@ -1,8 +1,12 @@
-pub mod StatementLaws
-pub mod UnitLaws
+pub mod UnitLocal
+pub mod UnitSound
+pub mod UnitComplete
+pub mod UnitNodes
 pub mod FileLaws
-pub mod StatementCode
-pub mod UnitCode
 pub mod RefusalLaws
-pub mod NodeLaws
-mod Examples
+pub mod ContextCode
+pub mod BodyCode
+pub mod ItemCode
+pub mod PackageCode
+pub mod UnitCode
+pub mod UnitSuffixes

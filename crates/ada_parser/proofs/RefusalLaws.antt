@@ -12,9 +12,9 @@ use Rattle.ada_parser.specs.Grammar.{IsFile}
 use Rattle.ada_parser.specs.Refusal.{end_place, place_of, Place, at_token, at_end, Refused, IsOnlyFile}
 use Rattle.expression_parser.proofs.Agree.{place}
 use Rattle.ada_syntax.specs.Nodes.{unit_nodes}
-use Rattle.ada_parser.specs.NodeTokens.{node_tokens}
-use Rattle.ada_parser.proofs.NodeLaws.{units_nodes_of}
-use Rattle.ada_parser.proofs.UnitLaws.{file_local}
+use Rattle.declaration_parser.specs.NodeTokens.{node_tokens}
+use Rattle.ada_parser.proofs.UnitNodes.{units_nodes_of}
+use Rattle.ada_parser.proofs.UnitLocal.{file_local}
 use Rattle.ada_parser.proofs.FileLaws.{file_derives, file_unique, file_refused, file_cut}
 
 pub end_place-push : (ts : Tokens) (t : Token) → end_place (ts ++ t ∷ []) ≡ t.pos

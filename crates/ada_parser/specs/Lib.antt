@@ -1,7 +1,4 @@
-pub mod Statements
-pub mod StatementReading
 pub mod Grammar
 pub mod UnitReading
-pub mod Headings
+pub mod UnitDepth
 pub mod Refusal
-pub mod NodeTokens

@@ -2,7 +2,7 @@
 
 ghost use Rattle.std.specs.Prelude.{◌≡◌, IfOk, IfErr, sum_by};
 ghost use Rattle.ada_syntax.specs.Nodes.{unit_nodes};
-ghost use Rattle.ada_parser.specs.NodeTokens.{node_tokens};
+ghost use Rattle.declaration_parser.specs.NodeTokens.{node_tokens};
 ghost use Rattle.expression_parser.specs.declared.extent.Extent.TheVariants.{StraightLine};
 ghost use Rattle.ada_parser.specs.Grammar.{IsFile};
 ghost use Rattle.ada_parser.specs.Refusal as refusal;
@@ -49,15 +49,18 @@ fn refused_at(rest: &[Token], tokens: &[Token]) -> Pos
     }
 }
 
-/// The library units of a file, from its tokens.
+/// The library units of a file, from its tokens, within an extent of the grammar.
 #[tactic(auto, using(crate::proofs::RefusalLaws::parses))]
-pub fn parse(alloc: Global, tokens: &[Token]) -> Result<Vec<Unit>, Failure<SyntaxFault>>
-    ensures tree { IfOk result (λ units. IsFile StraightLine units.items tokens.now) }
-    ensures only_tree { IfOk result (λ units. refusal.IsOnlyFile StraightLine tokens.now units.items) }
+pub fn parse_within(
+    alloc: Global,
+    extent: Extent,
+    tokens: &[Token],
+) -> Result<Vec<Unit>, Failure<SyntaxFault>>
+    ensures tree { IfOk result (λ units. IsFile extent units.items tokens.now) }
+    ensures only_tree { IfOk result (λ units. refusal.IsOnlyFile extent tokens.now units.items) }
     ensures nodes { IfOk result (λ units. sum_by unit_nodes units.items ≡ node_tokens tokens.now) }
-    ensures refused { IfErr result (refusal.RefusedBy StraightLine tokens.now) }
+    ensures refused { IfErr result (refusal.RefusedBy extent tokens.now) }
 {
-    let extent = Extent::StraightLine;
     match file(Parser { alloc, extent }, tokens) {
         Ok(units) => Ok(units),
         Err(Fault::Syntax(rest)) => Err(Failure::Fault(SyntaxFault {
@@ -65,4 +68,14 @@ pub fn parse(alloc: Global, tokens: &[Token]) -> Result<Vec<Unit>, Failure<Synta
         })),
         Err(Fault::Memory) => Err(Failure::WantOfMemory),
     }
+}
+
+/// The library units of a file of straight-line code, from its tokens.
+pub fn parse(alloc: Global, tokens: &[Token]) -> Result<Vec<Unit>, Failure<SyntaxFault>>
+    ensures tree { IfOk result (λ units. IsFile StraightLine units.items tokens.now) }
+    ensures only_tree { IfOk result (λ units. refusal.IsOnlyFile StraightLine tokens.now units.items) }
+    ensures nodes { IfOk result (λ units. sum_by unit_nodes units.items ≡ node_tokens tokens.now) }
+    ensures refused { IfErr result (refusal.RefusedBy StraightLine tokens.now) }
+{
+    parse_within(alloc, Extent::StraightLine, tokens)
 }

@@ -1,131 +1,71 @@
-//! Library units and files (Ada RM 2012, 6.3, 10.1).
+//! Library units and files (Ada RM 2012, 10.1).
 
-ghost use Rattle.std.specs.Prelude.{◌≡◌, ◌<◌, ◌≤◌, length, IfOk, []};
-ghost use Rattle.expression_parser.specs.Shows.{Shows, ShowsAs, Reads};
-ghost use Rattle.ada_parser.specs.Headings.{TakesHeading, ReadsFile};
+ghost use Rattle.std.specs.Prelude.{◌<◌, length, IfOk};
+ghost use Rattle.expression_parser.specs.Shows.{Shows, Reads};
 ghost use Rattle.ada_parser.specs.UnitReading as read;
+ghost use Rattle.ada_parser.specs.UnitDepth as at;
+ghost use Rattle.ada_parser.specs.UnitDepth.{ReadsFile};
 
-use crate::statements::statements;
+use crate::bodies::body;
+use crate::contexts::withs;
+use crate::packages::{generic, package};
 use ada_lexer::Token;
-use ada_syntax::{
-    HandledStatements, Identifier, LibraryItem, Specification, SubprogramBody, Unit, WithClause,
-};
-use cov_base::Seq;
-use expression_parser::{Extent, Fault, Parsed, Parser, Symbol, behind, symbol_in, word, word_at};
+use ada_syntax::{LibraryItem, Unit, WithClause};
+use cov_base::{Pos, Seq};
+use expression_parser::{Extent, Fault, Parsed, Parser, Symbol, symbol_in};
 
-/// `id {, id}`
-#[tactic(auto, using(crate::proofs::UnitCode::identifiers_rules))]
-fn identifiers<'a>(parser: Parser, tokens: &'a [Token]) -> Parsed<'a, Vec<Identifier>>
-    ensures reads { ShowsAs (λ v. v.items) (Reads read.identifiers_by tokens.now) result }
+/// What a unit declares. Packages come with [`Extent::Subprograms`], generic ones with
+/// [`Extent::Generics`].
+#[tactic(auto, using(crate::proofs::UnitCode::item_rules))]
+fn item<'a>(parser: Parser, tokens: &'a [Token]) -> Parsed<'a, LibraryItem>
+    ensures reads { Shows (Reads (read.item_by parser.extent) tokens.now) result }
     ensures shorter { IfOk result (λ x. length x.1.now < length tokens.now) }
 {
-    let (first, mut rest) = parser.identifier(tokens)?;
-    let mut identifiers = Vec::new(parser.alloc);
-    identifiers.push(first)?;
-    while let Some(after) = behind(Symbol::Comma, rest) {
-        let (identifier, next) = parser.identifier(after)?;
-        identifiers.push(identifier)?;
-        rest = next;
+    let Some((token, rest)) = tokens.split_first() else {
+        return Err(Fault::Syntax(tokens));
+    };
+    match symbol_in(token.lexeme) {
+        Symbol::Generic => {
+            parser.needs(Extent::Generics, tokens)?;
+            generic(parser, rest)
+        }
+        Symbol::Package => {
+            parser.needs(Extent::Subprograms, tokens)?;
+            package(parser, rest)
+        }
+        _ => {
+            let (body, rest) = body(parser, tokens)?;
+            Ok((LibraryItem::Subprogram(body), rest))
+        }
     }
-    Ok((identifiers, rest))
 }
 
-/// `id {, id} ;` behind `WITH`
-#[tactic(auto, using(crate::proofs::UnitCode::with_rules))]
-fn with_clause<'a>(parser: Parser, tokens: &'a [Token]) -> Parsed<'a, WithClause>
-    ensures reads { Shows (Reads read.with_by tokens.now) result }
+/// The item of the unit that begins at this place and has these context clauses.
+#[tactic(auto, using(crate::proofs::UnitCode::unit_item_rules))]
+fn unit_item<'a>(
+    parser: Parser,
+    pos: Pos,
+    withs: Seq<WithClause>,
+    tokens: &'a [Token],
+) -> Parsed<'a, Unit>
+    ensures reads { Shows (Reads (at.at_unit_item parser.extent pos withs) tokens.now) result }
     ensures shorter { IfOk result (λ x. length x.1.now < length tokens.now) }
-{
-    let (names, rest) = identifiers(parser, tokens)?;
-    let rest = word(Symbol::Semicolon, rest)?;
-    let names = Seq::from(names);
-    Ok((WithClause { names }, rest))
-}
-
-/// `{WITH id {, id} ;}`
-#[tactic(auto, using(crate::proofs::UnitCode::withs_rules))]
-fn withs<'a>(parser: Parser, tokens: &'a [Token]) -> Parsed<'a, Vec<WithClause>>
-    ensures reads { ShowsAs (λ v. v.items) (Reads read.withs_by tokens.now) result }
-    ensures no_longer { IfOk result (λ x. length x.1.now ≤ length tokens.now) }
-{
-    let mut rest = tokens;
-    let mut withs = Vec::new(parser.alloc);
-    while let Some(after) = behind(Symbol::With, rest) {
-        let (clause, next) = with_clause(parser, after)?;
-        withs.push(clause)?;
-        rest = next;
-    }
-    Ok((withs, rest))
-}
-
-/// `[id]` behind `END`
-#[tactic(auto, using(crate::proofs::UnitCode::end_name_rules))]
-fn end_name<'a>(parser: Parser, tokens: &'a [Token]) -> Parsed<'a, Option<Identifier>>
-    ensures reads { Shows (λ q. read.end_name_by tokens.now ≡ q) result }
-    ensures no_longer { IfOk result (λ x. length x.1.now ≤ length tokens.now) }
 {
     let Some((token, _)) = tokens.split_first() else {
-        return Ok((None, tokens));
+        return Err(Fault::Syntax(tokens));
     };
-    if symbol_in(token.lexeme) != Symbol::Identifier {
-        return Ok((None, tokens));
-    }
-    let (name, rest) = parser.identifier(tokens)?;
-    Ok((Some(name), rest))
-}
-
-/// `END [id] ;`
-#[tactic(auto, using(crate::proofs::UnitCode::end_rules))]
-fn end<'a>(parser: Parser, tokens: &'a [Token]) -> Parsed<'a, Option<Identifier>>
-    ensures reads { Shows (λ q. read.end_by tokens.now ≡ q) result }
-    ensures shorter { IfOk result (λ x. length x.1.now < length tokens.now) }
-{
-    let rest = word(Symbol::End, tokens)?;
-    let (name, rest) = end_name(parser, rest)?;
-    let rest = word(Symbol::Semicolon, rest)?;
-    Ok((name, rest))
-}
-
-/// `PROCEDURE id IS BEGIN`
-#[tactic(auto, using(crate::proofs::UnitCode::heading_rules))]
-fn heading<'a>(parser: Parser, tokens: &'a [Token]) -> Parsed<'a, Specification>
-    ensures { TakesHeading parser.extent tokens.now result }
-{
-    let (pos, rest) = word_at(Symbol::Procedure, tokens)?;
-    let (name, rest) = parser.identifier(rest)?;
-    let rest = word(Symbol::Is, rest)?;
-    let rest = word(Symbol::Begin, rest)?;
-    let specification = Specification {
+    let item_pos = token.pos;
+    let (item, rest) = item(parser, tokens)?;
+    let unit = Unit {
         pos,
-        name,
-        parameters: Seq::from(Vec::new(parser.alloc)),
-        result_mark: None,
+        withs,
+        item_pos,
+        item,
     };
-    Ok((specification, rest))
+    Ok((unit, rest))
 }
 
-/// `PROCEDURE id IS BEGIN stmts END [id] ;`
-#[tactic(auto, using(crate::proofs::UnitCode::body_rules))]
-fn body<'a>(parser: Parser, tokens: &'a [Token]) -> Parsed<'a, SubprogramBody>
-    ensures reads { Shows (Reads (read.body_by parser.extent) tokens.now) result }
-    ensures shorter { IfOk result (λ x. length x.1.now < length tokens.now) }
-{
-    let (specification, rest) = heading(parser, tokens)?;
-    let (statements, rest) = statements(parser, rest)?;
-    let (end_name, rest) = end(parser, rest)?;
-    let body = SubprogramBody {
-        specification,
-        declarations: Seq::from(Vec::new(parser.alloc)),
-        statements: HandledStatements {
-            statements,
-            handlers: Vec::new(parser.alloc),
-        },
-        end_name,
-    };
-    Ok((body, rest))
-}
-
-/// `{WITH id {, id} ;} body`
+/// `{WITH id {, id} ;} lib`
 #[tactic(auto, using(crate::proofs::UnitCode::unit_rules))]
 fn unit<'a>(parser: Parser, tokens: &'a [Token]) -> Parsed<'a, Unit>
     ensures reads { Shows (Reads (read.unit_by parser.extent) tokens.now) result }
@@ -134,15 +74,9 @@ fn unit<'a>(parser: Parser, tokens: &'a [Token]) -> Parsed<'a, Unit>
     let Some((token, _)) = tokens.split_first() else {
         return Err(Fault::Syntax(tokens));
     };
+    let pos = token.pos;
     let (withs, rest) = withs(parser, tokens)?;
-    let (body, rest) = body(parser, rest)?;
-    let unit = Unit {
-        pos: token.pos,
-        withs: Seq::from(withs),
-        item_pos: body.specification.pos,
-        item: LibraryItem::Subprogram(body),
-    };
-    Ok((unit, rest))
+    unit_item(parser, pos, Seq::from(withs), rest)
 }
 
 /// `unit {unit}` up to the end of the tokens

@@ -2,33 +2,23 @@
 use Rattle.std.proofs.Common.{◌≡◌, ℕ, suc, ◌+◌, ◌-◌, ◌*◌, ◌^◌, ◌≤◌, arith, List, [], ◌∷◌, ◌++◌, map, ap, sym, ◌∙◌, append_assoc}
 use Rattle.cov_base.specs.declared.position.DecId.{DecId}
 use Rattle.cov_base.specs.declared.position.InstId.{InstId}
-use Rattle.rv_isa.specs.declared.ops.BranchOp.TheVariants.{Beq, Bne, Bltu}
+use Rattle.rv_isa.specs.declared.ops.BranchOp.TheVariants.{Beq, Bne}
 use Rattle.rv_isa.specs.declared.ops.ImmediateOp.TheVariants.{Addi}
 use Rattle.rv_isa.specs.declared.ops.LoadOp.TheVariants.{Lw}
 use Rattle.rv_isa.specs.declared.ops.StoreOp.TheVariants.{Sw}
-use Rattle.rv_isa.specs.declared.instr.Instr.TheVariants.{Upper, Immediate, Register, Shift, Load, Store, Jalr}
+use Rattle.rv_isa.specs.declared.instr.Instr.TheVariants.{Upper, Immediate, Register, Load, Store, Jalr}
 use Rattle.rv_isa.specs.declared.ops.UpperOp.TheVariants.{Lui}
 use Rattle.rv_isa.specs.declared.ops.RegisterOp.TheVariants as registers
-use Rattle.rv_isa.specs.declared.ops.ShiftOp.TheVariants as shifts
 use Rattle.kernel_ir.specs.declared.code.Edge.{Edge}
-use Rattle.kernel_ir.specs.declared.simple.Operator.{Operator}
 use Rattle.kernel_ir.specs.Tree.{Op, choose, forever, catch, decide, Code, no_op, and_op, Nodes, and_node, code_size, nodes_size}
 use Rattle.kernel_ir.specs.TreeView.{nodes_of}
 use Rattle.kernel_ir.specs.declared.code.Node.{Node}
 use Rattle.kernel_code.specs.Line.{Line, plain, jump, decides, checks, steers}
 use Rattle.kernel_code.specs.Words.{load_slot, store_slot, load_constant}
-use Rattle.kernel_code.specs.SimpleCode.{Setting, Targets, branch, call_piece, checked, measure, copy_loop, operate_front, operate_test, operate_back, raising}
-use Rattle.kernel_code.specs.Code.{load_truth, op_lines, op_length, code_lines, code_length, nodes_lines, nodes_length, edge_place, body_lines, call_lines}
-
--- parts one behind the other
-pub two_parts : (e0 e1 e2 a b : List Line) → e1 ≡ e0 ++ a → e2 ≡ e1 ++ b → e2 ≡ e0 ++ (a ++ b)
-two_parts e0 e1 e2 a b h k = k ∙ ap (λ e. e ++ b) h ∙ append_assoc e0 a b
-
-pub three_parts : (e0 e1 e2 e3 a b c : List Line) → e1 ≡ e0 ++ a → e2 ≡ e1 ++ b → e3 ≡ e2 ++ c → e3 ≡ e0 ++ (a ++ (b ++ c))
-three_parts e0 e1 e2 e3 a b c h k l = two_parts e0 e1 e3 a (b ++ c) h (two_parts e1 e2 e3 b c k l)
-
-pub four_parts : (e0 e1 e2 e3 e4 a b c d : List Line) → e1 ≡ e0 ++ a → e2 ≡ e1 ++ b → e3 ≡ e2 ++ c → e4 ≡ e3 ++ d → e4 ≡ e0 ++ (a ++ (b ++ (c ++ d)))
-four_parts e0 e1 e2 e3 e4 a b c d h k l m = two_parts e0 e1 e4 a (b ++ (c ++ d)) h (three_parts e1 e2 e3 e4 b c d k l m)
+use Rattle.kernel_code.specs.SimpleCode.{Setting, Targets, branch, call_piece}
+use Rattle.simple_code.proofs.Behind.{two_parts, three_parts, four_parts}
+use Rattle.kernel_code.specs.Code.{load_truth, op_lines, op_length, code_lines, code_length}
+use Rattle.kernel_code.specs.Code.{nodes_lines, nodes_length, edge_place, body_lines, call_lines}
 
 -- the rest form of operations in order
 pub operation_put : (e : Setting) (t : Targets) (p q n : ℕ) (o : Op) (rest : Code) (e0 e1 all : List Line)
@@ -38,8 +28,10 @@ operation_put e t p q n o rest e0 e1 all hn hq h whole =
     (λ i. h i ++ code_lines e t ((hq ∙ ap (λ m. p + m) hn) i) rest)
     ∙ append_assoc e0 (op_lines e t p o) (code_lines e t (p + op_length o) rest) ∙ whole
 
-pub choose_put : (e : Setting) (t : Targets) (p k : ℕ) (a b : Code) (first second inside behind otherwise past : ℕ) (e0 e1 e2 e3 e4 : List Line)
-    → first ≡ code_length a → second ≡ code_length b → inside ≡ p + 6 → behind ≡ p + 7 → otherwise ≡ behind + first → past ≡ otherwise + second
+pub choose_put : (e : Setting) (t : Targets) (p k : ℕ) (a b : Code) (first second inside behind otherwise past : ℕ)
+    (e0 e1 e2 e3 e4 : List Line)
+    → first ≡ code_length a → second ≡ code_length b → inside ≡ p + 6 → behind ≡ p + 7 → otherwise ≡ behind + first
+    → past ≡ otherwise + second
     → e1 ≡ e0 ++ (map plain (load_slot 11 k (Immediate Addi 13 0 1 ∷ [])) ++ (branch steers Beq 11 13 inside ∷ (jump otherwise ∷ [])))
     → e2 ≡ e1 ++ code_lines e t inside a → e3 ≡ e2 ++ jump past ∷ [] → e4 ≡ e3 ++ code_lines e t otherwise b
     → e4 ≡ e0 ++ op_lines e t p (choose k a b)
@@ -49,7 +41,8 @@ choose_put e t p k a b first second inside behind otherwise past e0 e1 e2 e3 e4 
     four_parts e0 e1 e2 e3 e4
     (map plain (load_slot 11 k (Immediate Addi 13 0 1 ∷ [])) ++ (branch steers Beq 11 13 (p + 6) ∷ (jump (p + 7 + code_length a) ∷ [])))
     (code_lines e t (p + 6) a) (jump (p + 7 + code_length a + code_length b) ∷ []) (code_lines e t (p + 7 + code_length a) b)
-    (h1 ∙ (λ i. e0 ++ (map plain (load_slot 11 k (Immediate Addi 13 0 1 ∷ [])) ++ (branch steers Beq 11 13 (hi i) ∷ (jump (other i) ∷ [])))))
+    (h1 ∙ (λ i. e0 ++ (map plain (load_slot 11 k (Immediate Addi 13 0 1 ∷ [])) ++
+    (branch steers Beq 11 13 (hi i) ∷ (jump (other i) ∷ [])))))
     (h2 ∙ (λ i. e1 ++ code_lines e t (hi i) a))
     (h3 ∙ (λ i. e2 ++ jump (end i) ∷ []))
     (h4 ∙ (λ i. e3 ++ code_lines e t (other i) b))
@@ -60,7 +53,8 @@ pub repeat_put : (e : Setting) (t : Targets) (p : ℕ) (a : Code) (n end past : 
     → e2 ≡ e0 ++ op_lines e t p (forever a)
 repeat_put e t p a n end past e0 e1 e2 hn he hp h1 h2 =
     let left : past ≡ p + code_length a + 1 = hp ∙ ap (λ m. m + 1) (he ∙ ap (λ m. p + m) hn) in
-    two_parts e0 e1 e2 (code_lines e (record { raise_to = t.raise_to; exit_to = p + code_length a + 1; return_to = t.return_to }) p a) (jump p ∷ [])
+    two_parts e0 e1 e2 (code_lines e (record { raise_to = t.raise_to; exit_to = p + code_length a + 1; return_to = t.return_to }) p a)
+    (jump p ∷ [])
     (h1 ∙ (λ i. e0 ++ code_lines e (record { raise_to = t.raise_to; exit_to = left i; return_to = t.return_to }) p a)) h2
 
 pub catch_put : (e : Setting) (t : Targets) (p k : ℕ) (a b : Code) (first second end caught handled past : ℕ) (e0 e1 e2 e3 : List Line)
@@ -75,14 +69,21 @@ catch_put e t p k a b first second end caught handled past e0 e1 e2 e3 hf hs he 
     three_parts e0 e1 e2 e3
     (code_lines e (record { raise_to = p + code_length a + 1; exit_to = t.exit_to; return_to = t.return_to }) p a)
     (jump (p + code_length a + 4 + code_length b) ∷ map plain (store_slot 12 k [])) (code_lines e t (p + code_length a + 4) b)
-    (h1 ∙ (λ i. e0 ++ code_lines e (record { raise_to = (hc ∙ ap (λ m. m + 1) ends) i; exit_to = t.exit_to; return_to = t.return_to }) p a))
+    (h1 ∙ (λ i. e0 ++ code_lines e (record {
+      raise_to = (hc ∙ ap
+          (λ m. m + 1) ends) i;
+      exit_to = t.exit_to;
+      return_to = t.return_to;
+    }) p a))
     (h2 ∙ (λ i. e1 ++ jump (behind i) ∷ map plain (store_slot 12 k [])))
     (h3 ∙ (λ i. e2 ++ code_lines e t (at_handler i) b))
 
-pub decide_put : (e : Setting) (t : Targets) (p k : ℕ) (d : DecId) (x : InstId) (ns : Nodes) (n true_at false_at past : ℕ) (e0 e1 e2 : List Line)
+pub decide_put : (e : Setting) (t : Targets) (p k : ℕ) (d : DecId) (x : InstId) (ns : Nodes) (n true_at false_at past : ℕ)
+    (e0 e1 e2 : List Line)
     → n ≡ nodes_length ns → true_at ≡ p + n → false_at ≡ true_at + 5 → past ≡ true_at + 9
     → e1 ≡ e0 ++ nodes_lines e t true_at false_at d x 0 p ns
-    → e2 ≡ e1 ++ (map plain (Immediate Addi 10 0 1 ∷ store_slot 10 k []) ++ (jump past ∷ map plain (Immediate Addi 10 0 0 ∷ store_slot 10 k [])))
+    → e2 ≡ e1 ++ (map plain (Immediate Addi 10 0 1 ∷ store_slot 10 k []) ++
+    (jump past ∷ map plain (Immediate Addi 10 0 0 ∷ store_slot 10 k [])))
     → e2 ≡ e0 ++ op_lines e t p (decide d x k ns)
 decide_put e t p k d x ns n true_at false_at past e0 e1 e2 hn ht hf hp h1 h2 =
     let at_true : true_at ≡ p + nodes_length ns = ht ∙ ap (λ m. p + m) hn in
@@ -90,11 +91,14 @@ decide_put e t p k d x ns n true_at false_at past e0 e1 e2 hn ht hf hp h1 h2 =
     let behind : past ≡ p + nodes_length ns + 9 = hp ∙ ap (λ m. m + 9) at_true in
     two_parts e0 e1 e2
     (nodes_lines e t (p + nodes_length ns) (p + nodes_length ns + 5) d x 0 p ns)
-    (map plain (Immediate Addi 10 0 1 ∷ store_slot 10 k []) ++ (jump (p + nodes_length ns + 9) ∷ map plain (Immediate Addi 10 0 0 ∷ store_slot 10 k [])))
+    (map plain (Immediate Addi 10 0 1 ∷ store_slot 10 k []) ++
+    (jump (p + nodes_length ns + 9) ∷ map plain (Immediate Addi 10 0 0 ∷ store_slot 10 k [])))
     (h1 ∙ (λ i. e0 ++ nodes_lines e t (at_true i) (at_false i) d x 0 p ns))
-    (h2 ∙ (λ i. e1 ++ (map plain (Immediate Addi 10 0 1 ∷ store_slot 10 k []) ++ (jump (behind i) ∷ map plain (Immediate Addi 10 0 0 ∷ store_slot 10 k [])))))
+    (h2 ∙ (λ i. e1 ++ (map plain (Immediate Addi 10 0 1 ∷ store_slot 10 k []) ++
+    (jump (behind i) ∷ map plain (Immediate Addi 10 0 0 ∷ store_slot 10 k [])))))
 
-pub node_put : (e : Setting) (t : Targets) (true_at false_at : ℕ) (d : DecId) (x : InstId) (number after p k : ℕ) (a : Code) (on_true on_false : Edge) (ns : Nodes)
+pub node_put : (e : Setting) (t : Targets) (true_at false_at : ℕ) (d : DecId) (x : InstId) (number after p k : ℕ) (a : Code)
+    (on_true on_false : Edge) (ns : Nodes)
     (n end taken next to_true to_false : ℕ) (e0 e1 e2 e3 : List Line)
     → n ≡ code_length a → end ≡ p + n → taken ≡ end + 7 → next ≡ end + 8 → after ≡ number + 1
     → to_true ≡ edge_place true_at false_at ns next on_true → to_false ≡ edge_place true_at false_at ns next on_false
@@ -102,18 +106,24 @@ pub node_put : (e : Setting) (t : Targets) (true_at false_at : ℕ) (d : DecId) 
     → e2 ≡ e1 ++ (map plain (load_truth k) ++ (branch (decides d number x) Bne 10 0 taken ∷ (jump to_false ∷ (jump to_true ∷ []))))
     → e3 ≡ e2 ++ nodes_lines e t true_at false_at d x after next ns
     → e3 ≡ e0 ++ nodes_lines e t true_at false_at d x number p (and_node a k on_true on_false ns)
-node_put e t true_at false_at d x number after p k a on_true on_false ns n end taken next to_true to_false e0 e1 e2 e3 hn he ht hx ha htrue hfalse h1 h2 h3 =
+node_put e t true_at false_at d x number after p k a on_true on_false ns n end taken next to_true to_false
+    e0 e1 e2 e3 hn he ht hx ha htrue hfalse h1 h2 h3 =
     let ends : end ≡ p + code_length a = he ∙ ap (λ m. p + m) hn in
     let at_next : next ≡ p + code_length a + 8 = hx ∙ ap (λ m. m + 8) ends in
     let at_taken : taken ≡ p + code_length a + 7 = ht ∙ ap (λ m. m + 7) ends in
-    let leads_true : to_true ≡ edge_place true_at false_at ns (p + code_length a + 8) on_true = htrue ∙ ap (λ m. edge_place true_at false_at ns m on_true) at_next in
-    let leads_false : to_false ≡ edge_place true_at false_at ns (p + code_length a + 8) on_false = hfalse ∙ ap (λ m. edge_place true_at false_at ns m on_false) at_next in
+    let leads_true : to_true ≡ edge_place true_at false_at ns (p + code_length a + 8) on_true = htrue ∙ ap
+    (λ m. edge_place true_at false_at ns m on_true) at_next in
+    let leads_false : to_false ≡ edge_place true_at false_at ns (p + code_length a + 8) on_false = hfalse ∙ ap
+    (λ m. edge_place true_at false_at ns m on_false) at_next in
     let following : after ≡ suc number = omega (arith, ha) in
     three_parts e0 e1 e2 e3 (code_lines e t p a)
-    (map plain (load_truth k) ++ (branch (decides d number x) Bne 10 0 (p + code_length a + 7) ∷ (jump (edge_place true_at false_at ns (p + code_length a + 8) on_false) ∷ (jump (edge_place true_at false_at ns (p + code_length a + 8) on_true) ∷ []))))
+    (map plain (load_truth k) ++ (branch (decides d number x) Bne 10 0 (p + code_length a + 7) ∷
+    (jump (edge_place true_at false_at ns (p + code_length a + 8) on_false) ∷
+    (jump (edge_place true_at false_at ns (p + code_length a + 8) on_true) ∷ []))))
     (nodes_lines e t true_at false_at d x (suc number) (p + code_length a + 8) ns)
     h1
-    (h2 ∙ (λ i. e1 ++ (map plain (load_truth k) ++ (branch (decides d number x) Bne 10 0 (at_taken i) ∷ (jump (leads_false i) ∷ (jump (leads_true i) ∷ []))))))
+    (h2 ∙ (λ i. e1 ++ (map plain (load_truth k) ++ (branch (decides d number x) Bne 10 0 (at_taken i) ∷
+    (jump (leads_false i) ∷ (jump (leads_true i) ∷ []))))))
     (h3 ∙ (λ i. e2 ++ nodes_lines e t true_at false_at d x (following i) (at_next i) ns))
 
 pub body_put : (e : Setting) (a : Code) (n end raised : ℕ) (e0 e1 e2 e3 : List Line)
@@ -134,7 +144,8 @@ pub call_put : (e : Setting) (r p f down up piece past : ℕ) (e0 e1 e2 e3 e4 e5
     → down ≡ 2 ^ 32 - 4 * e.width → up ≡ 4 * e.width → piece ≡ f + 1 → past ≡ p + 13
     → e1 ≡ e0 ++ (map plain (Upper Lui 13 0x1fc0 ∷ Immediate Addi 12 0 3 ∷ []) ++ (branch checks Bne 2 13 (p + 4) ∷ (jump r ∷ [])))
     → e2 ≡ e1 ++ map plain (load_constant 13 down (Register registers.Add 8 8 13 ∷ [])) → e3 ≡ e2 ++ call_piece piece ∷ []
-    → e4 ≡ e3 ++ map plain (load_constant 13 up (Register registers.Add 8 8 13 ∷ [])) → e5 ≡ e4 ++ branch steers Beq 12 0 past ∷ (jump r ∷ [])
+    → e4 ≡ e3 ++ map plain (load_constant 13 up (Register registers.Add 8 8 13 ∷ [])) → e5 ≡ e4 ++ branch steers Beq 12 0 past ∷
+    (jump r ∷ [])
     → e5 ≡ e0 ++ call_lines e r p f
 call_put e r p f down up piece past e0 e1 e2 e3 e4 e5 hd hu hc hp h1 h2 h3 h4 h5 =
     let front = map plain (Upper Lui 13 0x1fc0 ∷ Immediate Addi 12 0 3 ∷ []) ++ (branch checks Bne 2 13 (p + 4) ∷ (jump r ∷ [])) in
@@ -148,50 +159,21 @@ call_put e r p f down up piece past e0 e1 e2 e3 e4 e5 hd hu hc hp h1 h2 h3 h4 h5
     (h4 ∙ (λ i. e3 ++ map plain (load_constant 13 (hu i) (Register registers.Add 8 8 13 ∷ []))))
     (h5 ∙ (λ i. e4 ++ branch steers Beq 12 0 (hp i) ∷ (jump r ∷ []))))
 
-pub copy_put : (r p to from words count second turn : ℕ) (e0 e1 e2 e3 e4 e5 e6 e7 : List Line)
-    → count ≡ words → second ≡ p + 10 → turn ≡ p + 27
-    → e1 ≡ e0 ++ checked r p (load_slot 10 from (measure count)) Bltu 11 13 []
-    → e2 ≡ e1 ++ checked r second (load_slot 10 to (measure count)) Bltu 11 13 []
-    → e3 ≡ e2 ++ map plain (Shift shifts.Slli 11 10 2 ∷ []) → e4 ≡ e3 ++ map plain (load_slot 10 from [])
-    → e5 ≡ e4 ++ map plain (Shift shifts.Slli 10 10 2 ∷ []) → e6 ≡ e5 ++ map plain (load_constant 13 words [])
-    → e7 ≡ e6 ++ copy_loop turn
-    → e7 ≡ e0 ++ (checked r p (load_slot 10 from (measure words)) Bltu 11 13 []
-    ++ (checked r (p + 10) (load_slot 10 to (measure words)) Bltu 11 13 (Shift shifts.Slli 11 10 2 ∷ load_slot 10 from (Shift shifts.Slli 10 10 2 ∷ load_constant 13 words []))
-    ++ copy_loop (p + 27)))
-copy_put r p to from words count second turn e0 e1 e2 e3 e4 e5 e6 e7 hw hs ht h1 h2 h3 h4 h5 h6 h7 =
-    let check = checked r (p + 10) (load_slot 10 to (measure words)) Bltu 11 13 [] in
-    let all = checked r (p + 10) (load_slot 10 to (measure words)) Bltu 11 13 (Shift shifts.Slli 11 10 2 ∷ load_slot 10 from (Shift shifts.Slli 10 10 2 ∷ load_constant 13 words [])) in
-    let goal_set = map plain (Shift shifts.Slli 11 10 2 ∷ []) in
-    let loaded = map plain (load_slot 10 from []) in
-    let shifted = map plain (Shift shifts.Slli 10 10 2 ∷ []) in
-    let counted = map plain (load_constant 13 words []) in
-    two_parts e0 e1 e7 (checked r p (load_slot 10 from (measure words)) Bltu 11 13 []) (all ++ copy_loop (p + 27))
-    (h1 ∙ (λ i. e0 ++ checked r p (load_slot 10 from (measure (hw i))) Bltu 11 13 []))
-    (two_parts e1 e6 e7 all (copy_loop (p + 27))
-    (two_parts e1 e2 e6 check (goal_set ++ (loaded ++ (shifted ++ counted)))
-    (h2 ∙ (λ i. e1 ++ checked r (hs i) (load_slot 10 to (measure (hw i))) Bltu 11 13 []))
-    (four_parts e2 e3 e4 e5 e6 goal_set loaded shifted counted h3 h4 h5 h6))
-    (h7 ∙ (λ i. e6 ++ copy_loop (ht i))))
-
--- what an operator puts behind its operands, as one
-pub operator_put : (o : Operator) (past to r : ℕ) (e0 e1 : List Line)
-    → e1 ≡ e0 ++ map plain (operate_front o ++ raising 1) ++ (branch checks (operate_test o).op (operate_test o).left (operate_test o).right past ∷ jump r ∷ map plain (operate_back o (store_slot 14 to [])))
-    → e1 ≡ e0 ++ (map plain (operate_front o ++ raising 1) ++ (branch checks (operate_test o).op (operate_test o).left (operate_test o).right past ∷ jump r ∷ map plain (operate_back o (store_slot 14 to []))))
-operator_put o past to r e0 e1 h =
-    h ∙ append_assoc e0 (map plain (operate_front o ++ raising 1)) (branch checks (operate_test o).op (operate_test o).left (operate_test o).right past ∷ jump r ∷ map plain (operate_back o (store_slot 14 to [])))
-
 code_positive : (a : Code) → 1 ≤ code_size a
 code_positive no_op = omega arith
 code_positive (and_op o a) = omega (arith, code_positive a)
 
 -- the nodes behind the first one are smaller
-pub rest_smaller : (ns : List Node) (n : Node) (rest : List Node) → ns ≡ n ∷ rest → nodes_size (nodes_of rest) + 1 ≤ nodes_size (nodes_of ns)
+pub rest_smaller : (ns : List Node) (n : Node) (rest : List Node) → ns ≡ n ∷ rest → nodes_size (nodes_of rest) + 1 ≤ nodes_size
+    (nodes_of ns)
 rest_smaller ns n rest e =
     omega (arith, ap (λ xs. nodes_size (nodes_of xs)) e, code_positive n.operand)
 
 -- nodes of a slice are the first one and the rest
-pub node_of_slice : (e : Setting) (t : Targets) (true_at false_at : ℕ) (d : DecId) (x : InstId) (number p : ℕ) (ns : List Node) (n : Node) (rest : List Node) (e0 e1 : List Line)
-    → ns ≡ n ∷ rest → e1 ≡ e0 ++ nodes_lines e t true_at false_at d x number p (and_node n.operand n.slot n.on_true n.on_false (nodes_of rest))
+pub node_of_slice : (e : Setting) (t : Targets) (true_at false_at : ℕ) (d : DecId) (x : InstId) (number p : ℕ) (ns : List Node)
+    (n : Node) (rest : List Node) (e0 e1 : List Line)
+    → ns ≡ n ∷ rest → e1 ≡ e0 ++ nodes_lines e t true_at false_at d x number p
+    (and_node n.operand n.slot n.on_true n.on_false (nodes_of rest))
     → e1 ≡ e0 ++ nodes_lines e t true_at false_at d x number p (nodes_of ns)
 node_of_slice e t true_at false_at d x number p ns n rest e0 e1 h k =
     k ∙ ap (λ xs. e0 ++ nodes_lines e t true_at false_at d x number p (nodes_of xs)) (sym h)

@@ -4,22 +4,13 @@
 //! kernel means; here they are written.
 #![tactic(auto)]
 
-mod arithmetic;
-mod emitter;
 mod fills;
-mod frame;
-mod instructions;
 mod lengths;
-mod line;
-mod memory;
 mod parts;
 mod pieces;
-mod simple;
-mod sizes;
 mod structure;
 mod targets;
 #[cfg(test)]
 mod tests;
-mod values;
 
 pub use pieces::generate;

@@ -1,6 +1,6 @@
 //! Parts of structured code that hold no code.
 
-ghost use Rattle.std.specs.Prelude.{◌≡◌, ◌+◌, ◌-◌, ◌*◌, ◌^◌, ◌<◌, ◌++◌, List, [], ◌∷◌, map, IfOk, OnOk};
+ghost use Rattle.std.specs.Prelude.{◌≡◌, ◌+◌, ◌-◌, ◌*◌, ◌^◌, ◌<◌, ◌++◌, [], ◌∷◌, map, IfOk, OnOk};
 ghost use Rattle.rv_isa.specs.declared.ops.UpperOp.TheVariants.{Lui};
 ghost use Rattle.rv_isa.specs.declared.ops.BranchOp.TheVariants.{Beq, Bne};
 ghost use Rattle.rv_isa.specs.declared.ops.ImmediateOp.TheVariants.{Addi, Sltiu};
@@ -12,18 +12,17 @@ ghost use Rattle.kernel_ir.specs.TreeView.{nodes_of};
 ghost use Rattle.kernel_code.specs.Line.{plain, jump, decides, checks, steers};
 ghost use Rattle.kernel_code.specs.Words.{load_slot, store_slot, load_constant};
 ghost use Rattle.kernel_code.specs.SimpleCode.{branch, call_piece};
-ghost use Rattle.kernel_code.specs.Code.{load_truth, enter_frame, leave_frame, call_lines, start_lines, node_place, edge_place};
-ghost use Rattle.codegen_rv32.specs.Set.{setting_of};
+ghost use Rattle.kernel_code.specs.Code.{load_truth, call_lines, start_lines, node_place, edge_place};
+ghost use Rattle.simple_code.specs.Set.{setting_of};
 
-use crate::emitter::{Emitter, further};
-use crate::frame::Frame;
-use crate::instructions::{a3, addi, back, exception, immediate, load, lui, register, store};
 use crate::lengths::nodes_length;
-use crate::line::Said;
 use crate::targets::Evaluation;
 use cov_base::CondIx;
 use kernel_ir::{Edge, Node, Slot};
 use rv_isa::{BranchOp, ImmediateOp, Instr, Reg, RegisterOp};
+use simple_code::{
+    Emitter, Frame, Said, a3, addi, back, exception, further, immediate, load, lui, register, store,
+};
 use std::alloc::AllocError;
 
 /// Where an edge leads: to the place of an outcome, or of one of the nodes that follow.
@@ -69,160 +68,168 @@ fn way_up(width: u32) -> u64
     4 * u64::from(width)
 }
 
-impl Emitter {
-    /// Goes on inside where a slot holds True, and else at another place.
-    #[tactic(auto, using(crate::proofs::Lines::lines_assoc))]
-    pub(crate) fn test(&mut self, slot: Slot, inside: u32, otherwise: u32) -> Result<(), AllocError>
-        ensures { OnOk result (self.new ≡ self.old ++ (map plain (load_slot 11 slot (Immediate Addi 13 0 1 ∷ [])) ++ (branch steers Beq 11 13 inside ∷ (jump otherwise ∷ [])))) }
-    {
-        self.load_slot(Reg::a1(), slot)?;
-        self.plain(addi(a3(), Reg::zero(), 1))?;
-        self.branch(Said::Steers, BranchOp::Beq, Reg::a1(), a3(), inside)?;
-        self.jump(otherwise)
-    }
+/// Goes on inside where a slot holds True, and else at another place.
+#[tactic(auto, using(simple_code::proofs::Lines::lines_assoc))]
+pub(crate) fn put_test(
+    emitter: &mut Emitter,
+    slot: Slot,
+    inside: u32,
+    otherwise: u32,
+) -> Result<(), AllocError>
+    ensures { OnOk result (emitter.new ≡ emitter.old ++ (map plain (load_slot 11 slot (Immediate Addi 13 0 1 ∷ [])) ++
+        (branch steers Beq 11 13 inside ∷ (jump otherwise ∷ [])))) }
+{
+    emitter.load_slot(Reg::a1(), slot)?;
+    emitter.plain(addi(a3(), Reg::zero(), 1))?;
+    emitter.branch(Said::Steers, BranchOp::Beq, Reg::a1(), a3(), inside)?;
+    emitter.jump(otherwise)
+}
 
-    /// Goes past a handler, which begins with setting a slot to the number of the exception.
-    #[tactic(auto, using(crate::proofs::Lines::lines_assoc))]
-    pub(crate) fn enter_handler(&mut self, past: u32, slot: Slot) -> Result<(), AllocError>
-        ensures { OnOk result (self.new ≡ self.old ++ jump past ∷ map plain (store_slot 12 slot [])) }
-    {
-        self.jump(past)?;
-        self.store_slot(exception(), slot)
-    }
+/// Goes past a handler, which begins with setting a slot to the number of the exception.
+#[tactic(auto, using(simple_code::proofs::Lines::lines_assoc))]
+pub(crate) fn enter_handler(emitter: &mut Emitter, past: u32, slot: Slot) -> Result<(), AllocError>
+    ensures { OnOk result (emitter.new ≡ emitter.old ++ jump past ∷ map plain (store_slot 12 slot [])) }
+{
+    emitter.jump(past)?;
+    emitter.store_slot(exception(), slot)
+}
 
-    /// A slot gets a number below 2.
-    #[tactic(auto, using(crate::proofs::Lines::lines_assoc))]
-    fn set_truth(&mut self, slot: Slot, truth: u16) -> Result<(), AllocError>
-        requires { truth < 2 ^ 12 }
-        ensures { OnOk result (self.new ≡ self.old ++ map plain (Immediate Addi 10 0 truth ∷ store_slot 10 slot [])) }
-    {
-        self.plain(addi(Reg::a0(), Reg::zero(), truth))?;
-        self.store_slot(Reg::a0(), slot)
-    }
+/// A slot gets a number below 2.
+#[tactic(auto, using(simple_code::proofs::Lines::lines_assoc))]
+fn set_truth(emitter: &mut Emitter, slot: Slot, truth: u16) -> Result<(), AllocError>
+    requires { truth < 2 ^ 12 }
+    ensures { OnOk result (emitter.new ≡ emitter.old ++ map plain (Immediate Addi 10 0 truth ∷ store_slot 10 slot [])) }
+{
+    emitter.plain(addi(Reg::a0(), Reg::zero(), truth))?;
+    emitter.store_slot(Reg::a0(), slot)
+}
 
-    /// The ends of a decision: a slot gets 1 for True and 0 for False.
-    #[tactic(auto, using(crate::proofs::Lines::lines_assoc))]
-    pub(crate) fn set_outcome(&mut self, slot: Slot, past: u32) -> Result<(), AllocError>
-        ensures { OnOk result (self.new ≡ self.old ++ (map plain (Immediate Addi 10 0 1 ∷ store_slot 10 slot []) ++ (jump past ∷ map plain (Immediate Addi 10 0 0 ∷ store_slot 10 slot [])))) }
-    {
-        self.set_truth(slot, 1)?;
-        self.jump(past)?;
-        self.set_truth(slot, 0)
-    }
+/// The ends of a decision: a slot gets 1 for True and 0 for False.
+#[tactic(auto, using(simple_code::proofs::Lines::lines_assoc))]
+pub(crate) fn set_outcome(emitter: &mut Emitter, slot: Slot, past: u32) -> Result<(), AllocError>
+    ensures { OnOk result (emitter.new ≡ emitter.old ++ (map plain (Immediate Addi 10 0 1 ∷ store_slot 10 slot []) ++
+        (jump past ∷ map plain (Immediate Addi 10 0 0 ∷ store_slot 10 slot [])))) }
+{
+    set_truth(emitter, slot, 1)?;
+    emitter.jump(past)?;
+    set_truth(emitter, slot, 0)
+}
 
-    /// `x10` is 1 where a slot holds True, and else 0.
-    #[tactic(auto, using(crate::proofs::Lines::lines_assoc))]
-    fn load_truth(&mut self, slot: Slot) -> Result<(), AllocError>
-        ensures { OnOk result (self.new ≡ self.old ++ map plain (load_truth slot)) }
-    {
-        let x = Reg::a0();
-        self.load_slot(x, slot)?;
-        self.plain(addi(x, x, 0xfff))?;
-        self.plain(immediate(ImmediateOp::Sltiu, x, x, 1))
-    }
+/// `x10` is 1 where a slot holds True, and else 0.
+#[tactic(auto, using(simple_code::proofs::Lines::lines_assoc))]
+fn load_truth(emitter: &mut Emitter, slot: Slot) -> Result<(), AllocError>
+    ensures { OnOk result (emitter.new ≡ emitter.old ++ map plain (load_truth slot)) }
+{
+    let x = Reg::a0();
+    emitter.load_slot(x, slot)?;
+    emitter.plain(addi(x, x, 0xfff))?;
+    emitter.plain(immediate(ImmediateOp::Sltiu, x, x, 1))
+}
 
-    /// The branch of a condition, which is taken where the condition's slot holds True.
-    #[tactic(auto, using(crate::proofs::Lines::lines_assoc))]
-    pub(crate) fn condition(
-        &mut self,
-        evaluation: Evaluation,
-        condition: u8,
-        slot: Slot,
-        taken_at: u32,
-        on_false: u32,
-        on_true: u32,
-    ) -> Result<(), AllocError>
-        ensures { OnOk result (self.new ≡ self.old ++ (map plain (load_truth slot) ++ (branch (decides evaluation.decision condition evaluation.instance) Bne 10 0 taken_at ∷ (jump on_false ∷ (jump on_true ∷ []))))) }
-    {
-        self.load_truth(slot)?;
-        let said = Said::Decides {
-            decision: evaluation.decision,
-            condition: CondIx(condition),
-            instance: evaluation.instance,
-        };
-        self.branch(said, BranchOp::Bne, Reg::a0(), Reg::zero(), taken_at)?;
-        self.jump(on_false)?;
-        self.jump(on_true)
-    }
+/// The branch of a condition, which is taken where the condition's slot holds True.
+#[tactic(auto, using(simple_code::proofs::Lines::lines_assoc))]
+pub(crate) fn put_condition(
+    emitter: &mut Emitter,
+    evaluation: Evaluation,
+    condition: u8,
+    slot: Slot,
+    taken_at: u32,
+    on_false: u32,
+    on_true: u32,
+) -> Result<(), AllocError>
+    ensures { OnOk result (emitter.new ≡ emitter.old ++ (map plain (load_truth slot) ++
+        (branch (decides evaluation.decision condition evaluation.instance) Bne 10 0 taken_at ∷ (jump on_false ∷ (jump on_true ∷ []))))) }
+{
+    load_truth(emitter, slot)?;
+    let said = Said::Decides {
+        decision: evaluation.decision,
+        condition: CondIx(condition),
+        instance: evaluation.instance,
+    };
+    emitter.branch(said, BranchOp::Bne, Reg::a0(), Reg::zero(), taken_at)?;
+    emitter.jump(on_false)?;
+    emitter.jump(on_true)
+}
 
-    /// The frame's end moves.
-    #[tactic(auto, using(crate::proofs::Lines::lines_assoc))]
-    fn move_frame(&mut self, bytes: u64) -> Result<(), AllocError>
-        requires { bytes < 2 ^ 36 }
-        ensures { OnOk result (self.new ≡ self.old ++ map plain (load_constant 13 bytes (Register registers.Add 8 8 13 ∷ []))) }
-    {
-        self.load_constant(a3(), bytes)?;
-        self.plain(register(RegisterOp::Add, Reg::fp(), Reg::fp(), a3()))
-    }
+/// The frame's end moves.
+#[tactic(auto, using(simple_code::proofs::Lines::lines_assoc))]
+fn move_frame(emitter: &mut Emitter, bytes: u64) -> Result<(), AllocError>
+    requires { bytes < 2 ^ 36 }
+    ensures { OnOk result (emitter.new ≡ emitter.old ++ map plain (load_constant 13 bytes (Register registers.Add 8 8 13 ∷ []))) }
+{
+    emitter.load_constant(a3(), bytes)?;
+    emitter.plain(register(RegisterOp::Add, Reg::fp(), Reg::fp(), a3()))
+}
 
-    /// The check that one more call may nest.
-    #[tactic(auto, using(crate::proofs::Lines::lines_assoc))]
-    fn check_depth(&mut self, raise_to: u32, place: u32) -> Result<(), AllocError>
-        ensures { OnOk result (self.new ≡ self.old ++ (map plain (Upper Lui 13 0x1fc0 ∷ Immediate Addi 12 0 3 ∷ []) ++ (branch checks Bne 2 13 (place + 4) ∷ (jump raise_to ∷ [])))) }
-    {
-        self.plain(lui(a3(), 0x1fc0))?;
-        self.plain(addi(exception(), Reg::zero(), 3))?;
-        self.check(raise_to, BranchOp::Bne, Reg::sp(), a3(), further(place, 4)?)
-    }
+/// The check that one more call may nest.
+#[tactic(auto, using(simple_code::proofs::Lines::lines_assoc))]
+fn check_depth(emitter: &mut Emitter, raise_to: u32, place: u32) -> Result<(), AllocError>
+    ensures { OnOk result (emitter.new ≡ emitter.old ++ (map plain (Upper Lui 13 0x1fc0 ∷ Immediate Addi 12 0 3 ∷ []) ++
+        (branch checks Bne 2 13 (place + 4) ∷ (jump raise_to ∷ [])))) }
+{
+    emitter.plain(lui(a3(), 0x1fc0))?;
+    emitter.plain(addi(exception(), Reg::zero(), 3))?;
+    emitter.check(raise_to, BranchOp::Bne, Reg::sp(), a3(), further(place, 4)?)
+}
 
-    /// Goes on where no exception came back from a call, and else where exceptions lead.
-    #[tactic(auto, using(crate::proofs::Lines::lines_assoc))]
-    fn hand_on(&mut self, raise_to: u32, past: u32) -> Result<(), AllocError>
-        ensures { OnOk result (self.new ≡ self.old ++ branch steers Beq 12 0 past ∷ (jump raise_to ∷ [])) }
-    {
-        self.branch(Said::Steers, BranchOp::Beq, exception(), Reg::zero(), past)?;
-        self.jump(raise_to)
-    }
+/// Goes on where no exception came back from a call, and else where exceptions lead.
+#[tactic(auto, using(simple_code::proofs::Lines::lines_assoc))]
+fn hand_on(emitter: &mut Emitter, raise_to: u32, past: u32) -> Result<(), AllocError>
+    ensures { OnOk result (emitter.new ≡ emitter.old ++ branch steers Beq 12 0 past ∷ (jump raise_to ∷ [])) }
+{
+    emitter.branch(Said::Steers, BranchOp::Beq, exception(), Reg::zero(), past)?;
+    emitter.jump(raise_to)
+}
 
-    /// A call of a body.
-    pub(crate) fn call(
-        &mut self,
-        frame: &Frame<'_>,
-        raise_to: u32,
-        place: u32,
-        body: u32,
-    ) -> Result<(), AllocError>
-        ensures { OnOk result (self.new ≡ self.old ++ call_lines (setting_of frame.now) raise_to place body) }
-    {
-        let piece = further(body, 1)?;
-        let past = further(place, 13)?;
-        self.check_depth(raise_to, place)?;
-        self.move_frame(way_down(frame.width))?;
-        self.call_piece(piece)?;
-        self.move_frame(way_up(frame.width))?;
-        self.hand_on(raise_to, past)
-    }
+/// A call of a body.
+pub(crate) fn put_call(
+    emitter: &mut Emitter,
+    frame: &Frame<'_>,
+    raise_to: u32,
+    place: u32,
+    body: u32,
+) -> Result<(), AllocError>
+    ensures { OnOk result (emitter.new ≡ emitter.old ++ call_lines (setting_of frame.now) raise_to place body) }
+{
+    let piece = further(body, 1)?;
+    let past = further(place, 13)?;
+    check_depth(emitter, raise_to, place)?;
+    move_frame(emitter, way_down(frame.width))?;
+    emitter.call_piece(piece)?;
+    move_frame(emitter, way_up(frame.width))?;
+    hand_on(emitter, raise_to, past)
+}
 
-    /// The first lines of a body, which keep the address to come back to.
-    #[tactic(auto, using(crate::proofs::Lines::lines_assoc))]
-    pub(crate) fn enter_body(&mut self) -> Result<(), AllocError>
-        ensures { OnOk result (self.new ≡ self.old ++ map plain (Immediate Addi 2 2 0xffc ∷ Store Sw 2 1 0 ∷ [])) }
-    {
-        self.plain(addi(Reg::sp(), Reg::sp(), 0xffc))?;
-        self.plain(store(Reg::sp(), Reg::ra(), 0))
-    }
+/// The first lines of a body, which keep the address to come back to.
+#[tactic(auto, using(simple_code::proofs::Lines::lines_assoc))]
+pub(crate) fn enter_body(emitter: &mut Emitter) -> Result<(), AllocError>
+    ensures { OnOk result (emitter.new ≡ emitter.old ++ map plain (Immediate Addi 2 2 0xffc ∷ Store Sw 2 1 0 ∷ [])) }
+{
+    emitter.plain(addi(Reg::sp(), Reg::sp(), 0xffc))?;
+    emitter.plain(store(Reg::sp(), Reg::ra(), 0))
+}
 
-    /// The last lines of a body.
-    #[tactic(auto, using(crate::proofs::Lines::lines_assoc))]
-    pub(crate) fn leave_body(&mut self) -> Result<(), AllocError>
-        ensures { OnOk result (self.new ≡ self.old ++ (map plain (Immediate Addi 12 0 0 ∷ Load Lw 1 2 0 ∷ Immediate Addi 2 2 4 ∷ []) ++ (plain (Jalr 0 1 0) ∷ []))) }
-    {
-        self.plain(addi(exception(), Reg::zero(), 0))?;
-        self.plain(load(Reg::ra(), Reg::sp(), 0))?;
-        self.plain(addi(Reg::sp(), Reg::sp(), 4))?;
-        self.plain(back())
-    }
+/// The last lines of a body.
+#[tactic(auto, using(simple_code::proofs::Lines::lines_assoc))]
+pub(crate) fn leave_body(emitter: &mut Emitter) -> Result<(), AllocError>
+    ensures { OnOk result (emitter.new ≡ emitter.old ++ (map plain
+        (Immediate Addi 12 0 0 ∷ Load Lw 1 2 0 ∷ Immediate Addi 2 2 4 ∷ []) ++ (plain (Jalr 0 1 0) ∷ []))) }
+{
+    emitter.plain(addi(exception(), Reg::zero(), 0))?;
+    emitter.plain(load(Reg::ra(), Reg::sp(), 0))?;
+    emitter.plain(addi(Reg::sp(), Reg::sp(), 4))?;
+    emitter.plain(back())
+}
 
-    /// The lines of the start.
-    #[tactic(auto, using(crate::proofs::Lines::lines_assoc))]
-    pub(crate) fn start_of(&mut self, main: u32) -> Result<(), AllocError>
-        ensures { OnOk result (self.new ≡ self.old ++ start_lines main) }
-    {
-        self.plain(lui(Reg::fp(), 0x1fc0))?;
-        self.load_constant(Reg::sp(), 0x1fc0800)?;
-        self.call_piece(further(main, 1)?)?;
-        self.plain(addi(Reg::a0(), exception(), 0))?;
-        self.plain(addi(Reg::a7(), Reg::zero(), 3))?;
-        self.plain(Instr::Ecall)
-    }
+/// The lines of the start.
+#[tactic(auto, using(simple_code::proofs::Lines::lines_assoc))]
+pub(crate) fn put_start(emitter: &mut Emitter, main: u32) -> Result<(), AllocError>
+    ensures { OnOk result (emitter.new ≡ emitter.old ++ start_lines main) }
+{
+    emitter.plain(lui(Reg::fp(), 0x1fc0))?;
+    emitter.load_constant(Reg::sp(), 0x1fc0800)?;
+    emitter.call_piece(further(main, 1)?)?;
+    emitter.plain(addi(Reg::a0(), exception(), 0))?;
+    emitter.plain(addi(Reg::a7(), Reg::zero(), 3))?;
+    emitter.plain(Instr::Ecall)
 }

@@ -1,23 +1,24 @@
 //! The pieces of a kernel.
 
-ghost use Rattle.std.specs.Prelude.{◌≡◌, ◌+◌, ◌++◌, map, IfOk, OnOk};
+ghost use Rattle.std.specs.Prelude.{◌≡◌, ◌+◌, ◌++◌, IfOk, OnOk};
 ghost use Rattle.assembler.specs.declared.piece.Mark.TheVariants as mark;
 ghost use Rattle.kernel_code.specs.Line.{items_of, mark_of, marks_from};
 ghost use Rattle.kernel_code.specs.Marked.{piece_of};
 ghost use Rattle.kernel_code.specs.Code.{body_lines, start_lines};
 ghost use Rattle.kernel_code.specs.FillCode.{layout_lines};
 ghost use Rattle.kernel_code.specs.Pieces.{layout_pieces, kernel_pieces};
-ghost use Rattle.codegen_rv32.specs.View.{said_of, lines_of};
-ghost use Rattle.codegen_rv32.specs.Set.{setting_of, body_pieces};
+ghost use Rattle.simple_code.specs.View.{said_of, lines_of};
+ghost use Rattle.simple_code.specs.Set.{setting_of};
+ghost use Rattle.codegen_rv32.specs.Set.{body_pieces};
 
-use crate::emitter::{Emitter, further};
-use crate::frame::Frame;
-use crate::line::{Line, Said};
-use crate::sizes::sizes_of;
+use crate::fills::put_layout;
+use crate::parts::put_start;
+use crate::structure::put_body;
 use assembler::{Item, Label, Mark, Piece};
 use cov_base::{CondIx, DecId, InstId, Seq};
 use kernel_ir::{Body, Code, Kernel, Layout};
 use line_table::RoleKind;
+use simple_code::{Emitter, Frame, Line, Said, further, sizes_of};
 use std::alloc::{AllocError, Global};
 
 /// The pieces of a kernel: of the start, of the bodies and of the layouts, in order. There is no memory
@@ -91,7 +92,7 @@ fn start_piece(alloc: Global, main: u32) -> Result<Piece, AllocError>
     ensures { IfOk result (λ piece. piece ≡ piece_of (start_lines main)) }
 {
     let mut emitter = Emitter::new(alloc);
-    emitter.start_of(main)?;
+    put_start(&mut emitter, main)?;
     piece_of(alloc, &emitter)
 }
 
@@ -100,7 +101,7 @@ fn body_piece(alloc: Global, frame: &Frame<'_>, code: &Code) -> Result<Piece, Al
     ensures { IfOk result (λ piece. piece ≡ piece_of (body_lines (setting_of frame.now) code.now)) }
 {
     let mut emitter = Emitter::new(alloc);
-    emitter.body(frame, code)?;
+    put_body(&mut emitter, frame, code)?;
     piece_of(alloc, &emitter)
 }
 
@@ -114,7 +115,7 @@ fn layout_piece(
     ensures { IfOk result (λ piece. piece ≡ piece_of (layout_lines first number layout.now)) }
 {
     let mut emitter = Emitter::new(alloc);
-    emitter.layout(first, number, layout)?;
+    put_layout(&mut emitter, first, number, layout)?;
     piece_of(alloc, &emitter)
 }
 

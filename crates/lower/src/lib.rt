@@ -7,6 +7,8 @@
 
 mod laws;
 mod lowering;
+#[cfg(test)]
+mod tests;
 
 pub use laws::{
     kernels_are_small, kernels_do_what_their_programs_do, kernels_hold_the_obligations,

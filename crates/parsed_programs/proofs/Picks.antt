@@ -7,15 +7,27 @@ use Rattle.ada_syntax.specs.Tree.{Expr, Name, name_pos}
 use Rattle.ada_syntax.specs.StatementTree.{Statement}
 use Rattle.ada_syntax.specs.StatementView.{statements_of}
 use Rattle.ada_syntax.specs.declared.expr.LogicalOperator.{LogicalOperator}
+use Rattle.ada_syntax.specs.declared.declaration.Declaration.{Declaration}
 use Rattle.ada_syntax.specs.declared.name.Identifier.{Identifier}
 use Rattle.ada_syntax.specs.declared.unit.SubprogramBody.{SubprogramBody}
+use Rattle.ada_syntax.specs.declared.unit.Formal.{Formal}
+use Rattle.ada_syntax.specs.declared.unit.LibraryItem.{LibraryItem}
 use Rattle.ada_syntax.specs.declared.unit.WithClause.{WithClause}
 use Rattle.ada_syntax.specs.declared.unit.Unit.{Unit as LibraryUnit}
 use Rattle.expression_parser.specs.declared.extent.Extent.{Extent}
 use Rattle.expression_parser.specs.Reading.{Tokens}
 use Rattle.expression_parser.specs.Expressions.{Level, Joins, by_and, by_or, by_xor, by_and_then, by_or_else, IsExpr, a_numeral, a_name, in_parentheses, a_primary, an_abs, a_not, a_factor, a_product, a_term, a_signed_term, a_first_term, a_sum, a_simple, a_relation, a_single, a_chain, IsChain, a_pair, a_longer, IsName, an_identifier, a_selection, an_attribute, an_application, AreExprs, one_expr, more_exprs}
-use Rattle.ada_parser.specs.Statements.{IsStatement, a_null, a_return, a_call, AreStatements, one_statement, more_statements}
-use Rattle.ada_parser.specs.Grammar.{AreIdentifiers, one_identifier, more_identifiers, IsWith, a_with, AreWiths, no_withs, more_withs, IsEndName, no_end_name, an_end_name, IsBody, a_procedure, IsUnit, a_unit, AreUnits, one_unit, more_units}
+use Rattle.expression_parser.specs.declared.symbol.Symbol.{Symbol}
+use Rattle.expression_parser.specs.declared.symbol.Symbol.TheVariants as symbol
+use Rattle.expression_parser.specs.Syntax.{Suffix, all, after}
+use Rattle.declaration_parser.specs.Identifiers.{AreIdentifiers, one_identifier, more_identifiers}
+use Rattle.declaration_parser.specs.Declarations.{AreDeclarations, no_declarations, more_declarations}
+use Rattle.statement_parser.specs.Words.{Word, word, Named, name}
+use Rattle.statement_parser.specs.Statements.{IsStatement, a_null, an_assignment, a_call, an_exemption, an_if, a_case, an_endless_loop, a_while, a_for, an_exit, a_return, a_raise, a_block, a_declaring_block, AreStatements, one_statement, more_statements, HasResult, no_result, a_result, a_sequence}
+use Rattle.statement_parser.proofs.Suffixes.{statement_suffix, handlers_suffix}
+use Rattle.ada_parser.specs.Grammar.{IsWith, a_with, AreWiths, no_withs, more_withs, IsEndName, no_end_name, an_end_name, IsEnd, an_end, IsBody, a_body, IsPackageRest, a_package_rest, IsItem, a_generic, a_package, a_package_body, an_instance, a_subprogram, IsUnit, a_unit, AreUnits, one_unit, more_units}
+use Rattle.ada_parser.proofs.UnitComplete.{end_word}
+use Rattle.ada_parser.proofs.UnitSuffixes.{item_suffix, declaration_suffix, specification_suffix}
 use Rattle.ada_types.specs.Typing.{statement_places, all_places, statements_in, statements_of_item, places_of}
 
 -- these are the places of some of the tokens between two lists, in order
@@ -81,11 +93,37 @@ mutual
   skips_exprs (one_expr e) = skips_expr e
   skips_exprs (more_exprs es i e) = joined (skips_exprs es) (passed (skips_expr e))
 
+-- no token up to an end
+skipped : {ts rest : Tokens} → Suffix rest ts → Picks [] ts rest
+skipped all = ended
+skipped (after s) = passed (skipped s)
+
+skips_word : {s : Symbol} {ts rest : Tokens} → Word s ts rest → Picks [] ts rest
+skips_word (word i) = passed ended
+
+skips_name : {i : Identifier} {ts rest : Tokens} → Named i ts rest → Picks [] ts rest
+skips_name (name i) = passed ended
+
 -- statements
+skips_result : {x : Extent} {e : Option Expr} {ts rest : Tokens} → HasResult x e ts rest → Picks [] ts rest
+skips_result no_result = ended
+skips_result (a_result o d) = skips_expr d
+
 statement_picked : {x : Extent} {s : Statement} {ts rest : Tokens} → IsStatement x s ts rest → Picks (statement_places s) ts rest
-statement_picked (a_null i j) = taken (passed ended)
-statement_picked (a_return i j) = taken (passed ended)
-statement_picked (a_call n i) = with_rest (name_picked n) (passed ended)
+statement_picked (a_null i w) = taken (skips_word w)
+statement_picked (a_return i d w) = taken (joined (skips_result d) (skips_word w))
+statement_picked (a_call n w) = with_rest (name_picked n) (skips_word w)
+statement_picked {x} (an_assignment o d a i b) = skipped (statement_suffix x (an_assignment o d a i b))
+statement_picked {x} (an_exemption d) = skipped (statement_suffix x (an_exemption d))
+statement_picked {x} (an_if o i b l e c) = skipped (statement_suffix x (an_if o i b l e c))
+statement_picked {x} (a_case o i d w l c) = skipped (statement_suffix x (a_case o i d w l c))
+statement_picked {x} (an_endless_loop o l) = skipped (statement_suffix x (an_endless_loop o l))
+statement_picked {x} (a_while o i d l) = skipped (statement_suffix x (a_while o i d l))
+statement_picked {x} (a_for o i n w d r l) = skipped (statement_suffix x (a_for o i n w d r l))
+statement_picked {x} (an_exit o i d w) = skipped (statement_suffix x (an_exit o i d w))
+statement_picked {x} (a_raise o i d w) = skipped (statement_suffix x (a_raise o i d w))
+statement_picked {x} (a_block o i h a b) = skipped (statement_suffix x (a_block o i h a b))
+statement_picked {x} (a_declaring_block o i d w h a b) = skipped (statement_suffix x (a_declaring_block o i d w h a b))
 
 places_last : (ss : List Statement) (s : Statement) → all_places (statements_of (ss ++ s ∷ [])) ≡ all_places (statements_of ss) ++ statement_places s
 places_last [] s = append-nil (statement_places s)
@@ -101,7 +139,7 @@ skips_identifiers (one_identifier i) = passed ended
 skips_identifiers (more_identifiers is i j) = joined (skips_identifiers is) (passed (passed ended))
 
 skips_with : {w : WithClause} {ts rest : Tokens} → IsWith w ts rest → Picks [] ts rest
-skips_with (a_with i is j) = passed (joined (skips_identifiers is) (passed ended))
+skips_with (a_with v is w) = joined (skips_word v) (joined (skips_identifiers is) (skips_word w))
 
 skips_withs : {ws : List WithClause} {ts rest : Tokens} → AreWiths ws ts rest → Picks [] ts rest
 skips_withs no_withs = ended
@@ -109,13 +147,32 @@ skips_withs (more_withs ws w) = joined (skips_withs ws) (skips_with w)
 
 skips_end_name : {n : Option Identifier} {ts rest : Tokens} → IsEndName n ts rest → Picks [] ts rest
 skips_end_name no_end_name = ended
-skips_end_name (an_end_name i) = passed ended
+skips_end_name (an_end_name i) = skips_name i
+
+skips_end : {n : Option Identifier} {ts rest : Tokens} → IsEnd n ts rest → Picks [] ts rest
+skips_end (an_end a n b) = joined (skips_word a) (joined (skips_end_name n) (skips_word b))
+
+skips_declarations : {x : Extent} {ds : List Declaration} {ts rest : Tokens} → AreDeclarations x ds ts rest → Picks [] ts rest
+skips_declarations no_declarations = ended
+skips_declarations {x} (more_declarations l d) = joined (skips_declarations l) (skipped (declaration_suffix x d))
 
 body_picked : {x : Extent} {b : SubprogramBody} {ts rest : Tokens} → IsBody x b ts rest → Picks (all_places (statements_in b.statements)) ts rest
-body_picked (a_procedure i j k l ss m n o) = passed (passed (passed (passed (with_rest (statements_picked ss) (passed (joined (skips_end_name n) (passed ended)))))))
+body_picked {x} (a_body p w d v (a_sequence l h) e) =
+    joined (skipped (specification_suffix x p w)) (joined (skips_word w) (joined (skips_declarations d) (joined (skips_word v)
+    (with_rest (statements_picked l) (joined (skipped (handlers_suffix x h (end_word e).1)) (skips_end e))))))
+
+package_picked : {x : Extent} {fs : Option (List Formal)} {l : LibraryItem} {us ts vs rest : Tokens} → IsPackageRest x fs l us vs → Suffix rest ts → Picks (all_places (statements_of_item l)) ts rest
+package_picked (a_package_rest n w l e) s = skipped s
+
+item_picked : {x : Extent} {l : LibraryItem} {ts rest : Tokens} → IsItem x l ts rest → Picks (all_places (statements_of_item l)) ts rest
+item_picked {x} (a_generic o w fs p d) = package_picked d (item_suffix x (a_generic o w fs p d))
+item_picked {x} (a_package o w d) = package_picked d (item_suffix x (a_package o w d))
+item_picked {x} (a_package_body o p b n w l e) = skipped (item_suffix x (a_package_body o p b n w l e))
+item_picked {x} (an_instance o g p n w k j l v) = skipped (item_suffix x (an_instance o g p n w k j l v))
+item_picked (a_subprogram b) = body_picked b
 
 unit_picked : {x : Extent} {u : LibraryUnit} {ts rest : Tokens} → IsUnit x u ts rest → Picks (all_places (statements_of_item u.item)) ts rest
-unit_picked (a_unit ws b) = joined (skips_withs ws) (body_picked b)
+unit_picked (a_unit ws i) = joined (skips_withs ws) (item_picked i)
 
 pub places_joined : (us vs : List LibraryUnit) → places_of (us ++ vs) ≡ places_of us ++ places_of vs
 places_joined [] vs = refl

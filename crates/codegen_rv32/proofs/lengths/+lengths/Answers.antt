@@ -6,9 +6,25 @@ use Rattle.kernel_ir.proofs.SizeLaws.{op_within, node_within}
 use Rattle.codegen_rv32.proofs.lengths.+lengths.Goals as goal
 
 pub ops_length-op_length-requires : goal.ops_length-op_length-requires
-ops_length-op_length-requires t c =
-    (omega (arith, c.decreases, op_within c.args.ops.now c.loop-op.op-index c.op-item.result (omega arith), ap (λ x. op_size (op_of x)) c.op-item.is), tt)
+ops_length-op_length-requires t c = (
+  omega (
+    arith,
+    c.decreases,
+    op_within c.args.ops.now c.loop-op.op-index c.op-item.result (omega arith),
+    ap
+        (λ x. op_size (op_of x)) c.op-item.is,
+  ),
+  tt,
+)
 
 pub nodes_length-code_length-requires : goal.nodes_length-code_length-requires
-nodes_length-code_length-requires t c =
-    (omega (arith, c.decreases, node_within c.args.nodes.now c.loop-node.node-index c.node-item.result (omega arith), ap (λ (x : Node). code_size x.operand) c.node-item.is), tt)
+nodes_length-code_length-requires t c = (
+  omega (
+    arith,
+    c.decreases,
+    node_within c.args.nodes.now c.loop-node.node-index c.node-item.result (omega arith),
+    ap
+        (λ (x : Node). code_size x.operand) c.node-item.is,
+  ),
+  tt,
+)

@@ -1,5 +1,6 @@
 use Rattle.std.proofs.Common.{◌≡◌, ◌++◌, drop}
-use Rattle.codegen_rv32.specs.Set.{setting_of, body_pieces}
+use Rattle.simple_code.specs.Set.{setting_of}
+use Rattle.codegen_rv32.specs.Set.{body_pieces}
 use Rattle.codegen_rv32.proofs.pieces.put_bodies.Given as goal
 
 -- the pieces so far and those to come are all

@@ -1,0 +1,129 @@
+-- How context clauses and the ends of units are read, answer by answer.
+use Rattle.std.proofs.Common.{◌≡◌, ℕ, suc, ◌<◌, ◌≤◌, Bool, true, false, cond, List, [], ◌∷◌, ◌++◌, length, Option, Some, None, refl, ap, sym, ◌∙◌, subst, arith}
+use Rattle.std.proofs.lemmas.Bool.{false≢true}
+use Rattle.cov_base.specs.declared.position.Pos.{Pos}
+use Rattle.ada_lexer.specs.declared.token.Token.{Token}
+use Rattle.ada_syntax.specs.Tree.{Expr}
+use Rattle.ada_syntax.specs.StatementTree.{Handled}
+use Rattle.ada_syntax.specs.declared.name.Identifier.{Identifier}
+use Rattle.ada_syntax.specs.declared.declaration.Declaration.{Declaration}
+use Rattle.ada_syntax.specs.declared.unit.Specification.{Specification}
+use Rattle.ada_syntax.specs.declared.unit.SubprogramBody.{SubprogramBody}
+use Rattle.ada_syntax.specs.declared.unit.PackageItem.{PackageItem}
+use Rattle.ada_syntax.specs.declared.unit.PackageItem.TheVariants as package_item
+use Rattle.ada_syntax.specs.declared.unit.BodyItem.{BodyItem}
+use Rattle.ada_syntax.specs.declared.unit.BodyItem.TheVariants as body_item
+use Rattle.ada_syntax.specs.declared.unit.Formal.{Formal}
+use Rattle.ada_syntax.specs.declared.unit.LibraryItem.{LibraryItem}
+use Rattle.ada_syntax.specs.declared.unit.LibraryItem.TheVariants as item
+use Rattle.ada_syntax.specs.declared.unit.WithClause.{WithClause}
+use Rattle.ada_syntax.specs.declared.unit.Unit.{Unit as LibraryUnit}
+use Rattle.expression_parser.specs.declared.symbol.Symbol.{Symbol}
+use Rattle.expression_parser.specs.declared.symbol.Symbol.TheVariants as symbol
+use Rattle.expression_parser.specs.declared.extent.Extent.{Extent}
+use Rattle.expression_parser.specs.declared.extent.Extent.TheVariants.{Subprograms, Generics}
+use Rattle.expression_parser.specs.Symbols.{symbol_of, same, Is, identifier_of}
+use Rattle.expression_parser.specs.Extents.{opens}
+use Rattle.expression_parser.specs.Reading.{Tokens, Reading, Reader, Got, Stuck, Turn, Refuse, Leave, Take, Look, got, goes_on, ◌>>=◌, turned, provided, expect, skip, repeat}
+use Rattle.expression_parser.specs.Depth.{at_exprs}
+use Rattle.expression_parser.specs.Shows.{Reads, More, Skipped, Identified, after, next_is}
+use Rattle.expression_parser.proofs.Comes.{got_bind, got_then, got_expect, on_symbol}
+use Rattle.expression_parser.proofs.Yields.{Yields, Takes, taken, expect_yields}
+use Rattle.expression_parser.proofs.Loops.{more_end, more_leave, more_refuse, more_look, more_look_stuck}
+use Rattle.expression_parser.proofs.NameCode.{after_some, after_none}
+use Rattle.declaration_parser.specs.Identifiers.{identifiers_by}
+use Rattle.declaration_parser.specs.DeclarationReading.{specification_by, begins_declaration, declaration_by, declarations_by}
+use Rattle.declaration_parser.specs.FormalReading.{formals_by}
+use Rattle.statement_parser.specs.StatementReading.{pushed}
+use Rattle.statement_parser.specs.StatementDepth.{at_handled}
+use Rattle.statement_parser.proofs.Steps.{both, first_fails, word_then, no_word, done, takes, looks, leaves, refuses, turns, list_step, list_step_fail, list_end}
+use Rattle.ada_parser.specs.Grammar.{bodied, packaged, package_bodied, instanced}
+use Rattle.ada_parser.specs.UnitReading as read
+use Rattle.ada_parser.specs.UnitDepth as at
+
+-- an identifier, and what goes on with it
+pub identified : {B : Type 0} {ts us : Tokens} {i : Identifier} {q : Reading B} (k : ℕ → Identifier → Reader B) → Identified ts us i → Reads (λ m. k m i) us q → Reads (λ m. expect symbol.Identifier >>= λ u. k m (identifier_of u)) ts q
+identified {us = us} k n f = record { by = λ m h. got_bind (λ u. k m (identifier_of u)) n.here (ap (λ z. k m z us) (sym n.same) ∙ f.by m (omega (arith, n.shorter))) }
+
+pub unidentified : {B : Type 0} {ts rest : Tokens} (k : ℕ → Identifier → Reader B) → expect symbol.Identifier ts ≡ Stuck rest → Reads (λ m. expect symbol.Identifier >>= λ u. k m (identifier_of u)) ts (Stuck rest)
+unidentified k e = record { by = λ m h. ap (goes_on (λ u. k m (identifier_of u))) e }
+
+-- WITH id {, id} ;
+abbrev clause : ℕ → List Identifier → Reader WithClause
+clause m is = skip symbol.Semicolon (got (record { names = is }))
+
+pub with_read : (ts us rest : Tokens) (is : List Identifier) → Reads identifiers_by ts (Got is us) → length us < length ts → Skipped symbol.Semicolon us rest → Reads read.with_by ts (Got (record { names = is }) rest)
+with_read ts us rest is r l k = both clause r (omega arith) (word_then (λ m. got (record { names = is })) k (done (record { names = is }) rest))
+
+pub with_fail : (ts rest : Tokens) → Reads identifiers_by ts (Stuck rest) → Reads read.with_by ts (Stuck rest)
+with_fail ts rest r = first_fails clause r
+
+pub with_open : (ts us rest : Tokens) (is : List Identifier) → Reads identifiers_by ts (Got is us) → length us < length ts → expect symbol.Semicolon us ≡ Stuck rest → Reads read.with_by ts (Stuck rest)
+with_open ts us rest is r l e = both clause r (omega arith) (no_word symbol.Semicolon (λ m. got (record { names = is })) e)
+
+abbrev pub with_turns : ℕ → Symbol → Token → List WithClause → Turn (List WithClause)
+with_turns = turns symbol.With read.with_by pushed
+
+pub withs_begin : (ts : Tokens) (q : Reading (List WithClause)) → More with_turns ts [] q → Reads read.withs_by ts q
+withs_begin ts q f = record { by = λ m h. f.by m (suc m) h (omega arith) }
+
+pub withs_step : (ts us rest : Tokens) (ws : List WithClause) (w : WithClause) → after symbol.With ts ≡ Some us → Reads read.with_by us (Got w rest) → length rest < length us → (q : Reading (List WithClause)) → More with_turns rest (ws ++ w ∷ []) q → More with_turns ts ws q
+withs_step = list_step symbol.With read.with_by pushed
+
+pub withs_step_fail : (ts us rest : Tokens) (ws : List WithClause) → after symbol.With ts ≡ Some us → Reads read.with_by us (Stuck rest) → More with_turns ts ws (Stuck rest)
+withs_step_fail = list_step_fail symbol.With read.with_by pushed
+
+pub withs_end : (ts : Tokens) (ws : List WithClause) → after symbol.With ts ≡ None → More with_turns ts ws (Got ws ts)
+withs_end = list_end symbol.With read.with_by pushed
+
+-- END [id] ;
+end_name_leaves : (s : Symbol) (t : Token) → (s ≡ symbol.Identifier → ⊥) → read.end_name_turn s t ≡ Leave None
+end_name_leaves symbol.Identifier t h = absurd (h refl)
+end_name_leaves _ t h = refl
+
+takes_of : (ts rest : Tokens) (i : Identifier) (k : Identified ts rest i) → Takes symbol.Identifier k.t ts rest
+takes_of ts rest i k = subst (Yields (λ u r. Takes symbol.Identifier u ts r)) k.here (expect_yields symbol.Identifier ts)
+
+named : (ts rest : Tokens) (t : Token) → Takes symbol.Identifier t ts rest → read.end_name_by ts ≡ Got (Some (identifier_of t)) rest
+named ts rest t (taken i) = on_symbol (Leave None) read.end_name_turn symbol.Identifier t rest i
+
+pub end_name_read : (ts rest : Tokens) (i : Identifier) → Identified ts rest i → Reads at.at_end_name ts (Got (Some i) rest)
+end_name_read ts rest i k = record { by = λ m h. named ts rest k.t (takes_of ts rest i k) ∙ ap (λ z. Got (Some z) rest) (sym k.same) }
+
+pub no_end_name_at_end : Reads at.at_end_name [] (Got None [])
+no_end_name_at_end = record { by = λ m h. refl }
+
+pub no_end_name : (t : Token) (us : Tokens) → (symbol_of t.lexeme ≡ symbol.Identifier → ⊥) → Reads at.at_end_name (t ∷ us) (Got None (t ∷ us))
+no_end_name t us h = record { by = λ m l. ap (λ z. turned z t us) (end_name_leaves (symbol_of t.lexeme) t h) }
+
+end_name_cannot : (t : Token) (us rest : Tokens) → symbol_of t.lexeme ≡ symbol.Identifier → expect symbol.Identifier (t ∷ us) ≡ Stuck rest → read.end_name_by (t ∷ us) ≡ Stuck rest
+end_name_cannot t us rest i e = let p = sym (got_expect symbol.Identifier t us i) ∙ e in cc
+
+pub end_name_never : (t : Token) (us rest : Tokens) → symbol_of t.lexeme ≡ symbol.Identifier → expect symbol.Identifier (t ∷ us) ≡ Stuck rest → Reads at.at_end_name (t ∷ us) (Stuck rest)
+end_name_never t us rest i e = record { by = λ m h. end_name_cannot t us rest i e }
+
+abbrev close : ℕ → Option Identifier → Reader (Option Identifier)
+close m n = skip symbol.Semicolon (got n)
+
+abbrev after_end : ℕ → Reader (Option Identifier)
+after_end m = read.end_name_by >>= close m
+
+pub end_read : (ts us vs rest : Tokens) (n : Option Identifier) → Skipped symbol.End ts us → Reads at.at_end_name us (Got n vs) → length vs ≤ length us → Skipped symbol.Semicolon vs rest → Reads at.at_end ts (Got n rest)
+end_read ts us vs rest n a r l c = word_then after_end a (both close r l (word_then (λ m. got n) c (done n rest)))
+
+pub end_fail : (ts rest : Tokens) → expect symbol.End ts ≡ Stuck rest → Reads at.at_end ts (Stuck rest)
+end_fail ts rest e = no_word symbol.End after_end e
+
+pub end_name_fail : (ts us rest : Tokens) → Skipped symbol.End ts us → Reads at.at_end_name us (Stuck rest) → Reads at.at_end ts (Stuck rest)
+end_name_fail ts us rest a r = word_then after_end a (first_fails close r)
+
+pub end_open : (ts us vs rest : Tokens) (n : Option Identifier) → Skipped symbol.End ts us → Reads at.at_end_name us (Got n vs) → length vs ≤ length us → expect symbol.Semicolon vs ≡ Stuck rest → Reads at.at_end ts (Stuck rest)
+end_open ts us vs rest n a r l e = word_then after_end a (both close r l (no_word symbol.Semicolon (λ m. got n) e))
+
+pub ruleset with_rules = (with_read, with_fail, with_open)
+
+pub ruleset withs_rules = (withs_begin, withs_step, withs_step_fail, withs_end)
+
+pub ruleset end_name_rules = (end_name_read, no_end_name_at_end, no_end_name, end_name_never)
+
+pub ruleset end_rules = (end_read, end_fail, end_name_fail, end_open)

@@ -1,0 +1,192 @@
+-- How the items of packages and of their bodies are read, answer by answer.
+use Rattle.std.proofs.Common.{◌≡◌, ℕ, suc, ◌<◌, ◌≤◌, Bool, true, false, cond, List, [], ◌∷◌, ◌++◌, length, Option, Some, None, refl, ap, sym, ◌∙◌, subst, arith}
+use Rattle.std.proofs.lemmas.Bool.{false≢true}
+use Rattle.cov_base.specs.declared.position.Pos.{Pos}
+use Rattle.ada_lexer.specs.declared.token.Token.{Token}
+use Rattle.ada_syntax.specs.Tree.{Expr}
+use Rattle.ada_syntax.specs.StatementTree.{Handled}
+use Rattle.ada_syntax.specs.declared.name.Identifier.{Identifier}
+use Rattle.ada_syntax.specs.declared.declaration.Declaration.{Declaration}
+use Rattle.ada_syntax.specs.declared.unit.Specification.{Specification}
+use Rattle.ada_syntax.specs.declared.unit.SubprogramBody.{SubprogramBody}
+use Rattle.ada_syntax.specs.declared.unit.PackageItem.{PackageItem}
+use Rattle.ada_syntax.specs.declared.unit.PackageItem.TheVariants as package_item
+use Rattle.ada_syntax.specs.declared.unit.BodyItem.{BodyItem}
+use Rattle.ada_syntax.specs.declared.unit.BodyItem.TheVariants as body_item
+use Rattle.ada_syntax.specs.declared.unit.Formal.{Formal}
+use Rattle.ada_syntax.specs.declared.unit.LibraryItem.{LibraryItem}
+use Rattle.ada_syntax.specs.declared.unit.LibraryItem.TheVariants as item
+use Rattle.ada_syntax.specs.declared.unit.WithClause.{WithClause}
+use Rattle.ada_syntax.specs.declared.unit.Unit.{Unit as LibraryUnit}
+use Rattle.expression_parser.specs.declared.symbol.Symbol.{Symbol}
+use Rattle.expression_parser.specs.declared.symbol.Symbol.TheVariants as symbol
+use Rattle.expression_parser.specs.declared.extent.Extent.{Extent}
+use Rattle.expression_parser.specs.declared.extent.Extent.TheVariants.{Subprograms, Generics}
+use Rattle.expression_parser.specs.Symbols.{symbol_of, same, Is, identifier_of}
+use Rattle.expression_parser.specs.Extents.{opens}
+use Rattle.expression_parser.specs.Reading.{Tokens, Reading, Reader, Got, Stuck, Turn, Refuse, Leave, Take, Look, got, goes_on, ◌>>=◌, turned, provided, expect, skip, repeat}
+use Rattle.expression_parser.specs.Depth.{at_exprs}
+use Rattle.expression_parser.specs.Shows.{Reads, More, Skipped, Identified, after, next_is}
+use Rattle.expression_parser.proofs.Comes.{got_bind, got_then, got_expect, on_symbol}
+use Rattle.expression_parser.proofs.Yields.{Yields, Takes, taken, expect_yields}
+use Rattle.expression_parser.proofs.Loops.{more_end, more_leave, more_refuse, more_look, more_look_stuck}
+use Rattle.expression_parser.proofs.NameCode.{after_some, after_none}
+use Rattle.declaration_parser.specs.Identifiers.{identifiers_by}
+use Rattle.declaration_parser.specs.DeclarationReading.{specification_by, begins_declaration, declaration_by, declarations_by}
+use Rattle.declaration_parser.specs.FormalReading.{formals_by}
+use Rattle.statement_parser.specs.StatementReading.{pushed}
+use Rattle.statement_parser.specs.StatementDepth.{at_handled}
+use Rattle.statement_parser.proofs.Steps.{both, first_fails, word_then, no_word, done, takes, looks, leaves, refuses, turns, list_step, list_step_fail, list_end}
+use Rattle.ada_parser.specs.Grammar.{bodied, packaged, package_bodied, instanced}
+use Rattle.ada_parser.specs.UnitReading as read
+use Rattle.ada_parser.specs.UnitDepth as at
+
+pub begins_with_declaration : (ts : Tokens) → next_is begins_declaration ts ≡ true → next_is read.begins_item ts ≡ true
+begins_with_declaration [] b = absurd (false≢true b)
+begins_with_declaration (t ∷ us) b = ap (λ z. cond z true (read.begins_specification (symbol_of t.lexeme))) b
+
+pub begins_with_specification : (ts : Tokens) → next_is begins_declaration ts ≡ false → next_is read.begins_item ts ≡ next_is read.begins_specification ts
+begins_with_specification [] b = refl
+begins_with_specification (t ∷ us) b = ap (λ z. cond z true (read.begins_specification (symbol_of t.lexeme))) b
+
+module _ (x : Extent) where
+  -- ldecl | spec ;
+  abbrev declares : ℕ → Declaration → Reader PackageItem
+  declares m d = got (package_item.Declaration d)
+
+  abbrev specifies : ℕ → Specification → Reader PackageItem
+  specifies m s = skip symbol.Semicolon (got (package_item.Subprogram s))
+
+  by_declaration : (ts : Tokens) (q : Reading PackageItem) → next_is begins_declaration ts ≡ true → Reads (read.declared_item_by x) ts q → Reads (read.package_item_by x) ts q
+  by_declaration [] q b f = absurd (false≢true b)
+  by_declaration (t ∷ us) q b f = looks Refuse (read.package_item_turn x) t us (read.declared_item_by x) (λ m. ap (λ z. cond z (Look (read.declared_item_by x m)) (Look (read.subprogram_item_by x m))) b) f
+
+  by_specification : (ts : Tokens) (q : Reading PackageItem) → next_is begins_declaration ts ≡ false → Reads (read.subprogram_item_by x) ts q → Reads (read.package_item_by x) ts q
+  by_specification [] q b f = record { by = λ m h. f.by m h }
+  by_specification (t ∷ us) q b f = looks Refuse (read.package_item_turn x) t us (read.subprogram_item_by x) (λ m. ap (λ z. cond z (Look (read.declared_item_by x m)) (Look (read.subprogram_item_by x m))) b) f
+
+  pub item_declaration : (ts rest : Tokens) (d : Declaration) → next_is begins_declaration ts ≡ true → Reads (declaration_by x) ts (Got d rest) → length rest < length ts → Reads (read.package_item_by x) ts (Got (package_item.Declaration d) rest)
+  item_declaration ts rest d b r l = by_declaration ts _ b (both declares r (omega arith) (done (package_item.Declaration d) rest))
+
+  pub item_declaration_fail : (ts rest : Tokens) → next_is begins_declaration ts ≡ true → Reads (declaration_by x) ts (Stuck rest) → Reads (read.package_item_by x) ts (Stuck rest)
+  item_declaration_fail ts rest b r = by_declaration ts _ b (first_fails declares r)
+
+  pub item_specification : (ts us rest : Tokens) (s : Specification) → next_is begins_declaration ts ≡ false → Reads (specification_by x) ts (Got s us) → length us < length ts → Skipped symbol.Semicolon us rest → Reads (read.package_item_by x) ts (Got (package_item.Subprogram s) rest)
+  item_specification ts us rest s b r l w = by_specification ts _ b (both specifies r (omega arith) (word_then (λ m. got (package_item.Subprogram s)) w (done (package_item.Subprogram s) rest)))
+
+  pub item_specification_fail : (ts rest : Tokens) → next_is begins_declaration ts ≡ false → Reads (specification_by x) ts (Stuck rest) → Reads (read.package_item_by x) ts (Stuck rest)
+  item_specification_fail ts rest b r = by_specification ts _ b (first_fails specifies r)
+
+  pub item_specification_open : (ts us rest : Tokens) (s : Specification) → next_is begins_declaration ts ≡ false → Reads (specification_by x) ts (Got s us) → length us < length ts → expect symbol.Semicolon us ≡ Stuck rest → Reads (read.package_item_by x) ts (Stuck rest)
+  item_specification_open ts us rest s b r l e = by_specification ts _ b (both specifies r (omega arith) (no_word symbol.Semicolon (λ m. got (package_item.Subprogram s)) e))
+
+  -- behind a specification in a package body
+  module _ (s : Specification) where
+    abbrev specified_on : ℕ → Symbol → Token → Turn BodyItem
+    specified_on m = read.specified_turn x m s
+
+    abbrev as_body : ℕ → SubprogramBody → Reader BodyItem
+    as_body m b = got (body_item.Body b)
+
+    abbrev with_body : ℕ → Reader BodyItem
+    with_body m = read.body_rest x m s >>= as_body m
+
+    pub nothing_specified : Reads (at.at_specified x s) [] (Stuck [])
+    nothing_specified = record { by = λ m h. refl }
+
+    pub specified_alone : (t : Token) (us : Tokens) → Is symbol.Semicolon t → Reads (at.at_specified x s) (t ∷ us) (Got (body_item.Declared (package_item.Subprogram s)) us)
+    specified_alone t us i = takes Refuse specified_on t us (λ m. got (body_item.Declared (package_item.Subprogram s))) (λ m. ap (λ z. specified_on m z t) i) (done _ us)
+
+    pub specified_body : (t : Token) (us rest : Tokens) (b : SubprogramBody) → Is symbol.Is t → Reads (at.at_body_rest x s) us (Got b rest) → length rest < length us → Reads (at.at_specified x s) (t ∷ us) (Got (body_item.Body b) rest)
+    specified_body t us rest b i r l = takes Refuse specified_on t us with_body (λ m. ap (λ z. specified_on m z t) i) (both as_body r (omega arith) (done (body_item.Body b) rest))
+
+    pub specified_body_fail : (t : Token) (us rest : Tokens) → Is symbol.Is t → Reads (at.at_body_rest x s) us (Stuck rest) → Reads (at.at_specified x s) (t ∷ us) (Stuck rest)
+    specified_body_fail t us rest i r = takes Refuse specified_on t us with_body (λ m. ap (λ z. specified_on m z t) i) (first_fails as_body r)
+
+    not_specified_at : (m : ℕ) (z : Symbol) (t : Token) → (z ≡ symbol.Semicolon → ⊥) → (z ≡ symbol.Is → ⊥) → specified_on m z t ≡ Refuse
+    not_specified_at m symbol.Semicolon t a b = absurd (a refl)
+    not_specified_at m symbol.Is t a b = absurd (b refl)
+    not_specified_at m _ t a b = refl
+
+    pub not_specified : (t : Token) (us : Tokens) → (symbol_of t.lexeme ≡ symbol.Semicolon → ⊥) → (symbol_of t.lexeme ≡ symbol.Is → ⊥) → Reads (at.at_specified x s) (t ∷ us) (Stuck (t ∷ us))
+    not_specified t us a b = refuses Refuse specified_on t us (λ m. not_specified_at m (symbol_of t.lexeme) t a b)
+
+  -- decl | body
+  abbrev declares_in_body : ℕ → Declaration → Reader BodyItem
+  declares_in_body m d = got (body_item.Declared (package_item.Declaration d))
+
+  in_body_by_declaration : (ts : Tokens) (q : Reading BodyItem) → next_is begins_declaration ts ≡ true → Reads (read.declared_in_body_by x) ts q → Reads (read.body_item_by x) ts q
+  in_body_by_declaration [] q b f = absurd (false≢true b)
+  in_body_by_declaration (t ∷ us) q b f = looks Refuse (read.body_item_turn x) t us (read.declared_in_body_by x) (λ m. ap (λ z. cond z (Look (read.declared_in_body_by x m)) (Look (read.specified_by x m))) b) f
+
+  in_body_by_specification : (ts : Tokens) (q : Reading BodyItem) → next_is begins_declaration ts ≡ false → Reads (read.specified_by x) ts q → Reads (read.body_item_by x) ts q
+  in_body_by_specification [] q b f = record { by = λ m h. f.by m h }
+  in_body_by_specification (t ∷ us) q b f = looks Refuse (read.body_item_turn x) t us (read.specified_by x) (λ m. ap (λ z. cond z (Look (read.declared_in_body_by x m)) (Look (read.specified_by x m))) b) f
+
+  pub in_body_declaration : (ts rest : Tokens) (d : Declaration) → next_is begins_declaration ts ≡ true → Reads (declaration_by x) ts (Got d rest) → length rest < length ts → Reads (read.body_item_by x) ts (Got (body_item.Declared (package_item.Declaration d)) rest)
+  in_body_declaration ts rest d b r l = in_body_by_declaration ts _ b (both declares_in_body r (omega arith) (done _ rest))
+
+  pub in_body_declaration_fail : (ts rest : Tokens) → next_is begins_declaration ts ≡ true → Reads (declaration_by x) ts (Stuck rest) → Reads (read.body_item_by x) ts (Stuck rest)
+  in_body_declaration_fail ts rest b r = in_body_by_declaration ts _ b (first_fails declares_in_body r)
+
+  pub in_body_specified : (ts us : Tokens) (s : Specification) (q : Reading BodyItem) → next_is begins_declaration ts ≡ false → Reads (specification_by x) ts (Got s us) → length us < length ts → Reads (at.at_specified x s) us q → Reads (read.body_item_by x) ts q
+  in_body_specified ts us s q b r l f = in_body_by_specification ts q b (both (read.specified_rest x) r (omega arith) f)
+
+  pub in_body_specified_fail : (ts rest : Tokens) → next_is begins_declaration ts ≡ false → Reads (specification_by x) ts (Stuck rest) → Reads (read.body_item_by x) ts (Stuck rest)
+  in_body_specified_fail ts rest b r = in_body_by_specification ts _ b (first_fails (read.specified_rest x) r)
+
+  -- a list of items
+  abbrev pub package_turns : ℕ → Symbol → Token → List PackageItem → Turn (List PackageItem)
+  package_turns = read.package_items_turn x
+
+  abbrev package_more : List PackageItem → ℕ → Reader (List PackageItem)
+  package_more is m = read.package_item_by x m >>= λ i. got (is ++ i ∷ [])
+
+  pub package_items_begin : (ts : Tokens) (q : Reading (List PackageItem)) → More package_turns ts [] q → Reads (read.package_items_by x) ts q
+  package_items_begin ts q f = record { by = λ m h. f.by m (suc m) h (omega arith) }
+
+  pub package_items_step : (ts rest : Tokens) (is : List PackageItem) (i : PackageItem) → next_is read.begins_item ts ≡ true → Reads (read.package_item_by x) ts (Got i rest) → length rest < length ts → (q : Reading (List PackageItem)) → More package_turns rest (is ++ i ∷ []) q → More package_turns ts is q
+  package_items_step [] rest is i b r l q f = absurd (false≢true b)
+  package_items_step (t ∷ us) rest is i b r l q f = more_look package_turns is (is ++ i ∷ []) t us rest (package_more is) q (λ m. ap (λ z. cond z (Look (package_more is m)) (Leave is)) b) (λ m h. got_then (λ z. is ++ z ∷ []) (r.by m h)) l f
+
+  pub package_items_step_fail : (ts rest : Tokens) (is : List PackageItem) → next_is read.begins_item ts ≡ true → Reads (read.package_item_by x) ts (Stuck rest) → More package_turns ts is (Stuck rest)
+  package_items_step_fail [] rest is b r = absurd (false≢true b)
+  package_items_step_fail (t ∷ us) rest is b r = more_look_stuck package_turns is t us rest (package_more is) (λ m. ap (λ z. cond z (Look (package_more is m)) (Leave is)) b) (λ m h. ap (goes_on (λ z. got (is ++ z ∷ []))) (r.by m h))
+
+  pub package_items_end : (ts : Tokens) (is : List PackageItem) → next_is read.begins_item ts ≡ false → More package_turns ts is (Got is ts)
+  package_items_end [] is b = more_end package_turns is
+  package_items_end (t ∷ us) is b = more_leave package_turns is t us (λ m. ap (λ z. cond z (Look (package_more is m)) (Leave is)) b)
+
+  -- a list of items
+  abbrev pub body_turns : ℕ → Symbol → Token → List BodyItem → Turn (List BodyItem)
+  body_turns = read.body_items_turn x
+
+  abbrev body_more : List BodyItem → ℕ → Reader (List BodyItem)
+  body_more is m = read.body_item_by x m >>= λ i. got (is ++ i ∷ [])
+
+  pub body_items_begin : (ts : Tokens) (q : Reading (List BodyItem)) → More body_turns ts [] q → Reads (read.body_items_by x) ts q
+  body_items_begin ts q f = record { by = λ m h. f.by m (suc m) h (omega arith) }
+
+  pub body_items_step : (ts rest : Tokens) (is : List BodyItem) (i : BodyItem) → next_is read.begins_item ts ≡ true → Reads (read.body_item_by x) ts (Got i rest) → length rest < length ts → (q : Reading (List BodyItem)) → More body_turns rest (is ++ i ∷ []) q → More body_turns ts is q
+  body_items_step [] rest is i b r l q f = absurd (false≢true b)
+  body_items_step (t ∷ us) rest is i b r l q f = more_look body_turns is (is ++ i ∷ []) t us rest (body_more is) q (λ m. ap (λ z. cond z (Look (body_more is m)) (Leave is)) b) (λ m h. got_then (λ z. is ++ z ∷ []) (r.by m h)) l f
+
+  pub body_items_step_fail : (ts rest : Tokens) (is : List BodyItem) → next_is read.begins_item ts ≡ true → Reads (read.body_item_by x) ts (Stuck rest) → More body_turns ts is (Stuck rest)
+  body_items_step_fail [] rest is b r = absurd (false≢true b)
+  body_items_step_fail (t ∷ us) rest is b r = more_look_stuck body_turns is t us rest (body_more is) (λ m. ap (λ z. cond z (Look (body_more is m)) (Leave is)) b) (λ m h. ap (goes_on (λ z. got (is ++ z ∷ []))) (r.by m h))
+
+  pub body_items_end : (ts : Tokens) (is : List BodyItem) → next_is read.begins_item ts ≡ false → More body_turns ts is (Got is ts)
+  body_items_end [] is b = more_end body_turns is
+  body_items_end (t ∷ us) is b = more_leave body_turns is t us (λ m. ap (λ z. cond z (Look (body_more is m)) (Leave is)) b)
+
+pub ruleset begin_rules = (begins_with_declaration, begins_with_specification)
+
+pub ruleset package_item_rules = (item_declaration, item_declaration_fail, item_specification, item_specification_fail, item_specification_open)
+
+pub ruleset specified_rules = (nothing_specified, specified_alone, specified_body, specified_body_fail, not_specified)
+
+pub ruleset body_item_rules = (in_body_declaration, in_body_declaration_fail, in_body_specified, in_body_specified_fail)
+
+pub ruleset package_items_rules = (package_items_begin, package_items_step, package_items_step_fail, package_items_end)
+
+pub ruleset body_items_rules = (body_items_begin, body_items_step, body_items_step_fail, body_items_end)

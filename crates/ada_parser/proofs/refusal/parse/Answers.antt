@@ -1,8 +1,0 @@
-use Rattle.expression_parser.specs.declared.extent.Extent.TheVariants.{StraightLine}
-use Rattle.ada_parser.proofs.RefusalLaws.{is_refused}
-use Rattle.ada_parser.proofs.refusal.parse.Goals as goal
-
-pub returns-in-Err-Syntax-clause-refused : goal.returns-in-Err-Syntax-clause-refused
-returns-in-Err-Syntax-clause-refused c =
-    let h = rw c.in-Err-Syntax.field-0-is at c.in-Err-Syntax.ensures in
-    is_refused StraightLine c.args.tokens.now c.in-Err-Syntax.rest.now c.refused_at.result h c.refused_at.ensures

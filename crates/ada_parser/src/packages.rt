@@ -1,0 +1,135 @@
+//! Packages, their bodies, and generic packages and their instances (Ada RM 2012, 7.1, 7.2, 12.1, 12.3).
+
+ghost use Rattle.std.specs.Prelude.{◌<◌, ◌≤◌, length, Option, IfOk};
+ghost use Rattle.expression_parser.specs.Shows.{Shows, ShowsAs, Reads};
+ghost use Rattle.ada_parser.specs.UnitReading as read;
+ghost use Rattle.ada_parser.specs.UnitDepth as at;
+
+use crate::contexts::end;
+use crate::items::{body_items, package_items};
+use ada_lexer::Token;
+use ada_syntax::{
+    Expr, Formal, Identifier, Instance, LibraryItem, PackageBody, PackageSpecification,
+};
+use cov_base::Seq;
+use declaration_parser::formals;
+use expression_parser::{Extent, Fault, Parsed, Parser, Symbol, behind, symbol_in, word};
+
+/// `[( expr {, expr} )]`
+#[tactic(auto, using(crate::proofs::PackageCode::actuals_rules))]
+fn actuals<'a>(parser: Parser, tokens: &'a [Token]) -> Parsed<'a, Vec<Expr>>
+    ensures reads { ShowsAs (λ v. v.items) (Reads (read.actuals_by parser.extent) tokens.now) result }
+    ensures no_longer { IfOk result (λ x. length x.1.now ≤ length tokens.now) }
+{
+    let Some(after) = behind(Symbol::LeftParenthesis, tokens) else {
+        return Ok((Vec::new(parser.alloc), tokens));
+    };
+    let (actuals, rest) = parser.exprs(after)?;
+    let rest = word(Symbol::RightParenthesis, rest)?;
+    Ok((actuals, rest))
+}
+
+/// `id [( expr {, expr} )] ;` behind `NEW`, of the instance of this name
+#[tactic(auto, using(crate::proofs::PackageCode::instance_rules))]
+fn instance<'a>(parser: Parser, name: Identifier, tokens: &'a [Token]) -> Parsed<'a, LibraryItem>
+    ensures reads { Shows (Reads (at.at_instance parser.extent name) tokens.now) result }
+    ensures shorter { IfOk result (λ x. length x.1.now < length tokens.now) }
+{
+    let (generic_name, rest) = parser.identifier(tokens)?;
+    let (actuals, rest) = actuals(parser, rest)?;
+    let rest = word(Symbol::Semicolon, rest)?;
+    let instance = Instance {
+        name,
+        generic_name,
+        actuals: Seq::from(actuals),
+    };
+    Ok((LibraryItem::Instance(instance), rest))
+}
+
+/// `{decl} END [id] ;` of the package of this name, with its formals where it is generic
+#[tactic(auto, using(crate::proofs::PackageCode::package_rest_rules))]
+fn package_rest<'a>(
+    parser: Parser,
+    formals: Option<Seq<Formal>>,
+    name: Identifier,
+    tokens: &'a [Token],
+) -> Parsed<'a, LibraryItem>
+    ensures reads { Shows (Reads (at.at_package parser.extent formals name) tokens.now) result }
+    ensures shorter { IfOk result (λ x. length x.1.now < length tokens.now) }
+{
+    let (items, rest) = package_items(parser, tokens)?;
+    let (end_name, rest) = end(parser, rest)?;
+    let package = PackageSpecification {
+        formals,
+        name,
+        items: Seq::from(items),
+        end_name,
+    };
+    Ok((LibraryItem::Package(package), rest))
+}
+
+/// `NEW id [( expr {, expr} )] ; | {decl} END [id] ;` of this name. Instances come with
+/// [`Extent::Generics`].
+#[tactic(auto, using(crate::proofs::PackageCode::package_or_instance_rules))]
+fn package_or_instance<'a>(
+    parser: Parser,
+    name: Identifier,
+    tokens: &'a [Token],
+) -> Parsed<'a, LibraryItem>
+    ensures reads { Shows (Reads (at.at_package_or_instance parser.extent name) tokens.now) result }
+    ensures shorter { IfOk result (λ x. length x.1.now < length tokens.now) }
+{
+    let Some((token, rest)) = tokens.split_first() else {
+        return Err(Fault::Syntax(tokens));
+    };
+    if symbol_in(token.lexeme) != Symbol::New {
+        return package_rest(parser, None, name, tokens);
+    }
+    parser.needs(Extent::Generics, tokens)?;
+    instance(parser, name, rest)
+}
+
+/// `id IS {decl | body} END [id] ;` behind `BODY`
+#[tactic(auto, using(crate::proofs::PackageCode::package_body_rules))]
+fn package_body<'a>(parser: Parser, tokens: &'a [Token]) -> Parsed<'a, LibraryItem>
+    ensures reads { Shows (Reads (read.package_body_by parser.extent) tokens.now) result }
+    ensures shorter { IfOk result (λ x. length x.1.now < length tokens.now) }
+{
+    let (name, rest) = parser.identifier(tokens)?;
+    let rest = word(Symbol::Is, rest)?;
+    let (items, rest) = body_items(parser, rest)?;
+    let (end_name, rest) = end(parser, rest)?;
+    let body = PackageBody {
+        name,
+        items: Seq::from(items),
+        end_name,
+    };
+    Ok((LibraryItem::PackageBody(body), rest))
+}
+
+/// What stands behind `PACKAGE`.
+#[tactic(auto, using(crate::proofs::PackageCode::package_rules))]
+pub fn package<'a>(parser: Parser, tokens: &'a [Token]) -> Parsed<'a, LibraryItem>
+    ensures reads { Shows (Reads (read.package_by parser.extent) tokens.now) result }
+    ensures shorter { IfOk result (λ x. length x.1.now < length tokens.now) }
+{
+    if let Some(rest) = behind(Symbol::Body, tokens) {
+        return package_body(parser, rest);
+    }
+    let (name, rest) = parser.identifier(tokens)?;
+    let rest = word(Symbol::Is, rest)?;
+    package_or_instance(parser, name, rest)
+}
+
+/// `{formal} PACKAGE id IS {decl} END [id] ;` behind `GENERIC`
+#[tactic(auto, using(crate::proofs::PackageCode::generic_rules))]
+pub fn generic<'a>(parser: Parser, tokens: &'a [Token]) -> Parsed<'a, LibraryItem>
+    ensures reads { Shows (Reads (read.generic_by parser.extent) tokens.now) result }
+    ensures shorter { IfOk result (λ x. length x.1.now < length tokens.now) }
+{
+    let (formals, rest) = formals(parser, tokens)?;
+    let rest = word(Symbol::Package, rest)?;
+    let (name, rest) = parser.identifier(rest)?;
+    let rest = word(Symbol::Is, rest)?;
+    package_rest(parser, Some(Seq::from(formals)), name, rest)
+}

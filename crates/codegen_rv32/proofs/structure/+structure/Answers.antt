@@ -1,0 +1,74 @@
+use Rattle.std.proofs.Common.{ap, arith}
+use Rattle.std.proofs.lemmas.Result.{on_ok_weaker}
+use Rattle.kernel_ir.specs.Tree.{op_size}
+use Rattle.kernel_ir.specs.TreeView.{op_of, nodes_of}
+use Rattle.kernel_ir.proofs.SizeLaws.{op_within}
+use Rattle.simple_code.specs.Set.{setting_of}
+use Rattle.codegen_rv32.specs.Set.{targets_of}
+use Rattle.codegen_rv32.proofs.Behind.{choose_put, repeat_put, catch_put, decide_put, node_put, node_of_slice, rest_smaller}
+use Rattle.codegen_rv32.proofs.structure.+structure.Goals as goal
+
+pub put_operations-put_operation-requires : goal.put_operations-put_operation-requires
+put_operations-put_operation-requires t c = (
+  omega (
+    arith,
+    c.decreases,
+    op_within c.args.ops.now c.loop-op.op-index c.op-item.result (omega arith),
+    ap
+        (λ x. op_size (op_of x)) c.op-item.is,
+  ),
+  tt,
+)
+
+pub put_choose-returns : goal.put_choose-returns
+put_choose-returns t c =
+    on_ok_weaker c.put_code-2.result
+    (choose_put (setting_of c.args.frame.now)
+    (targets_of c.args.targets) c.args.place c.args.slot c.args.if_true.now c.args.if_false.now _ _ _ _ _ _ _ _ _ _ _
+    c.in_ok-first.ensures c.in_ok-second.ensures c.in_ok-inside.ensures c.in_ok-behind.ensures c.in_ok-otherwise.ensures
+    c.in_ok-past.ensures
+    c.in_ok-put_test.ensures c.in_ok-put_code.ensures c.in_ok-jump.ensures)
+    c.put_code-2.ensures
+
+pub put_repeat-returns : goal.put_repeat-returns
+put_repeat-returns t c =
+    on_ok_weaker c.jump.result
+    (repeat_put (setting_of c.args.frame.now) (targets_of c.args.targets) c.args.place c.args.body.now _ _ _ _ _ _
+    c.in_ok-length.ensures c.in_ok-end.ensures c.in_ok-past.ensures c.in_ok-put_code.ensures)
+    c.jump.ensures
+
+pub put_catch-returns : goal.put_catch-returns
+put_catch-returns t c =
+    on_ok_weaker c.put_code-2.result
+    (catch_put (setting_of c.args.frame.now)
+    (targets_of c.args.targets) c.args.place c.args.slot c.args.body.now c.args.handler.now _ _ _ _ _ _ _ _ _ _
+    c.in_ok-first.ensures c.in_ok-second.ensures c.in_ok-end.ensures c.in_ok-caught.ensures c.in_ok-handled.ensures c.in_ok-past.ensures
+    c.in_ok-put_code.ensures c.in_ok-enter_handler.ensures)
+    c.put_code-2.ensures
+
+pub put_decide-returns : goal.put_decide-returns
+put_decide-returns t c =
+    on_ok_weaker c.set_outcome.result
+    (decide_put (setting_of c.args.frame.now) (targets_of c.args.targets) c.args.place c.args.slot c.args.decision c.args.instance
+    (nodes_of c.args.nodes.now) _ _ _ _ _ _ _
+    c.in_ok-length.ensures c.in_ok-true_at.ensures c.in_ok-false_at.ensures c.in_ok-past.ensures c.in_ok-put_nodes.ensures)
+    c.set_outcome.ensures
+
+pub put_nodes-put_nodes-requires : goal.put_nodes-put_nodes-requires
+put_nodes-put_nodes-requires t c =
+    (omega (arith, c.decreases, rest_smaller c.args.nodes.now c.in-Some.node.now c.in-Some.following.now c.in-Some.ensures.cases.0), tt)
+
+pub put_nodes-returns : goal.put_nodes-returns
+put_nodes-returns t c =
+    let v = c.args.evaluation in
+    on_ok_weaker c.put_nodes.result
+    (λ h. node_of_slice (setting_of c.args.frame.now)
+    (targets_of c.args.targets) v.true_at v.false_at v.decision v.instance c.args.number c.args.place
+    c.args.nodes.now c.in-Some.node.now c.in-Some.following.now _ _ c.in-Some.ensures.cases.0
+    (node_put (setting_of c.args.frame.now) (targets_of c.args.targets) v.true_at v.false_at v.decision v.instance c.args.number
+    c.in_ok-after.after c.args.place c.in-Some.node.now.slot
+    c.in-Some.node.now.operand c.in-Some.node.now.on_true c.in-Some.node.now.on_false
+    (nodes_of c.in-Some.following.now) _ _ _ _ _ _ _ _ _ _
+    c.in_ok-length.ensures c.in_ok-end.ensures c.in_ok-taken.ensures c.in_ok-next.ensures c.in_ok-after.ensures
+    c.in_ok-on_true.ensures c.in_ok-on_false.ensures c.in_ok-put_code.ensures c.in_ok-put_condition.ensures h))
+    c.put_nodes.ensures

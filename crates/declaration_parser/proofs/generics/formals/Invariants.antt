@@ -1,0 +1,16 @@
+use Rattle.std.proofs.Common.{◌≤◌, length, List}
+use Rattle.ada_syntax.specs.declared.unit.Formal.{Formal}
+use Rattle.declaration_parser.specs.FormalReading as read
+use Rattle.expression_parser.specs.Reading.{Reading}
+use Rattle.expression_parser.specs.Shows.{Reads, More}
+use Rattle.declaration_parser.proofs.generics.formals.Given as goal
+
+-- what is read from here is what is read from the beginning
+abbrev pub invariant-rest : goal.invariant-rest
+invariant-rest l = record {
+  reads : (q : Reading (List Formal)) → More (read.formals_turn l.parser.extent) l.rest l.formals.items q → Reads (read.formals_by l.parser.extent) l.tokens q;
+  shorter : length l.rest ≤ length l.tokens;
+}
+
+abbrev pub decreases-rest : goal.decreases-rest
+decreases-rest l = length l.rest

@@ -1,0 +1,8 @@
+use Rattle.std.proofs.lemmas.Result.{err_from_is_err_and}
+use Rattle.declaration_parser.proofs.ValueCode.{arrow_fault}
+use Rattle.declaration_parser.proofs.values.+within.Goals as goal
+
+pub returns-in_err-rest-clause-reads : goal.returns-in_err-rest-clause-reads
+returns-in_err-rest-clause-reads t c =
+    let p = err_from_is_err_and c.from_residual-in_err-rest.result c.from_residual-in_err-rest.ensures.1 in
+    rw (p.1, p.2) (arrow_fault c.args.parser.extent c.args.others.items c.in-Some.pos c.args.tokens.now c.in-Some.rest.now c.in_err-rest.field-0.0 c.in-Some.ensures c.in_err-rest.ensures)

@@ -1,0 +1,17 @@
+use Rattle.std.proofs.Common.{List, length, ap, sym, subst, arith}
+use Rattle.ada_syntax.specs.declared.name.Identifier.{Identifier}
+use Rattle.expression_parser.specs.declared.symbol.Symbol.TheVariants as symbol
+use Rattle.declaration_parser.specs.Identifiers as read
+use Rattle.expression_parser.specs.Shows.{More}
+use Rattle.expression_parser.proofs.NameCode.{after_some}
+use Rattle.declaration_parser.proofs.WordCode.{identifiers_step}
+use Rattle.declaration_parser.proofs.words.identifiers.Goals as goal
+
+pub loop-after-preserved : goal.loop-after-preserved
+loop-after-preserved c = record {
+  reads = λ q f.
+      c.loop-after.invariant.reads q
+      (identifiers_step c.loop-after.rest.now c.in-Some.after.now c.in_ok-identifier.next.now c.loop-after.identifiers.items c.in_ok-identifier.identifier (sym c.in-Some.ensures) c.in_ok-identifier.ensures q
+      (subst (λ (z : List Identifier). More read.identifiers_turns c.in_ok-identifier.next.now z q) c.in_ok-push-2.ensures.items f));
+  shorter = omega (arith, c.loop-after.invariant.shorter, c.in_ok-identifier.ensures.shorter, ap length (after_some symbol.Comma c.loop-after.rest.now c.in-Some.after.now (sym c.in-Some.ensures)).here);
+}

@@ -1,0 +1,11 @@
+pub mod Spelling
+pub mod Identifiers
+pub mod Subtypes
+pub mod Specifications
+pub mod Declarations
+pub mod Formals
+pub mod SubtypeReading
+pub mod DeclarationReading
+pub mod FormalReading
+pub mod Answers
+pub mod NodeTokens

@@ -1,0 +1,129 @@
+//! What a run of an image shows.
+
+ghost use Rattle.std.specs.Prelude.{◌+◌, ◌*◌, ◌≤◌, IsTrue, length};
+ghost use Rattle.rv_semantics.specs.Layout.{memory_bytes};
+
+use cov_base::Seq;
+use line_table::RoleKind;
+use linker::Image;
+use rv_machine::Machine;
+use rv_semantics::{MEMORY_BYTES, Seen, Stepped, TEXT_START};
+use std::alloc::{AllocError, Global};
+
+/// What an executed instruction tells.
+#[derive(Clone, Copy, Debug, PartialEq, Eq)]
+pub enum Told {
+    /// A statement starts.
+    Starts {
+        statement: u32,
+    },
+    /// A condition of a decision has a value.
+    Decides {
+        decision: u32,
+        condition: u8,
+        holds: bool,
+    },
+}
+
+/// What a run leaves: the number that it ended with, where it neither trapped nor went over its
+/// budget; the words that were put; what its instructions told, in order; and how many were executed.
+#[derive(Debug, Drop)]
+pub struct Shown {
+    pub ending: Option<u32>,
+    pub put: Seq<i32>,
+    pub told: Seq<Told>,
+    pub executed: u32,
+}
+
+/// Runs an image that has so many exceptions on an input, for at most `budget` instructions. None
+/// where the image does not lie in memory.
+pub fn run(
+    alloc: Global,
+    image: &Image,
+    exceptions: usize,
+    input: &[i32],
+    budget: u32,
+) -> Result<Option<Shown>, AllocError> {
+    let text = image.text.as_slice();
+    let init = image.init.as_slice();
+    if !lies_in_memory(TEXT_START, text) || !lies_in_memory(image.init_at, init) {
+        return Ok(None);
+    }
+    let machine = Machine::of_image(alloc, image.entry, text, image.init_at, init, exceptions)?;
+    Ok(Some(walk(alloc, image, machine, input, budget)?))
+}
+
+/// What a machine with the text of an image shows.
+fn walk(
+    alloc: Global,
+    image: &Image,
+    mut machine: Machine<'_>,
+    input: &[i32],
+    budget: u32,
+) -> Result<Shown, AllocError> {
+    let mut unread = input.iter();
+    let (mut put, mut told) = (Vec::new(alloc), Vec::new(alloc));
+    let (mut ending, mut executed) = (None, 0);
+    for done in 0..budget {
+        let stepped = machine.step();
+        let Some(seen) = seen_in(stepped) else {
+            break;
+        };
+        executed = done + 1;
+        if let Some(event) = told_at(image, seen) {
+            told.push(event)?;
+        }
+        match stepped {
+            Stepped::Get(_) => machine.give(unread.next().copied()),
+            Stepped::Put(_, word) => put.push(word)?,
+            Stepped::End(_, number) => ending = Some(number),
+            Stepped::Went(_) | Stepped::Trap { .. } => {}
+        }
+        if ending.is_some() {
+            break;
+        }
+    }
+    Ok(Shown {
+        ending,
+        put: Seq::from(put),
+        told: Seq::from(told),
+        executed,
+    })
+}
+
+/// Whether words that stand from an address on lie in memory.
+fn lies_in_memory(address: u32, words: &[u32]) -> bool
+    ensures { IsTrue result → address + 4 * length words.now ≤ memory_bytes }
+{
+    match MEMORY_BYTES.checked_sub(address) {
+        Some(bytes) => words.len() <= (bytes / 4) as usize,
+        None => false,
+    }
+}
+
+/// What was seen of a step, unless it trapped.
+fn seen_in(stepped: Stepped) -> Option<Seen> {
+    match stepped {
+        Stepped::Went(seen) | Stepped::Get(seen) | Stepped::Put(seen, _) | Stepped::End(seen, _) =>
+            Some(seen),
+        Stepped::Trap { .. } => None,
+    }
+}
+
+/// What an executed instruction tells by its row or its role.
+fn told_at(image: &Image, seen: Seen) -> Option<Told> {
+    if let Some(row) = image.rows.at(seen.pc) {
+        return Some(Told::Starts {
+            statement: row.statement.0,
+        });
+    }
+    let role = image.roles.at(seen.pc)?;
+    if role.kind != RoleKind::CONDITION {
+        return None;
+    }
+    Some(Told::Decides {
+        decision: role.decision.0,
+        condition: role.condition.0,
+        holds: seen.edge? == (role.value == 1),
+    })
+}
