@@ -10,3 +10,4 @@ pub mod ItemCode
 pub mod PackageCode
 pub mod UnitCode
 pub mod UnitSuffixes
+mod Examples
