@@ -10,7 +10,7 @@ use std::test::Fail;
 /// Line and column at which a source is refused; none where it is taken. Sources here have tokens.
 fn refusal(alloc: Global, extent: Extent, source: &str) -> Result<Option<(u32, u32)>, AllocError> {
     let bytes = source.as_bytes();
-    if bytes.len() >= 100_000 {
+    if bytes.len() > 1_048_576 {
         return Ok(Some((0, 0)));
     }
     let Ok(tokens) = lex(alloc, 0, bytes) else {
@@ -146,18 +146,21 @@ fn each_beginning_of_a_file_is_refused(rt: HostRuntime) -> Result<(), Fail> {
     Ok(())
 }
 
-/// A part, many times, between a beginning and an end.
+/// A part, as often as a source of the greatest size has room for it, between a beginning and an end.
 fn many(alloc: Global, before: &str, part: &str, after: &str) -> Result<String, AllocError> {
     let mut source = String::new(alloc);
     source.push_str(before)?;
-    for _ in 0..2000 {
+    let rest = 1_048_576usize
+        .saturating_sub(before.len())
+        .saturating_sub(after.len());
+    for _ in 0..rest / part.len().max(1) {
         source.push_str(part)?;
     }
     source.push_str(after)?;
     Ok(source)
 }
 
-static CHAINS: [(&str, &str, &str); 4] = [
+static CHAINS: [(&str, &str, &str); 7] = [
     ("procedure P is begin ", "null; ", "end;"),
     (
         "procedure P is begin if A then null; ",
@@ -166,9 +169,16 @@ static CHAINS: [(&str, &str, &str); 4] = [
     ),
     ("procedure P is ", "X : T; ", "begin null; end;"),
     ("", "procedure P is begin null; end; ", ""),
+    ("procedure P is begin X := 1", " + 1", "; end;"),
+    ("procedure P is begin X := A", ".A", "; end;"),
+    (
+        "procedure P is begin if A",
+        " and then A",
+        " then null; end if; end;",
+    ),
 ];
 
-/// Long chains take no stack.
+/// Chains of a megabyte take no stack, also where their trees are dropped.
 #[test]
 fn long_files_are_taken(rt: HostRuntime) -> Result<(), Fail> {
     for (before, part, after) in &CHAINS {

@@ -97,3 +97,19 @@ fn a_source_has_1048576_bytes_at_most(rt: HostRuntime) -> Result<(), Fail> {
     assert!(rt; fault == fault_of(1, 1, 1, Why::Limit).map(Failure::Fault));
     Ok(())
 }
+
+/// However deep they nest, no stack is taken.
+#[test]
+fn deep_tokens_are_refused(rt: HostRuntime) -> Result<(), Fail> {
+    let alloc = rt.alloc();
+    let mut bytes = Vec::new(alloc);
+    bytes.resize(100_000, b'(')?;
+    let mut sources = files(alloc, &[])?;
+    sources.push(SourceFile {
+        name: Bytes::from(Vec::new(alloc)),
+        bytes: Bytes::from(bytes),
+    })?;
+    let fault = units(alloc, sources.as_slice()).err();
+    assert!(rt; fault == fault_of(0, 1, 65, Why::Limit).map(Failure::Fault));
+    Ok(())
+}
