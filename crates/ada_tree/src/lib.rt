@@ -10,9 +10,11 @@
 #![tactic(auto)]
 
 mod expr;
+mod laws;
 mod program;
 mod statement;
 
 pub use expr::{Actual, Callee, Expr, ExprKind, Owner};
+pub use laws::views_keep_their_parts;
 pub use program::{Program, Subprogram, UnitEntry};
 pub use statement::{Block, Label, Statement, StatementKind};
