@@ -1,4 +1,6 @@
 pub mod TypeCode
 pub mod ExprCode
 pub mod StmtCode
+pub mod Sizes
 pub mod View
+pub mod SizeLaws

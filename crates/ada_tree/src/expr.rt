@@ -1,5 +1,7 @@
 //! Expressions and calls (Ada RM 2012, 4.4, 6.4).
 
+use crate::types::{Operator, Range, Sign, Static};
+use std::alloc::{AllocError, Global};
 use std::marker::Model;
 
 /// Whose entity a name denotes.
@@ -9,6 +11,13 @@ pub enum Owner {
     Here,
     /// That of the instance with this number; 0 is all that is in no generic.
     Instance(u32),
+}
+
+/// An object by its declaration.
+#[derive(Clone, Copy, Debug, PartialEq, Eq)]
+pub enum Object {
+    /// The object with this number among those of the subprogram that is executed.
+    Local(u32),
 }
 
 /// What a call names (RM 6.4).
@@ -26,6 +35,7 @@ pub enum Callee {
 
 /// An expression.
 #[derive(Debug, Drop)]
+#[cycle(expr)]
 pub struct Expr {
     pub kind: ExprKind,
 }
@@ -38,16 +48,100 @@ impl Model for Expr {
 
     ghost coded = { coded_expr };
 
-    ghost use Rattle.ada_tree.specs.View.{expr_of};
+    ghost use Rattle.std.specs.Prelude.{IsTrue};
+    ghost use Rattle.ada_tree.specs.Sizes.{expr_size};
+    ghost use Rattle.ada_tree.specs.View.{expr_of, has_operators};
 
     ghost view = { expr_of };
+
+    ghost invariant = { λ e. IsTrue (has_operators e.kind) };
+
+    ghost size = { expr_size };
+
+    ghost use Rattle.ada_tree.specs.SizeLaws.{expr_is_larger};
+
+    ghost size_decreases = { λ a h. expr_is_larger a h };
+}
+
+impl Expr {
+    ghost use Rattle.std.specs.Prelude.{◌≡◌, IfOk};
+    ghost use Rattle.ada_meaning.specs.Tree as tree;
+    ghost use Rattle.ada_tree.specs.View.{static_of, object_of, sign_of, with_operands};
+
+    /// A numeral.
+    pub fn literal(value: i32) -> Expr
+        ensures { result ≡ tree.literal value }
+    {
+        Expr {
+            kind: ExprKind::Literal(value),
+        }
+    }
+
+    /// A static expression that is no numeral.
+    pub fn constant(value: Static) -> Expr
+        ensures { result ≡ tree.constant (static_of value) }
+    {
+        Expr {
+            kind: ExprKind::Constant(value),
+        }
+    }
+
+    /// The value of an object.
+    pub fn read(object: Object) -> Expr
+        ensures { result ≡ tree.read (object_of object) tree.whole }
+    {
+        Expr {
+            kind: ExprKind::Read(object),
+        }
+    }
+
+    /// An operator, and its one operand.
+    pub fn signed(alloc: Global, sign: Sign, operand: Expr) -> Result<Expr, AllocError>
+        ensures { IfOk result (λ e. e ≡ tree.signed (sign_of sign) operand) }
+    {
+        let operand = Box::new(alloc, operand)?;
+        Ok(Expr {
+            kind: ExprKind::Signed(sign, operand),
+        })
+    }
+
+    /// A first operand, and the operators and operands right of it, if there are any.
+    pub fn operations(alloc: Global, first: Expr, others: Vec<Operand>) -> Result<Expr, AllocError>
+        ensures { IfOk result (λ e. e ≡ with_operands first others.items) }
+    {
+        if others.is_empty() {
+            return Ok(first);
+        }
+        let first = Box::new(alloc, first)?;
+        Ok(Expr {
+            kind: ExprKind::Operations(first, others),
+        })
+    }
 }
 
 /// The forms of an expression.
 #[derive(Debug, Drop)]
+#[cycle(expr)]
 pub enum ExprKind {
     /// A numeral, or the position number of an enumeration literal (RM 2.4, 3.5.1).
     Literal(i32),
+    /// An attribute of a type (RM 3.5).
+    Constant(Static),
+    /// The value of an object (RM 4.1).
+    Read(Object),
+    /// An operator with one operand (RM 4.5.4, 4.5.6).
+    Signed(Sign, Box<Expr>),
+    /// Operators with two operands, which group to the left (RM 4.5): the first operand, and at least
+    /// one operator with what stands right of it. So a long chain nests no deeper than a short one.
+    Operations(Box<Expr>, Vec<Operand>),
+}
+
+/// An operator and what stands right of it.
+#[derive(Debug, Drop)]
+#[cycle(expr)]
+pub struct Operand {
+    pub operator: Operator,
+    pub operand: Expr,
 }
 
 /// An actual parameter (RM 6.4.1).
@@ -55,4 +149,6 @@ pub enum ExprKind {
 pub enum Actual {
     /// An expression, for a scalar parameter of mode in.
     Expression(Expr),
+    /// A variable and its subtype, for a scalar parameter of another mode.
+    Variable(Object, Range),
 }

@@ -1,6 +1,7 @@
-//! Statements and blocks (Ada RM 2012, 5, 6.3).
+//! Declarations, statements and blocks (Ada RM 2012, 3.3.1, 5, 6.3).
 
-use crate::expr::{Actual, Callee};
+use crate::expr::{Actual, Callee, Expr, Object};
+use crate::types::{Range, Subtype};
 use cov_base::{Pos, Seq};
 use std::marker::Model;
 
@@ -9,6 +10,21 @@ use std::marker::Model;
 pub struct Label {
     pub number: u32,
     pub place: Pos,
+}
+
+/// What an object is set to.
+#[derive(Debug, Drop)]
+pub enum NewValue {
+    /// An expression, for a scalar object of this subtype.
+    Scalar(Range, Expr),
+}
+
+/// A declaration of an object (RM 3.3.1), by its number among those of the subprogram.
+#[derive(Debug, Drop)]
+pub enum Declaration {
+    /// With an initial value, and so a statement obligation.
+    Initialized(Label, u32, NewValue),
+    WithoutValue(u32, Subtype),
 }
 
 /// A statement.
@@ -35,15 +51,18 @@ impl Model for Statement {
 pub enum StatementKind {
     /// `null;` (RM 5.1)
     Null(Label),
+    /// An assignment (RM 5.2).
+    Assignment(Label, Object, NewValue),
     /// A call of a procedure (RM 6.4).
     Call(Label, Callee, Seq<Actual>),
     /// `return;` (RM 6.5)
     Return(Label),
 }
 
-/// The statements of a body or of a block statement (RM 5.6, 6.3).
+/// The declarations and statements of a body or of a block statement (RM 5.6, 6.3).
 #[derive(Debug, Drop)]
 pub struct Block {
+    pub declarations: Seq<Declaration>,
     pub statements: Seq<Statement>,
 }
 

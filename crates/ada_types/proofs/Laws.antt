@@ -1,31 +1,35 @@
--- What is refused is not legal: a construct that passes a step has parts that pass it.
-use Rattle.std.proofs.lemmas.Bool.{false≢true}
-use Rattle.std.proofs.Common.{◌≡◌, drop, ℕ, ◌+◌, Bool, true, false, ◌&&◌, List, [], ◌∷◌, map, Option, Some, None, option_map, is_some, refl, sym, ap, ◌∙◌, if◌then◌else◌}
-use Rattle.std.specs.Option.{option_and_then}
+-- What is refused is not legal: a construct that passes its case has parts that pass theirs.
+use Rattle.std.proofs.Common.{◌≡◌, ℕ, ◌+◌, drop, Bool, true, false, ◌&&◌, List, [], ◌∷◌, Option, Some, None, option_map, is_some, refl, sym, ◌∙◌, if◌then◌else◌}
 use Rattle.std.specs.List.{list_all}
+use Rattle.std.specs.Option.{option_and_then}
 use Rattle.std.specs.Str.{str_to_ascii_lowercase}
-use Rattle.std.proofs.lemmas.List.Folds.{list_all-append, list_all-map}
+use Rattle.std.proofs.lemmas.Bool.{false≢true}
 use Rattle.cov_base.specs.declared.position.Pos.{Pos}
 use Rattle.cov_base.specs.declared.failure.Failure.TheVariants.{Fault}
-use Rattle.ada_syntax.specs.Tree.{Expr, Exprs, no_exprs, also, simple, selected, attribute, applied}
-use Rattle.ada_syntax.specs.StatementTree as source
-use Rattle.ada_syntax.specs.declared.name.Identifier.{Identifier}
-use Rattle.ada_syntax.specs.declared.unit.Mode.{Mode}
+use Rattle.ada_syntax.specs.Tree as source
+use Rattle.ada_syntax.specs.StatementTree as source_statement
+use Rattle.ada_syntax.specs.declared.declaration.Declaration.{Declaration}
+use Rattle.ada_syntax.specs.declared.declaration.DeclarationKind.{DeclarationKind}
+use Rattle.ada_syntax.specs.declared.declaration.DeclarationKind.TheVariants as declares
+use Rattle.ada_syntax.specs.declared.declaration.Initial.{Initial}
 use Rattle.ada_syntax.specs.declared.unit.Unit.{Unit as LibraryUnit}
-use Rattle.ada_types.specs.declared.denoted.Denoted.{Denoted}
+use Rattle.ada_names.specs.Names.{Region, key}
+use Rattle.ada_names.specs.Library.{declarations_of_item, statements_of_item}
+use Rattle.ada_names.specs.Naming.{library_of, named, main_from}
+use Rattle.ada_names.specs.Rules.{BreaksNames}
 use Rattle.ada_types.specs.declared.fault.CheckFault.{CheckFault}
-use Rattle.ada_types.specs.declared.library.Library.{Library}
-use Rattle.ada_types.specs.declared.entity.Entity.TheVariants as entity
-use Rattle.ada_types.specs.Names.{key, Region, declare}
-use Rattle.ada_types.specs.Library.{item_name, item_end_name, given, seen, regions_in}
-use Rattle.ada_types.specs.Typing as spec
-use Rattle.ada_types.specs.Naming as names
-use Rattle.ada_types.specs.Naming.{library_of}
-use Rattle.ada_types.specs.Legal.{Step, naming, typing, Construct, program, declaration, unit, with_clause, with_name, sequence, statement, name, arguments, argument, expression, closing, declarations, units_from, ending, modes_behind, parts, holds, typed_program, elaborated, Among, here, behind, Offends, itself, within}
-use Rattle.ada_types.specs.Checked.{Refuses, breaks_names, breaks_types}
-use Rattle.ada_types.proofs.Blame.{units_known, ending_known}
-use Rattle.ada_types.proofs.TypingLaws.{clauses_typed, ending_typed}
-use Rattle.ada_types.proofs.Programs.{declarations_known}
+use Rattle.ada_types.specs.declared.denoted.Denoted.{Denoted}
+use Rattle.ada_types.specs.declared.kind.DeclaredObject.{DeclaredObject}
+use Rattle.ada_types.specs.declared.kind.ScalarSubtype.{ScalarSubtype}
+use Rattle.ada_types.specs.declared.statements.Target.{Target}
+use Rattle.ada_meaning.specs.Program.{Subprogram}
+use Rattle.ada_types.specs.Expressions as spec
+use Rattle.ada_types.specs.Typing as spec_typing
+use Rattle.ada_types.specs.Typing.{Context, Elaborated, inner, regions_of}
+use Rattle.ada_types.specs.Legal.{typed, program_of_main, elaborated}
+use Rattle.ada_types.specs.Rules as rule
+use Rattle.ada_types.specs.Rules.{Construct, parts, holds, Among, here, Offends, itself, within}
+use Rattle.ada_types.specs.Checked.{Refuses, breaks_names, breaks_types, declares_too_much}
 
 and_left : (a b : Bool) → (a && b) ≡ true → a ≡ true
 and_left true b h = refl
@@ -39,146 +43,151 @@ and_true : (b : Bool) → (b && true) ≡ b
 and_true true = refl
 and_true false = refl
 
-and_grouped : (a b c : Bool) → (a && (b && c)) ≡ ((a && b) && c)
-and_grouped true b c = refl
-and_grouped false b c = refl
-
 -- an option that is there was made of options that are
 first_there : {A B : Type 0} (f : A → Option B) (o : Option A) → is_some (option_and_then f o) ≡ true → is_some o ≡ true
 first_there f None h = h
 first_there f (Some x) h = refl
 
-second_there : {A B C : Type 0} (f : A → B → C) (o : Option A) (p : Option B) → is_some (option_and_then (λ x. option_map (f x) p) o) ≡ true → is_some p ≡ true
-second_there f None p h = absurd (false≢true h)
-second_there f (Some x) None h = h
-second_there f (Some x) (Some y) h = refl
-
-both_there : {A B C : Type 0} (f : A → B → C) (o : Option A) (p : Option B) → (is_some o && is_some p) ≡ is_some (option_and_then (λ x. option_map (f x) p) o)
-both_there f None p = refl
-both_there f (Some x) None = refl
-both_there f (Some x) (Some y) = refl
-
 mapped_there : {A B : Type 0} (f : A → B) (o : Option A) → is_some (option_map f o) ≡ true → is_some o ≡ true
 mapped_there f None h = h
 mapped_there f (Some x) h = refl
 
-chosen_there : {A B : Type 0} (f : A → B) (b : Bool) (o : Option A) → is_some (if b then option_map f o else None) ≡ true → is_some o ≡ true
-chosen_there f true o h = mapped_there f o h
-chosen_there f false o h = absurd (false≢true h)
+both_there : {A B C : Type 0} (f : A → B → C) (o : Option A) (p : Option B) → is_some (option_and_then (λ x. option_map (f x) p) o) ≡ true →
+    (is_some o && (is_some p && true)) ≡ true
+both_there f None p h = h
+both_there f (Some x) p h = and_true (is_some p) ∙ mapped_there (f x) p h
 
-declarations_typed : (n : ℕ) (us : List LibraryUnit) (region : Region) → list_all (holds typing) (declarations n us region) ≡ true
-declarations_typed n [] region = refl
-declarations_typed n (u ∷ us) region = declarations_typed (n + 1) us (declare (key (item_name u.item)) (entity.Procedure n) region)
+operands_there : {A B C : Type 0} (f : A → B → Option C) (o : Option A) (p : Option B) → is_some (option_and_then (λ x. option_and_then (f x) p) o) ≡ true →
+    (is_some o && (is_some p && true)) ≡ true
+operands_there f None p h = h
+operands_there f (Some x) p h = and_true (is_some p) ∙ first_there (f x) p h
 
-units_typed : (library : Library) (places : List Pos) (n : ℕ) (us : List LibraryUnit) → list_all (holds typing) (units_from library places n us) ≡ is_some (spec.typed_units library.region places n us)
-units_typed library places n [] = refl
-units_typed library places n (u ∷ us) =
-    ap (λ b. is_some (spec.typed_unit library.region places n u) && b) (units_typed library places (n + 1) us)
-    ∙ both_there (λ s ss. s ∷ ss) (spec.typed_unit library.region places n u) (spec.typed_units library.region places (n + 1) us)
-
-names_typed : (library : Library) (n : ℕ) (is : List Identifier) → list_all (holds typing) (map (with_name library n) is) ≡ true
-names_typed library n [] = refl
-names_typed library n (i ∷ is) = names_typed library n is
-
-call_parts : (o : Option Denoted) (es : Exprs) → is_some (option_and_then (λ d. option_and_then (spec.call_of d (spec.count_of es)) (spec.typed_actuals (spec.modes_of d) es)) o) ≡ true → (is_some o && (is_some (spec.typed_actuals (modes_behind o) es) && true)) ≡ true
-call_parts None es h = h
-call_parts (Some d) es h = and_true (is_some (spec.typed_actuals (spec.modes_of d) es)) ∙ first_there (spec.call_of d (spec.count_of es)) (spec.typed_actuals (spec.modes_of d) es) h
-
-actual_parts : (m : Option Mode) (e : Expr) → is_some (spec.typed_actual m e) ≡ true → (is_some (spec.judged e) && true) ≡ true
-actual_parts None e h = and_true (is_some (spec.judged e)) ∙ mapped_there (λ x. None) (spec.judged e) h
-actual_parts (Some m) e h = and_true (is_some (spec.judged e)) ∙ first_there (λ x. option_map Some (spec.passed m x)) (spec.judged e) h
-
-names_pass : (c : Construct) → holds naming c ≡ true → list_all (holds naming) (parts c) ≡ true
-names_pass (program us main) h =
-    let units = units_from (library_of us) (spec.places_of us) 0 us in
-    let fresh = names.units_new 0 us given in
-    let known = names.units_named (library_of us) 0 us in
-    list_all-append (holds naming) (declarations 0 us given) units
-    ∙ (ap (λ b. b && list_all (holds naming) units) (declarations_known 0 us given)
-    ∙ (ap (λ b. fresh && b) (units_known (library_of us) (spec.places_of us) 0 us) ∙ and_left (fresh && known) (is_some (names.main_from 0 us main)) h))
-names_pass (declaration region i) h = refl
-names_pass (unit library places n u) h =
-    let own = item_name u.item in
-    let e = item_end_name u.item in
-    let p = list_all (names.clause_known library n) u.withs in
-    let s = names.statements_known (regions_in (seen library.region n u)) (spec.statements_of_item u.item) in
-    list_all-append (holds naming) (map (with_clause library n) u.withs) (sequence (spec.context_of library.region places n u) (spec.statements_of_item u.item) ∷ ending own e)
-    ∙ (ap (λ b. b && (s && list_all (holds naming) (ending own e))) (list_all-map (holds naming) (with_clause library n) u.withs)
-    ∙ (ap (λ b. p && (s && b)) (ending_known own e) ∙ (and_grouped p s (names.repeats own e) ∙ h)))
-names_pass (with_clause library n w) h = list_all-map (holds naming) (with_name library n) w.names ∙ h
-names_pass (with_name library n i) h = refl
-names_pass (sequence k source.no_statements) h = refl
-names_pass (sequence k (source.then_also s ss)) h = ap (λ b. names.statement_known k.regions s && b) (and_true (names.statements_known k.regions ss)) ∙ h
-names_pass (statement k (source.call p n)) h = and_true (names.name_known k.regions n) ∙ h
-names_pass (statement k _) h = refl
-names_pass (name regions (simple i)) h = refl
-names_pass (name regions (selected n i)) h = and_true (names.name_known regions n) ∙ and_left (names.name_known regions n) (names.part_known (names.standing regions n) (key i)) h
-names_pass (name regions (attribute n i)) h = and_true (names.name_known regions n) ∙ h
-names_pass (name regions (applied n es)) h = and_true (names.name_known regions n) ∙ h
-names_pass (arguments ms no_exprs) h = refl
-names_pass (arguments ms (also e es)) h = refl
-names_pass (argument m e) h = refl
-names_pass (expression e) h = refl
-names_pass (closing own i) h = refl
-
-types_pass : (c : Construct) → holds typing c ≡ true → list_all (holds typing) (parts c) ≡ true
-types_pass (program us main) h =
-    let units = units_from (library_of us) (spec.places_of us) 0 us in
-    let all = spec.typed_units (library_of us).region (spec.places_of us) 0 us in
-    list_all-append (holds typing) (declarations 0 us given) units
-    ∙ (ap (λ b. b && list_all (holds typing) units) (declarations_typed 0 us given)
-    ∙ (units_typed (library_of us) (spec.places_of us) 0 us ∙ second_there _ (names.main_from 0 us main) all h))
-types_pass (declaration region i) h = refl
-types_pass (unit library places n u) h =
-    let own = item_name u.item in
-    let e = item_end_name u.item in
-    let all = spec.typed_statements (spec.context_of library.region places n u) (spec.statements_of_item u.item) in
-    list_all-append (holds typing) (map (with_clause library n) u.withs) (sequence (spec.context_of library.region places n u) (spec.statements_of_item u.item) ∷ ending own e)
-    ∙ (ap (λ b. b && (is_some all && list_all (holds typing) (ending own e))) (clauses_typed library n u.withs)
-    ∙ (ap (λ b. is_some all && b) (ending_typed own e) ∙ (and_true (is_some all) ∙ chosen_there spec.procedure_of (spec.is_straight_item u.item) all h)))
-types_pass (with_clause library n w) h = names_typed library n w.names
-types_pass (with_name library n i) h = refl
-types_pass (sequence k source.no_statements) h = refl
-types_pass (sequence k (source.then_also s ss)) h =
-    ap (λ b. is_some (spec.typed_statement k s) && b) (and_true (is_some (spec.typed_statements k ss))) ∙ (both_there (λ x xs. x ∷ xs) (spec.typed_statement k s) (spec.typed_statements k ss) ∙ h)
-types_pass (statement k (source.call p n)) h = and_true (is_some (spec.denoted k.regions n)) ∙ first_there (spec.called (spec.label_at k.places p)) (spec.denoted k.regions n) h
-types_pass (statement k _) h = refl
-types_pass (name regions (simple i)) h = refl
-types_pass (name regions (selected n i)) h = and_true (is_some (spec.denoted regions n)) ∙ first_there _ (spec.denoted regions n) h
-types_pass (name regions (attribute n i)) h = absurd (false≢true h)
-types_pass (name regions (applied n es)) h = call_parts (spec.denoted regions n) es h
-types_pass (arguments ms no_exprs) h = refl
-types_pass (arguments ms (also e es)) h =
-    ap (λ b. is_some (spec.typed_actual (spec.first_mode ms) e) && b) (and_true (is_some (spec.typed_actuals (drop 1 ms) es))) ∙ (both_there spec.with_front (spec.typed_actual (spec.first_mode ms) e) (spec.typed_actuals (drop 1 ms) es) ∙ h)
-types_pass (argument m e) h = actual_parts m e h
-types_pass (expression e) h = refl
-types_pass (closing own i) h = refl
-
-pass : (s : Step) (c : Construct) → holds s c ≡ true → list_all (holds s) (parts c) ≡ true
-pass naming c h = names_pass c h
-pass typing c h = types_pass c h
-
-among_passes : (s : Step) (d : Construct) (cs : List Construct) → Among d cs → list_all (holds s) cs ≡ true → holds s d ≡ true
-among_passes s d [] a h = elim a [ ]
-among_passes s d (c ∷ cs) here h = and_left (holds s d) (list_all (holds s) cs) h
-among_passes s d (c ∷ cs) (behind a) h = among_passes s d cs a (and_right (holds s c) (list_all (holds s) cs) h)
-
-part_fails : (s : Step) (c d : Construct) → Among d (parts c) → holds s d ≡ false → holds s c ≡ false
-part_fails s c d a h = by (holds s c) refl
+units_typed : (library : Region) (places : List Pos) (n : ℕ) (us : List LibraryUnit) → is_some (spec_typing.typed_units library places n us) ≡ true →
+    list_all holds (rule.units_from library places n us) ≡ true
+units_typed library places n [] h = refl
+units_typed library places n (u ∷ us) h = by (spec_typing.typed_unit library places n u) (spec_typing.typed_units library places (n + 1) us)
+    (list_all holds (rule.units_from library places (n + 1) us)) (units_typed library places (n + 1) us) h
   where
-    by : (b : Bool) → holds s c ≡ b → holds s c ≡ false
-    by true e = absurd (false≢true (sym h ∙ among_passes s d (parts c) a (pass s c e)))
+    by : {A : Type 0} (o : Option A) (p : Option (List A)) (b : Bool) → (is_some p ≡ true → b ≡ true) →
+        is_some (option_and_then (λ s. option_map (λ ss. s ∷ ss) p) o) ≡ true → (is_some o && b) ≡ true
+    by None p b rest h = h
+    by (Some x) p b rest h = rest (mapped_there (λ ss. x ∷ ss) p h)
+
+unit_parts : (b : Bool) (o : Option Elaborated) (ss : source_statement.Statements) → is_some (if b then option_and_then (spec_typing.typed_body ss) o else None) ≡ true →
+    (is_some o && list_all holds (rule.sequence_behind o ss)) ≡ true
+unit_parts false o ss h = absurd (false≢true h)
+unit_parts true None ss h = h
+unit_parts true (Some x) ss h = and_true (is_some (spec_typing.typed_statements x.context ss))
+    ∙ mapped_there (spec_typing.procedure_of x.declarations) (spec_typing.typed_statements x.context ss) h
+
+declarations_parts : (o : Option Elaborated) (ds : List Declaration) →
+    is_some (option_and_then (λ x. option_map (spec_typing.with_earlier x) (spec_typing.typed_declarations x.context ds)) o) ≡ true →
+    (is_some o && list_all holds (rule.declarations_behind o ds)) ≡ true
+declarations_parts None ds h = h
+declarations_parts (Some x) ds h = and_true (is_some (spec_typing.typed_declarations x.context ds))
+    ∙ mapped_there (spec_typing.with_earlier x) (spec_typing.typed_declarations x.context ds) h
+
+kind_parts : (k : Context) (d : Declaration) (x : DeclarationKind) → is_some (spec_typing.typed_kind k d x) ≡ true → list_all holds (rule.parts_of_kind k x) ≡ true
+kind_parts k d (declares.Object is c s i) h = by (spec_typing.indicated (inner k is) k.objects s) i h
+  where
+    by : (o : Option ScalarSubtype) (i : Option Initial) → is_some
+        (option_and_then (λ t. spec_typing.declared_as k d is (record { constancy = c; subtype = t }) i) o) ≡ true →
+        (is_some o && list_all holds (rule.value_behind (inner k is) k.objects o i)) ≡ true
+    by None i h = h
+    by (Some t) None h = refl
+    by (Some t) (Some j) h = and_true (is_some (spec_typing.new_value (inner k is) k.objects t j))
+        ∙ first_there (spec_typing.declared_set k d is (record { constancy = c; subtype = t })) (spec_typing.new_value (inner k is) k.objects t j) h
+kind_parts k d (declares.Type n t) h = refl
+kind_parts k d (declares.Subtype n s) h = refl
+kind_parts k d (declares.Exception is) h = refl
+kind_parts k d (declares.Pragma p) h = refl
+
+assignment_parts : (k : Context) (p : Pos) (o : Option Denoted) (i : Initial) →
+    is_some (option_and_then (λ t. option_map (spec_typing.assigned (spec_typing.label_at k.places p) t) (spec_typing.new_value (regions_of k) k.objects t.subtype i))
+    (option_and_then (spec_typing.target_of k.objects) o)) ≡ true →
+    (is_some o && list_all holds (rule.value_assigned k (option_and_then (spec_typing.target_of k.objects) o) i)) ≡ true
+assignment_parts k p None i h = h
+assignment_parts k p (Some d) i h = by (spec_typing.target_of k.objects d) h
+  where
+    by : (t : Option Target) → is_some (option_and_then (λ t. option_map (spec_typing.assigned (spec_typing.label_at k.places p) t)
+        (spec_typing.new_value (regions_of k) k.objects t.subtype i)) t) ≡ true → list_all holds (rule.value_assigned k t i) ≡ true
+    by None h = absurd (false≢true h)
+    by (Some t) h = and_true (is_some (spec_typing.new_value (regions_of k) k.objects t.subtype i))
+        ∙ mapped_there (spec_typing.assigned (spec_typing.label_at k.places p) t) (spec_typing.new_value (regions_of k) k.objects t.subtype i) h
+
+call_parts : (regions : List Region) (objects : List DeclaredObject) (o : Option Denoted) (es : source.Exprs) →
+    is_some (option_and_then (λ d. option_and_then (spec.call_of d (spec.count_of es)) (spec.typed_actuals regions objects (spec.parameters_of d) es)) o) ≡ true →
+    (is_some o && (is_some (spec.typed_actuals regions objects (rule.parameters_behind o) es) && true)) ≡ true
+call_parts regions objects None es h = h
+call_parts regions objects (Some d) es h = and_true (is_some (spec.typed_actuals regions objects (spec.parameters_of d) es))
+    ∙ first_there (spec.call_of d (spec.count_of es)) (spec.typed_actuals regions objects (spec.parameters_of d) es) h
+
+one_there : {A B : Type 0} (f : A → Option B) (o : Option A) → is_some (option_and_then f o) ≡ true → (is_some o && true) ≡ true
+one_there f o h = and_true (is_some o) ∙ first_there f o h
+
+pass : (c : Construct) → holds c ≡ true → list_all holds (parts c) ≡ true
+pass (rule.program us) h = units_typed (library_of us).region (spec_typing.places_of us) 0 us h
+pass (rule.unit library places n u) h = unit_parts (spec_typing.is_plain_item u.item)
+    (spec_typing.typed_declarations (spec_typing.context_of library places n u) (declarations_of_item u.item)) (statements_of_item u.item) h
+pass (rule.declarations k []) h = refl
+pass (rule.declarations k (d ∷ ds)) h = declarations_parts (spec_typing.typed_declaration k d) ds h
+pass (rule.declaration k d) h = kind_parts k d d.kind h
+pass (rule.indication regions objects s) h = one_there (spec_typing.unconstrained s.constraint) (spec.denoted regions objects s.mark) h
+pass (rule.value regions objects s i) h = one_there (spec_typing.value_for s i.others) (spec.judged regions objects i.value) h
+pass (rule.sequence k source_statement.no_statements) h = refl
+pass (rule.sequence k (source_statement.then_also s ss)) h = both_there (λ x xs. x ∷ xs) (spec_typing.typed_statement k s) (spec_typing.typed_statements k ss) h
+pass (rule.statement k (source_statement.call p n)) h = one_there (spec_typing.called (spec_typing.label_at k.places p)) (spec.denoted (regions_of k) k.objects n) h
+pass (rule.statement k (source_statement.assignment p n i)) h = assignment_parts k p (spec.denoted (regions_of k) k.objects n) i h
+pass (rule.statement k _) h = refl
+pass (rule.name regions objects (source.simple i)) h = refl
+pass (rule.name regions objects (source.selected n i)) h = one_there _ (spec.denoted regions objects n) h
+pass (rule.name regions objects (source.attribute n i)) h = one_there (spec.attribute_of (key i)) (spec.denoted regions objects n) h
+pass (rule.name regions objects (source.applied n es)) h = call_parts regions objects (spec.denoted regions objects n) es h
+pass (rule.arguments regions objects qs source.no_exprs) h = refl
+pass (rule.arguments regions objects qs (source.also e es)) h = both_there spec.with_front (spec.typed_actual regions objects (spec.first_parameter qs) e)
+    (spec.typed_actuals regions objects (drop 1 qs) es) h
+pass (rule.argument regions objects q e) h = one_there (spec.actual_for objects q) (spec.judged regions objects e) h
+pass (rule.expression regions objects (source.numeral p n)) h = refl
+pass (rule.expression regions objects (source.named p n)) h = one_there (spec.value_of objects) (spec.denoted regions objects n) h
+pass (rule.expression regions objects (source.parenthesized p e)) h = and_true (is_some (spec.judged regions objects e))
+    ∙ mapped_there spec.enclosed (spec.judged regions objects e) h
+pass (rule.expression regions objects (source.unary p op e)) h = one_there (spec.signed_of op) (spec.judged regions objects e) h
+pass (rule.expression regions objects (source.binary p a op b)) h = operands_there (spec.operation_of op) (spec.judged regions objects a) (spec.judged regions objects b) h
+pass (rule.expression regions objects (source.relation p a op b)) h = refl
+pass (rule.expression regions objects (source.logical p a op b)) h = refl
+
+among_passes : (d : Construct) (cs : List Construct) → Among d cs → list_all holds cs ≡ true → holds d ≡ true
+among_passes d [] a h = elim a [ ]
+among_passes d (c ∷ cs) here h = and_left (holds d) (list_all holds cs) h
+among_passes d (c ∷ cs) (rule.behind a) h = among_passes d cs a (and_right (holds c) (list_all holds cs) h)
+
+part_fails : (c d : Construct) → Among d (parts c) → holds d ≡ false → holds c ≡ false
+part_fails c d a h = by (holds c) refl
+  where
+    by : (b : Bool) → holds c ≡ b → holds c ≡ false
+    by true e = absurd (false≢true (sym h ∙ among_passes d (parts c) a (pass c e)))
     by false e = e
 
 -- a construct in which one offends fails its case
-offends_fails : {s : Step} {c : Construct} {p : Pos} → Offends s c p → holds s c ≡ false
+offends_fails : {c : Construct} {p : Pos} → Offends c p → holds c ≡ false
 offends_fails (itself all h) = h
-offends_fails {s} {c} (within {d = d} a o) = part_fails s c d a (offends_fails o)
+offends_fails {c} (within {d = d} a o) = part_fails c d a (offends_fails o)
 
 none_where : {X : Type 0} (o : Option X) → is_some o ≡ false → o ≡ None
 none_where None h = refl
 none_where (Some x) h = absurd (false≢true (sym h))
 
-pub refused_is_illegal : (units : List LibraryUnit) (main : List ℕ) (fault : CheckFault) → Refuses units (str_to_ascii_lowercase main) (Fault fault) → elaborated units main ≡ None
-refused_is_illegal units main _ (breaks_names o) = rw (offends_fails o) refl
-refused_is_illegal units main _ (breaks_types h o) = rw h (none_where (typed_program units (str_to_ascii_lowercase main)) (offends_fails o))
+untyped : (units : List LibraryUnit) (o : Option ℕ) → typed units ≡ None → option_and_then (program_of_main units) o ≡ None
+untyped units None h = refl
+untyped units (Some m) h = rw h refl
+
+too_large : (units : List LibraryUnit) (o : Option ℕ) (ss : List Subprogram) (p : Pos) → typed units ≡ Some ss → spec_typing.too_many_words units ss ≡ Some p →
+    option_and_then (program_of_main units) o ≡ None
+too_large units None ss p all h = refl
+too_large units (Some m) ss p all h = rw (all, h) refl
+
+pub refused_is_illegal : ((units : List LibraryUnit) (main : List ℕ) (p : Pos) → BreaksNames units main p → named units main ≡ false) →
+    (units : List LibraryUnit) (main : List ℕ) (fault : CheckFault) → Refuses units (str_to_ascii_lowercase main) (Fault fault) → elaborated units main ≡ None
+refused_is_illegal unnamed units main _ (breaks_names {p = p} o) = rw (unnamed units (str_to_ascii_lowercase main) p o) refl
+refused_is_illegal unnamed units main _ (breaks_types h o) = rw h (untyped units (main_from 0 units (str_to_ascii_lowercase main)) (none_where (typed units) (offends_fails o)))
+refused_is_illegal unnamed units main _ (declares_too_much {ss = ss} {p = p} h all large) = rw h (too_large units (main_from 0 units (str_to_ascii_lowercase main)) ss p all large)

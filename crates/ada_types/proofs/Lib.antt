@@ -1,7 +1,10 @@
-pub mod Order
-pub mod Lookups
-pub mod Blame
+pub mod Chains
 pub mod Steps
-pub mod TypingLaws
+pub mod Order
+pub mod Blame
+pub mod ExpressionLaws
+pub mod DeclarationLaws
+pub mod StatementLaws
+pub mod UnitLaws
 pub mod Programs
 pub mod Laws

@@ -16,7 +16,8 @@ Earlier a b = (a.file < b.file) ⊎ ((a.file ≡ b.file) × ((a.line < b.line) �
 is_earlier : (a b : Pos) → precedes a b ≡ true → Earlier a b
 is_earlier a b is = by_file (nat_lt a.file b.file) refl (nat_eq a.file b.file) refl (nat_lt a.line b.line) refl (nat_eq a.line b.line) refl (nat_lt a.col b.col) refl is
   where
-    by_file : (f : Bool) → nat_lt a.file b.file ≡ f → (g : Bool) → nat_eq a.file b.file ≡ g → (l : Bool) → nat_lt a.line b.line ≡ l → (m : Bool) → nat_eq a.line b.line ≡ m → (c : Bool) → nat_lt a.col b.col ≡ c → (f || (g && (l || (m && c)))) ≡ true → Earlier a b
+    by_file : (f : Bool) → nat_lt a.file b.file ≡ f → (g : Bool) → nat_eq a.file b.file ≡ g → (l : Bool) → nat_lt a.line b.line ≡ l → (m : Bool) →
+        nat_eq a.line b.line ≡ m → (c : Bool) → nat_lt a.col b.col ≡ c → (f || (g && (l || (m && c)))) ≡ true → Earlier a b
     by_file true f g sg l sl m sm c sc e = inl (grind (arith, nat_tests))
     by_file false f true sg true sl m sm c sc e = inr (grind (arith, nat_tests), inl (grind (arith, nat_tests)))
     by_file false f true sg false sl true sm true sc e = inr (grind (arith, nat_tests), inr (grind (arith, nat_tests), grind (arith, nat_tests)))
@@ -68,7 +69,8 @@ before_later p q [] h all = tt
 before_later p q (r ∷ rs) h all = (transitive p q r h all.0, before_later p q rs h all.1)
 
 -- places in the list behind the first item
-behind_first : (x : Pos) (xs : List Pos) (k : ℕ) (d : Pos) → true ≡ precedes (slice_index_or (x ∷ xs) (suc k) d) (slice_index_or (x ∷ xs) (suc k + 1) d) → true ≡ precedes (slice_index_or xs k d) (slice_index_or xs (k + 1) d)
+behind_first : (x : Pos) (xs : List Pos) (k : ℕ) (d : Pos) → true ≡ precedes (slice_index_or (x ∷ xs) (suc k) d) (slice_index_or (x ∷ xs) (suc k + 1) d) →
+    true ≡ precedes (slice_index_or xs k d) (slice_index_or xs (k + 1) d)
 behind_first x xs k d h =
     let one : suc k + 1 ≡ suc (k + 1) = omega arith in
     subst (λ n. true ≡ precedes (slice_index_or xs k d) (slice_index_or (x ∷ xs) n d)) one h
@@ -114,5 +116,9 @@ counted p (x ∷ xs) zero le point =
     omega (arith, first, rest)
 counted p (x ∷ xs) (suc i) le point =
     let first = counted_first p x xs true (point.0 0 x (omega arith) (omega arith)) in
-    let rest = counted p xs i (omega (arith, le)) ((λ k d low high. point.0 (suc k) d (omega arith) (omega (arith, high))), λ k d low high. point.1 (suc k) d (omega (arith, low)) (omega (arith, high))) in
+    let rest = counted p xs i (omega (arith, le)) (
+      (λ k d low high. point.0 (suc k) d (omega arith) (omega (arith, high))),
+      λ k d low high. point.1 (suc k) d
+          (omega (arith, low)) (omega (arith, high)),
+    ) in
     omega (arith, first, rest)

@@ -1,49 +1,35 @@
--- Whole programs: what they hold, and how they are refused.
-use Rattle.std.proofs.Common.{◌≡◌, ℕ, ◌+◌, true, ◌&&◌, List, [], ◌∷◌, Some, None, refl, ap, ◌∙◌}
-use Rattle.std.specs.List.{list_all}
-use Rattle.std.proofs.lemmas.List.Folds.{list_all-append}
+-- Whole programs: how they are refused, and which they are.
+use Rattle.std.proofs.Common.{◌≡◌, ℕ, true, false, List, ◌∷◌, Some, None, refl}
+use Rattle.std.specs.Prelude.{nat_le}
 use Rattle.cov_base.specs.declared.failure.Failure.{Failure}
 use Rattle.ada_syntax.specs.declared.unit.Unit.{Unit as LibraryUnit}
-use Rattle.ada_types.specs.declared.fault.CheckFault.{CheckFault}
-use Rattle.ada_types.specs.declared.entity.Entity.TheVariants as entity
-use Rattle.ada_types.specs.Names.{key, Region, declare}
-use Rattle.ada_types.specs.Library.{item_name, given}
-use Rattle.ada_types.specs.Typing.{places_of}
-use Rattle.ada_types.specs.Naming.{library_of, is_new, units_new, units_named, main_from, named}
-use Rattle.ada_types.specs.Legal.{Step, naming, typing, program, declarations, units_from, parts, holds, beginning, itself}
-use Rattle.ada_types.specs.NameCode.{SomeRefused}
-use Rattle.ada_types.specs.Answer.{Refused, in_naming, in_typing, no_memory, unnamed}
+use Rattle.ada_meaning.specs.Program.{Subprogram}
+use Rattle.ada_names.specs.declared.fault.NameFault.{NameFault}
+use Rattle.ada_names.specs.Naming.{named, main_from}
+use Rattle.ada_names.specs.Rules as names
+use Rattle.ada_names.specs.Answer as naming
+use Rattle.ada_types.specs.declared.fault.TypeFault.{TypeFault}
+use Rattle.ada_types.specs.Typing.{too_many_words, block_words, word_limit}
+use Rattle.ada_types.specs.Legal.{typed, program_with, typed_program}
+use Rattle.ada_types.specs.Rules.{program}
+use Rattle.ada_types.specs.Answer.{Refused, breaks_a_rule, no_memory}
+use Rattle.ada_types.specs.CheckCode.{naming_of, typing_of}
 use Rattle.ada_types.specs.Checked.{Refuses, breaks_names, breaks_types, memory_is_out}
-use Rattle.ada_types.proofs.Blame.{units_known, some_left, some_right, of_some}
 
-pub declarations_known : (n : ℕ) (us : List LibraryUnit) (region : Region) → list_all (holds naming) (declarations n us region) ≡ units_new n us region
-declarations_known n [] region = refl
-declarations_known n (u ∷ us) region = ap (λ b. is_new region (item_name u.item) && b) (declarations_known (n + 1) us (declare (key (item_name u.item)) (entity.Procedure n) region))
+pub refused_by_names : (us : List LibraryUnit) (main : List ℕ) (f : Failure NameFault) → naming.Refused (names.program us main) f → Refuses us main (naming_of f)
+refused_by_names us main _ (naming.breaks_a_rule o) = breaks_names o
+refused_by_names us main _ naming.no_memory = memory_is_out
 
-module _ (us : List LibraryUnit) (main : List ℕ) (fresh : units_new 0 us given ≡ true) (known : units_named (library_of us) 0 us ≡ true) where
-  pub named_holds : (m : ℕ) → main_from 0 us main ≡ Some m → named us main ≡ true
-  named_holds m h = rw (fresh, known, h) refl
+pub refused_by_types : (us : List LibraryUnit) (main : List ℕ) (f : Failure TypeFault) → named us main ≡ true → Refused (program us) f → Refuses us main (typing_of f)
+refused_by_types us main _ h (breaks_a_rule o) = breaks_types h o
+refused_by_types us main _ h no_memory = memory_is_out
 
-  pub no_main : main_from 0 us main ≡ None → Refused naming (program us main) (unnamed beginning)
-  no_main h =
-      let units = units_from (library_of us) (places_of us) 0 us in
-      let all : list_all (holds naming) (parts (program us main)) ≡ true =
-      list_all-append (holds naming) (declarations 0 us given) units
-      ∙ (ap (λ b. b && list_all (holds naming) units) (declarations_known 0 us given ∙ fresh) ∙ (units_known (library_of us) (places_of us) 0 us ∙ known)) in
-      in_naming (itself all (rw (fresh, known, h) refl))
+pub a_program : (us : List LibraryUnit) (main : List ℕ) (m : ℕ) (ss : List Subprogram) → main_from 0 us main ≡ Some m → typed us ≡ Some ss → too_many_words us ss ≡ None →
+    typed_program us main ≡ Some (program_with m ss)
+a_program us main m ss first all few = rw (first, all, few) refl
 
-pub by_declaration : (us : List LibraryUnit) (main : List ℕ) {f : Failure CheckFault} → SomeRefused naming (declarations 0 us given) f → Refused naming (program us main) f
-by_declaration us main r = of_some (program us main) (some_left (units_from (library_of us) (places_of us) 0 us) r)
+pub first_too_large : (u : LibraryUnit) (us : List LibraryUnit) (s : Subprogram) (ss : List Subprogram) → nat_le (block_words s.body) word_limit ≡ false →
+    too_many_words (u ∷ us) (s ∷ ss) ≡ Some u.item_pos
+first_too_large u us s ss h = rw h refl
 
-pub by_unit : (s : Step) (us : List LibraryUnit) (main : List ℕ) {f : Failure CheckFault} → SomeRefused s (units_from (library_of us) (places_of us) 0 us) f → Refused s (program us main) f
-by_unit s us main r = of_some (program us main) (some_right (declarations 0 us given) r)
-
-pub refuses_named : (us : List LibraryUnit) (main : List ℕ) (f : Failure CheckFault) → Refused naming (program us main) f → Refuses us main f
-refuses_named us main _ (in_naming o) = breaks_names o
-refuses_named us main _ no_memory = memory_is_out
-
-pub refuses_typed : (us : List LibraryUnit) (main : List ℕ) (f : Failure CheckFault) → named us main ≡ true → Refused typing (program us main) f → Refuses us main f
-refuses_typed us main _ h (in_typing o) = breaks_types h o
-refuses_typed us main _ h no_memory = memory_is_out
-
-pub ruleset memory = (memory_is_out)
+pub ruleset refusals = (memory_is_out)

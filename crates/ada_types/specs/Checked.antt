@@ -1,19 +1,26 @@
 -- Refusals of whole programs.
-use Rattle.std.specs.Prelude.{◌≡◌, ℕ, true, List}
+use Rattle.std.specs.Prelude.{◌≡◌, ℕ, true, List, Some}
 use Rattle.cov_base.specs.declared.position.Pos.{Pos}
 use Rattle.cov_base.specs.declared.failure.Failure.{Failure}
-use Rattle.cov_base.specs.declared.failure.Failure.TheVariants.{WantOfMemory}
+use Rattle.cov_base.specs.declared.failure.Failure.TheVariants.{Fault, WantOfMemory}
 use Rattle.ada_syntax.specs.Nodes.{capped, unit_nodes}
 use Rattle.ada_syntax.specs.declared.unit.Unit.{Unit as LibraryUnit}
+use Rattle.ada_meaning.specs.Program.{Subprogram}
 use Rattle.ada_tree.specs.declared.program.UnitEntry.{UnitEntry}
+use Rattle.ada_names.specs.Naming.{named}
+use Rattle.ada_names.specs.Rules.{BreaksNames}
 use Rattle.ada_types.specs.declared.fault.CheckFault.{CheckFault}
-use Rattle.ada_types.specs.Legal.{naming, typing, program, holds, Offends}
-use Rattle.ada_types.specs.Answer.{unnamed, mistyped}
+use Rattle.ada_types.specs.declared.fault.CheckFault.TheVariants.{Naming, Typing, Limit}
+use Rattle.ada_types.specs.Legal.{typed}
+use Rattle.ada_types.specs.Rules.{BreaksTypes}
+use Rattle.ada_types.specs.Typing.{too_many_words}
 
--- units with this main procedure, whose name is in lower case, are refused: by the rules on names, or, where these hold, by those on types
+-- units with this main procedure, whose name is in lower case, are refused: by the rules on names; or, where these hold, by those on types;
+-- or, where these hold too, by the limit on declared words
 pub data Refuses (units : List LibraryUnit) (main : List ℕ) : Failure CheckFault → Type 0 where
-  breaks_names : {p : Pos} → Offends naming (program units main) p → Refuses units main (unnamed p)
-  breaks_types : {p : Pos} → holds naming (program units main) ≡ true → Offends typing (program units main) p → Refuses units main (mistyped p)
+  breaks_names : {p : Pos} → BreaksNames units main p → Refuses units main (Fault (Naming (record { pos = p })))
+  breaks_types : {p : Pos} → named units main ≡ true → BreaksTypes units p → Refuses units main (Fault (Typing (record { pos = p })))
+  declares_too_much : {ss : List Subprogram} {p : Pos} → named units main ≡ true → typed units ≡ Some ss → too_many_words units ss ≡ Some p → Refuses units main (Fault (Limit (record { pos = p })))
   memory_is_out : Refuses units main WantOfMemory
 
 -- what the limits ask of a unit

@@ -1,11 +1,10 @@
-pub mod Names
-pub mod RegionView
-pub mod Library
+pub mod Kinds
+pub mod Expressions
 pub mod Typing
-pub mod Naming
 pub mod Order
-pub mod Legal
+pub mod Rules
 pub mod Answer
-pub mod NameCode
-pub mod TypingCode
+pub mod Legal
 pub mod Checked
+pub mod TypingCode
+pub mod CheckCode

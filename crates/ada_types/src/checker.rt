@@ -1,67 +1,100 @@
 //! From syntax trees to the typed program.
 
-ghost use Rattle.std.specs.Prelude.{◌≡◌, ℕ, List, Some, None, map, true, IfOk, IfErr};
+ghost use Rattle.std.specs.Prelude.{◌≡◌, ℕ, nat_le, List, None, Some, map, true, IfOk, IfErr};
+ghost use Rattle.std.specs.Str.{str_to_ascii_lowercase};
 ghost use Rattle.cov_base.specs.declared.failure.Failure.TheVariants.{Fault};
 ghost use Rattle.ada_syntax.specs.declared.unit.Unit.{Unit as LibraryUnit};
+ghost use Rattle.ada_tree.specs.View.{program_of, subprogram_of};
+ghost use Rattle.ada_names.specs.Naming as naming;
+ghost use Rattle.ada_names.specs.Naming.{library_of, main_from};
 ghost use Rattle.ada_types.specs.declared.fault.CheckFault.{CheckFault};
-ghost use Rattle.std.specs.Str.{str_to_ascii_lowercase};
-ghost use Rattle.ada_tree.specs.View.{program_of};
-ghost use Rattle.ada_types.specs.Naming as spec;
-ghost use Rattle.ada_types.specs.Naming.{library_of, main_from};
-ghost use Rattle.ada_types.specs.Legal.{elaborated, naming, program};
-ghost use Rattle.ada_types.specs.Answer.{Refused};
+ghost use Rattle.ada_types.specs.Typing as spec;
+ghost use Rattle.ada_types.specs.Legal.{elaborated, typed};
 ghost use Rattle.ada_types.specs.Checked.{Refuses, entry_of};
+ghost use Rattle.ada_types.specs.CheckCode.{naming_of, typing_of};
 
-use crate::fault::{CheckFault, unnamed};
-use crate::library::{Library, library_of};
-use crate::naming::{check_units, main_number};
-use crate::places::places_of;
-use crate::typing::typed_units;
+use crate::fault::{CheckFault, LimitFault, TypeFault};
+use crate::units::typed_program;
+use ada_names::{Library, NameFault, Named, broken_names_are_not_named, check_names};
 use ada_syntax::{Unit, node_count};
-use ada_tree::{Program, UnitEntry};
+use ada_tree::{Program, Subprogram, UnitEntry};
 use cov_base::{Failure, Pos, Seq};
 use std::alloc::{AllocError, Global};
 
-/// The library of the units, and the number of the main procedure.
-#[derive(Drop)]
-struct Named {
-    library: Library,
-    main: u32,
+/// A refusal by the rules on names.
+fn naming(failure: Failure<NameFault>) -> Failure<CheckFault>
+    ensures { result ≡ naming_of failure }
+{
+    match failure {
+        Failure::Fault(fault) => Failure::Fault(CheckFault::Naming(fault)),
+        Failure::WantOfMemory => Failure::WantOfMemory,
+    }
+}
+
+/// A refusal by the rules on types.
+fn typing(failure: Failure<TypeFault>) -> Failure<CheckFault>
+    ensures { result ≡ typing_of failure }
+{
+    match failure {
+        Failure::Fault(fault) => Failure::Fault(CheckFault::Typing(fault)),
+        Failure::WantOfMemory => Failure::WantOfMemory,
+    }
 }
 
 /// The rules on names. The main procedure's name is in lower case.
-#[tactic(auto, using(crate::proofs::Blame::blames))]
-fn check_names(alloc: Global, units: &[Unit], main: &[u8]) -> Result<Named, Failure<CheckFault>>
+#[tactic(auto, using(crate::proofs::Programs::refusals))]
+fn named(alloc: Global, units: &[Unit], main: &[u8]) -> Result<Named, Failure<CheckFault>>
     ensures library { IfOk result (λ n. n.library ≡ library_of units.now) }
     ensures main { IfOk result (λ n. main_from 0 units.now main.now ≡ Some n.main) }
-    ensures named { IfOk result (λ n. spec.named units.now main.now ≡ true) }
-    ensures refused { IfErr result (Refused naming (program units.now main.now)) }
+    ensures named { IfOk result (λ n. naming.named units.now main.now ≡ true) }
+    ensures refused { IfErr result (Refuses units.now main.now) }
 {
-    let library = library_of(alloc, units)?;
-    check_units(alloc, &library, units)?;
-    let number = main_number(alloc, units, main)?;
-    match number {
-        Some(main) => Ok(Named { library, main }),
-        None => Err(unnamed(BEGINNING)),
+    match check_names(alloc, units, main) {
+        Ok(named) => Ok(named),
+        Err(failure) => Err(naming(failure)),
     }
 }
 
-/// Where the first file begins.
-const BEGINNING: Pos = Pos {
-    file: 0,
-    line: 1,
-    col: 1,
-};
-
-/// What the limits ask of the units.
-fn entries(alloc: Global, units: &[Unit]) -> Result<Vec<UnitEntry>, AllocError>
-    ensures { IfOk result (λ entries. entries.items ≡ map entry_of units.now) }
+/// The rules on types, where those on names hold.
+#[tactic(auto, using(crate::proofs::Programs::refusals))]
+fn subprograms(
+    alloc: Global,
+    library: &Library,
+    units: &[Unit],
+) -> Result<Vec<Subprogram>, Failure<CheckFault>>
+    requires { library.now ≡ library_of units.now }
+    ensures typed { IfOk result (λ ss. typed units.now ≡ Some (map subprogram_of ss.items)) }
+    ensures refused { IfErr result (λ f. (main : List ℕ) → naming.named units.now main ≡ true → Refuses units.now main f) }
 {
-    let mut entries = Vec::new(alloc);
-    for unit in units {
-        entries.push(entry(unit))?;
+    match typed_program(alloc, library, units) {
+        Ok(subprograms) => Ok(subprograms),
+        Err(failure) => Err(typing(failure)),
     }
-    Ok(entries)
+}
+
+/// The most words that a subprogram may declare.
+const WORD_LIMIT: usize = 2048;
+
+/// Whether a subprogram declares no more words than it may: each object has one.
+fn is_within_words(subprogram: &Subprogram) -> bool
+    ensures { result ≡ nat_le (spec.block_words (subprogram_of subprogram.now).body) spec.word_limit }
+{
+    subprogram.body.declarations.len() <= WORD_LIMIT
+}
+
+/// The place of the first unit whose subprogram declares too many words.
+fn too_many_words(units: &[Unit], subprograms: &[Subprogram]) -> Option<Pos>
+    ensures { result ≡ spec.too_many_words units.now (map subprogram_of subprograms.now) }
+{
+    let mut left = subprograms;
+    for unit in units {
+        let (subprogram, rest) = left.split_first()?;
+        if !is_within_words(subprogram) {
+            return Some(unit.item_pos);
+        }
+        left = rest;
+    }
+    None
 }
 
 /// What the limits ask of a unit.
@@ -74,18 +107,31 @@ fn entry(unit: &Unit) -> UnitEntry
     }
 }
 
+/// What the limits ask of the units.
+fn entries(alloc: Global, units: &[Unit]) -> Result<Vec<UnitEntry>, AllocError>
+    ensures { IfOk result (λ entries. entries.items ≡ map entry_of units.now) }
+{
+    let mut entries = Vec::new(alloc);
+    for unit in units {
+        entries.push(entry(unit))?;
+    }
+    Ok(entries)
+}
+
 /// The program of these units whose main procedure has this name, where case does not count. Rules on
-/// names come first, over all units, and then those on types.
-#[tactic(auto, using(crate::proofs::Programs::memory))]
+/// names come first, over all units, then those on types, and then the limit on declared words.
+#[tactic(auto, using(crate::proofs::Programs::refusals))]
 pub fn check(alloc: Global, units: &[Unit], main: &str) -> Result<Program, Failure<CheckFault>>
     ensures program { IfOk result (λ p. elaborated units.now main.now ≡ Some (program_of p)) }
     ensures units { IfOk result (λ p. p.units ≡ map entry_of units.now) }
     ensures refused { IfErr result (Refuses units.now (str_to_ascii_lowercase main.now)) }
 {
     let lower = main.as_bytes().to_ascii_lowercase(alloc)?;
-    let named = check_names(alloc, units, lower.as_slice())?;
-    let places = places_of(alloc, units)?;
-    let subprograms = typed_units(alloc, &named.library, &places, units)?;
+    let named = named(alloc, units, lower.as_slice())?;
+    let subprograms = subprograms(alloc, &named.library, units)?;
+    if let Some(pos) = too_many_words(units, subprograms.as_slice()) {
+        return Err(Failure::Fault(CheckFault::Limit(LimitFault { pos })));
+    }
     Ok(Program {
         subprograms: Seq::from(subprograms),
         main: named.main,
@@ -96,4 +142,6 @@ pub fn check(alloc: Global, units: &[Unit], main: &str) -> Result<Program, Failu
 /// Units that are refused are no legal program.
 pub fn refused_is_illegal()
     ensures { (units : List LibraryUnit) (main : List ℕ) (fault : CheckFault) → Refuses units (str_to_ascii_lowercase main) (Fault fault) → elaborated units main ≡ None }
-{}
+{
+    broken_names_are_not_named();
+}

@@ -1,19 +1,11 @@
 //! Why units are no legal program, and where.
 
 ghost use Rattle.std.specs.Prelude.{◌≡◌};
-ghost use Rattle.ada_types.specs.Answer.{unnamed, mistyped};
+ghost use Rattle.ada_types.specs.Answer.{mistyped};
 
+use ada_names::NameFault;
 use cov_base::{Failure, Pos};
 use thiserror::Error;
-
-/// A rule on names is broken: a name denotes nothing visible, is declared twice, leads round in a
-/// circle of `with`s or does not repeat its unit's. Where the main procedure is not there, the place
-/// is the beginning of the first file.
-#[derive(Clone, Copy, Debug, PartialEq, Eq, Error)]
-#[error("no such name")]
-pub struct NameFault {
-    pub pos: Pos,
-}
 
 /// A rule on types is broken.
 #[derive(Clone, Copy, Debug, PartialEq, Eq, Error)]
@@ -41,16 +33,9 @@ pub enum CheckFault {
     Limit(LimitFault),
 }
 
-/// A refusal by the rules on names.
-pub fn unnamed(pos: Pos) -> Failure<CheckFault>
-    ensures { result ≡ unnamed pos }
-{
-    Failure::Fault(CheckFault::Naming(NameFault { pos }))
-}
-
 /// A refusal by the rules on types.
-pub fn mistyped(pos: Pos) -> Failure<CheckFault>
+pub fn mistyped(pos: Pos) -> Failure<TypeFault>
     ensures { result ≡ mistyped pos }
 {
-    Failure::Fault(CheckFault::Typing(TypeFault { pos }))
+    Failure::Fault(TypeFault { pos })
 }

@@ -1,45 +1,38 @@
-//! Units made by hand, each wrong in one way, and where they are refused.
+//! A unit made by hand, and what is wrong with it where it is changed.
 
 use crate::*;
 use ada_syntax::{
-    Expr, HandledStatements, Identifier, LibraryItem, Name, Specification, Statement,
-    StatementKind, SubprogramBody, Suffix, Unit, WithClause,
+    BinaryOperator, Constancy, Declaration, DeclarationKind, Expr, HandledStatements, Identifier,
+    Initial, LibraryItem, Name, Operand, Specification, Statement, StatementKind, SubprogramBody,
+    SubtypeIndication, Suffix, Unit, WithClause,
 };
-use ada_tree::Program;
+use ada_tree::{NewValue, Object, Program};
 use cov_base::{Bytes, Failure, Pos, Seq};
 use std::alloc::{AllocError, Global};
 use std::test::Fail;
 
-/// `with .. procedure P is begin .. end ..` in the file number 0.
+/// `with Test_IO; procedure P is X : .. Integer ..; begin X := X + 2; Test_IO.Put (X); end P;`, a
+/// part on each line.
 #[derive(Clone, Copy)]
 struct Text {
-    /// The unit named in `with`; none where this is empty.
-    with_name: &'static str,
-    package: &'static str,
+    constancy: Constancy,
+    /// Whether X is initialized to 1.
+    has_value: bool,
+    /// The procedure of `Test_IO`.
     procedure: &'static str,
-    /// How many numerals the procedure of the package is called with.
-    numerals: u32,
-    end_name: &'static str,
-    main: &'static str,
 }
 
-/// `with Test_IO; procedure P is begin Test_IO.Put (7); end P;` with the main procedure P.
-const PUT: Text = Text {
-    with_name: "Test_IO",
-    package: "Test_IO",
+const TEXT: Text = Text {
+    constancy: Constancy::Variable,
+    has_value: true,
     procedure: "Put",
-    numerals: 1,
-    end_name: "P",
-    main: "P",
 };
 
-const WITH_LINE: u32 = 2;
+const DECLARATION_LINE: u32 = 3;
 
-const CALL_LINE: u32 = 4;
+const ASSIGNMENT_LINE: u32 = 4;
 
-const ACTUAL_LINE: u32 = 5;
-
-const END_LINE: u32 = 6;
+const CALL_LINE: u32 = 5;
 
 fn at(line: u32) -> Pos {
     Pos {
@@ -56,149 +49,179 @@ fn identifier(alloc: Global, line: u32, text: &str) -> Result<Identifier, AllocE
     })
 }
 
-/// The statement of a text.
+fn name(alloc: Global, line: u32, text: &str) -> Result<Name, AllocError> {
+    Ok(Name::new(identifier(alloc, line, text)?, Vec::new(alloc)))
+}
+
+fn initial(alloc: Global, value: Expr) -> Initial {
+    Initial {
+        others: Seq::from(Vec::new(alloc)),
+        value,
+    }
+}
+
+/// The declaration of X.
+fn declaration(alloc: Global, text: &Text) -> Result<Declaration, AllocError> {
+    let mut names = Vec::new(alloc);
+    names.push(identifier(alloc, DECLARATION_LINE, "X")?)?;
+    let indication = SubtypeIndication {
+        mark: name(alloc, DECLARATION_LINE, "Integer")?,
+        constraint: None,
+    };
+    let value = if text.has_value {
+        Some(initial(alloc, Expr::numeral(at(DECLARATION_LINE), 1)))
+    } else {
+        None
+    };
+    Ok(Declaration {
+        pos: at(DECLARATION_LINE),
+        kind: DeclarationKind::Object(Seq::from(names), text.constancy, indication, value),
+    })
+}
+
+/// `X := X + 2;`
+fn assignment(alloc: Global) -> Result<Statement, AllocError> {
+    let pos = at(ASSIGNMENT_LINE);
+    let mut others = Vec::new(alloc);
+    others.push(Operand {
+        operator: BinaryOperator::Add,
+        operand: Expr::numeral(pos, 2),
+    })?;
+    let first = Expr::named(pos, name(alloc, ASSIGNMENT_LINE, "x")?);
+    let value = initial(alloc, Expr::sum(alloc, first, others)?);
+    Ok(Statement {
+        pos,
+        kind: StatementKind::Assignment(name(alloc, ASSIGNMENT_LINE, "X")?, value),
+    })
+}
+
+/// `Test_IO.Put (X);`
 fn call(alloc: Global, text: &Text) -> Result<Statement, AllocError> {
+    let pos = at(CALL_LINE);
+    let mut actuals = Vec::new(alloc);
+    actuals.push(Expr::named(pos, name(alloc, CALL_LINE, "X")?))?;
     let mut suffixes = Vec::new(alloc);
     suffixes.push(Suffix::Selected(identifier(alloc, CALL_LINE, text.procedure)?))?;
-    let mut actuals = Vec::new(alloc);
-    for _ in 0..text.numerals {
-        actuals.push(Expr::numeral(at(ACTUAL_LINE), 7))?;
-    }
-    if text.numerals > 0 {
-        suffixes.push(Suffix::Applied(actuals))?;
-    }
-    let prefix = identifier(alloc, CALL_LINE, text.package)?;
+    suffixes.push(Suffix::Applied(actuals))?;
+    let prefix = identifier(alloc, CALL_LINE, "Test_IO")?;
     Ok(Statement {
-        pos: at(CALL_LINE),
+        pos,
         kind: StatementKind::Call(Name::new(prefix, suffixes)),
     })
 }
 
 /// The body of a text.
 fn body(alloc: Global, text: &Text) -> Result<SubprogramBody, AllocError> {
+    let mut declarations = Vec::new(alloc);
+    declarations.push(declaration(alloc, text)?)?;
     let mut statements = Vec::new(alloc);
+    statements.push(assignment(alloc)?)?;
     statements.push(call(alloc, text)?)?;
     Ok(SubprogramBody {
         specification: Specification {
-            pos: at(3),
-            name: identifier(alloc, 3, "P")?,
+            pos: at(2),
+            name: identifier(alloc, 2, "P")?,
             parameters: Seq::from(Vec::new(alloc)),
             result_mark: None,
         },
-        declarations: Seq::from(Vec::new(alloc)),
+        declarations: Seq::from(declarations),
         statements: HandledStatements {
             statements,
             handlers: Vec::new(alloc),
         },
-        end_name: Some(identifier(alloc, END_LINE, text.end_name)?),
+        end_name: None,
     })
-}
-
-/// The `with` clauses of a text.
-fn withs(alloc: Global, text: &Text) -> Result<Vec<WithClause>, AllocError> {
-    let mut withs = Vec::new(alloc);
-    if text.with_name.is_empty() {
-        return Ok(withs);
-    }
-    let mut names = Vec::new(alloc);
-    names.push(identifier(alloc, WITH_LINE, text.with_name)?)?;
-    withs.push(WithClause {
-        names: Seq::from(names),
-    })?;
-    Ok(withs)
 }
 
 /// What is answered for a text.
 fn answer(alloc: Global, text: &Text) -> Result<Program, Failure<CheckFault>> {
+    let mut names = Vec::new(alloc);
+    names.push(identifier(alloc, 1, "Test_IO")?)?;
+    let mut withs = Vec::new(alloc);
+    withs.push(WithClause {
+        names: Seq::from(names),
+    })?;
     let mut units = Vec::new(alloc);
     units.push(Unit {
-        pos: at(WITH_LINE),
-        withs: Seq::from(withs(alloc, text)?),
-        item_pos: at(3),
+        pos: at(1),
+        withs: Seq::from(withs),
+        item_pos: at(2),
         item: LibraryItem::Subprogram(body(alloc, text)?),
     })?;
-    check(alloc, units.as_slice(), text.main)
+    check(alloc, units.as_slice(), "p")
 }
 
+/// Whether a typed statement is `X := X + 2;`, the second obligation.
+fn is_assignment(statement: &ada_tree::Statement) -> bool {
+    match &statement.kind {
+        ada_tree::StatementKind::Assignment(label, Object::Local(0), NewValue::Scalar(_, value)) =>
+            { label.number == 1 && matches!(&value.kind, ada_tree::ExprKind::Operations(..)) }
+        _ => false,
+    }
+}
+
+/// Whether a text is a program of one declaration and two statements.
 fn is_taken(alloc: Global, text: &Text) -> bool {
-    answer(alloc, text).is_ok()
-}
-
-/// Whether a text is refused by the rules on names, at this line.
-fn is_unnamed(alloc: Global, text: &Text, line: u32) -> bool {
-    match answer(alloc, text) {
-        Err(Failure::Fault(CheckFault::Naming(fault))) => fault.pos.line == line,
+    let Ok(program) = answer(alloc, text) else {
+        return false;
+    };
+    match program.subprograms.as_slice() {
+        [subprogram] => {
+            let statements = subprogram.body.statements.as_slice();
+            subprogram.body.declarations.len() == 1
+                && statements.len() == 2
+                && statements.iter().any(is_assignment)
+        }
         _ => false,
     }
 }
 
-/// Whether a text is refused by the rules on types, at this line.
-fn is_mistyped(alloc: Global, text: &Text, line: u32) -> bool {
+/// The line of a refusal by the rules on names.
+fn unnamed_line(alloc: Global, text: &Text) -> Option<u32> {
     match answer(alloc, text) {
-        Err(Failure::Fault(CheckFault::Typing(fault))) => fault.pos.line == line,
-        _ => false,
+        Err(Failure::Fault(CheckFault::Naming(fault))) => Some(fault.pos.line),
+        _ => None,
+    }
+}
+
+/// The line of a refusal by the rules on types.
+fn mistyped_line(alloc: Global, text: &Text) -> Option<u32> {
+    match answer(alloc, text) {
+        Err(Failure::Fault(CheckFault::Typing(fault))) => Some(fault.pos.line),
+        _ => None,
     }
 }
 
 #[test]
-fn legal_units_are_taken(rt: HostRuntime) {
-    assert!(rt; is_taken(rt.alloc(), &PUT));
-}
-
-#[test]
-fn case_counts_nothing(rt: HostRuntime) {
-    let text = Text {
-        end_name: "p",
-        main: "p",
-        procedure: "PUT",
-        ..PUT
+fn a_legal_unit_has_its_typed_form(rt: HostRuntime) {
+    assert!(rt; is_taken(rt.alloc(), &TEXT));
+    let get = Text {
+        procedure: "GET",
+        ..TEXT
     };
-    assert!(rt; is_taken(rt.alloc(), &text));
+    assert!(rt; is_taken(rt.alloc(), &get));
 }
 
 #[test]
-fn the_name_at_the_end_repeats_the_units(rt: HostRuntime) {
-    let text = Text {
-        end_name: "Q",
-        ..PUT
+fn a_constant_is_set_once(rt: HostRuntime) {
+    let assigned = Text {
+        constancy: Constancy::Constant,
+        ..TEXT
     };
-    assert!(rt; is_unnamed(rt.alloc(), &text, END_LINE));
+    assert!(rt; mistyped_line(rt.alloc(), &assigned) == Some(ASSIGNMENT_LINE));
+    let unset = Text {
+        has_value: false,
+        ..assigned
+    };
+    assert!(rt; mistyped_line(rt.alloc(), &unset) == Some(DECLARATION_LINE));
 }
 
 #[test]
-fn a_missing_main_is_refused_at_the_beginning(rt: HostRuntime) {
-    let text = Text { main: "Q", ..PUT };
-    assert!(rt; is_unnamed(rt.alloc(), &text, 1));
-}
-
-#[test]
-fn unknown_names_are_refused(rt: HostRuntime) {
-    let part = Text {
+fn rules_on_names_come_first(rt: HostRuntime) {
+    let unknown = Text {
+        constancy: Constancy::Constant,
         procedure: "Set",
-        ..PUT
+        ..TEXT
     };
-    assert!(rt; is_unnamed(rt.alloc(), &part, CALL_LINE));
-    let unit = Text {
-        with_name: "Q",
-        ..PUT
-    };
-    assert!(rt; is_unnamed(rt.alloc(), &unit, WITH_LINE));
-    let unseen = Text {
-        with_name: "",
-        ..PUT
-    };
-    assert!(rt; is_unnamed(rt.alloc(), &unseen, CALL_LINE));
-}
-
-#[test]
-fn wrong_actuals_are_refused(rt: HostRuntime) {
-    let none = Text { numerals: 0, ..PUT };
-    assert!(rt; is_mistyped(rt.alloc(), &none, CALL_LINE));
-    let two = Text { numerals: 2, ..PUT };
-    assert!(rt; is_mistyped(rt.alloc(), &two, CALL_LINE));
-    let value = Text {
-        procedure: "Get",
-        ..PUT
-    };
-    assert!(rt; is_mistyped(rt.alloc(), &value, ACTUAL_LINE));
+    assert!(rt; unnamed_line(rt.alloc(), &unknown) == Some(CALL_LINE));
 }

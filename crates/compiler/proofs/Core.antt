@@ -1,5 +1,5 @@
 -- The object that is built of a legal program and its sources is the sources' object, and cheap.
-use Rattle.std.proofs.Common.{◌≡◌, ℕ, ◌+◌, ◌≤◌, ◌<◌, ◌^◌, ◌&&◌, Bool, true, false, nat_lt, nat_le, List, [], ◌∷◌, length, map, sum_by, fold, Option, Some, None, All, if◌then◌else◌, refl, sym, ap, ◌∙◌, subst, arith, lit≤}
+use Rattle.std.proofs.Common.{◌≡◌, ℕ, ◌+◌, ◌≤◌, ◌<◌, ◌&&◌, Bool, true, false, nat_lt, nat_le, List, [], ◌∷◌, length, map, sum_by, fold, Some, None, All, if◌then◌else◌, refl, sym, ap, ◌∙◌, subst, arith}
 use Rattle.std.specs.List.{list_all, AllByRecursion}
 use Rattle.std.specs.Str.{is_utf8}
 use Rattle.std.proofs.lemmas.Bool.Decides.{nat_tests}
@@ -9,7 +9,6 @@ use Rattle.ada_meaning.specs.Collected.{decisions_of}
 use Rattle.ada_meaning.specs.Program.{Program}
 use Rattle.ada_syntax.specs.Nodes.{capped, unit_nodes}
 use Rattle.ada_syntax.specs.declared.unit.Unit.{Unit as LibraryUnit}
-use Rattle.ada_tree.specs.declared.program.UnitEntry.{UnitEntry}
 use Rattle.ada_types.specs.Checked.{entry_of}
 use Rattle.ada_types.specs.Legal.{elaborated}
 use Rattle.ada_types.specs.Typing.{places_of}
@@ -18,21 +17,17 @@ use Rattle.compiler.proofs.MarksOf.{marks_law}
 use Rattle.compiler.proofs.Placing.{text_bound}
 use Rattle.compiler.specs.Built.{HasPlainName, CanBeNamed, AreLegal, IsBuiltOf}
 use Rattle.compiler.specs.Compiled.{IsCompiled}
-use Rattle.compiler.specs.Held.{HoldsImage}
-use Rattle.compiler.specs.Legal.{IsLegal}
 use Rattle.compiler.specs.Made.{IsCompilable}
 use Rattle.compiler.specs.Source.{entry_of_file, IsObjectOf, IsCheap}
 use Rattle.cov_base.specs.declared.obligations.SourceFile.{SourceFile}
-use Rattle.cov_base.specs.declared.position.Pos.{Pos}
 use Rattle.generic_expand.specs.Expanded.{node_limit, first_past}
 use Rattle.legal_programs.proofs.Numbered.{undecided_law as no_decision_law}
 use Rattle.legal_programs.proofs.Programs.{nodes_law}
 use Rattle.legal_programs.specs.Rising.{StatementsRise}
-use Rattle.lower.specs.Lowered.{kernel_of}
 use Rattle.object_format.specs.Counts.{FileFits}
 use Rattle.object_format.specs.Fields.{are_files}
 use Rattle.object_format.specs.File.{closed_object}
-use Rattle.object_format.specs.Read.{IsObject, HasObject, is_plain}
+use Rattle.object_format.specs.Read.{IsObject, HasObject}
 use Rattle.object_format.specs.declared.object.FileEntry.{FileEntry}
 use Rattle.object_format.specs.declared.object.Object.{Object}
 use Rattle.parsed_programs.specs.Places.{AreInFiles}

@@ -1,11 +1,9 @@
 -- The object that holds the linked pieces of a program's kernel behaves as the program.
-use Rattle.std.proofs.Common.{◌≡◌, ℕ, ◌+◌, ◌≤◌, ℤ, List, [], length, find, option_map, slice_get, Option, Some, refl, sym, ap, ◌∙◌, subst, ◌==◌}
+use Rattle.std.proofs.Common.{◌≡◌, ℕ, ◌+◌, ◌≤◌, ℤ, List, [], length, find, option_map, refl, ap, ◌∙◌, ◌==◌}
 use Rattle.std.specs.Option.{option_and_then}
 use Rattle.ada_meaning.specs.Program.{Program}
 use Rattle.assembler.specs.Laws.{ArePlaced}
 use Rattle.assembler.specs.Placed.{address_of, labels}
-use Rattle.assembler.specs.Reach.{AreItems}
-use Rattle.assembler.specs.declared.piece.Piece.{Piece}
 use Rattle.compiler.specs.Behaves.{Behaves, EndsInTime}
 use Rattle.compiler.specs.Held.{HoldsImage}
 use Rattle.compiler.proofs.Behaving.{behaves, ends_in_time}
@@ -27,9 +25,9 @@ use Rattle.line_table.specs.declared.rows.Row.{Row as Line}
 use Rattle.linker.proofs.RoleMarks.{roles_are_found}
 use Rattle.linker.proofs.RowMarks.{rows_are_found}
 use Rattle.linker.specs.Linked.{linked}
-use Rattle.lower.proofs.Static.{well_formed_law, within_law}
+use Rattle.lower.proofs.Fits.{well_formed_law, within_law}
 use Rattle.lower.specs.Lowered.{kernel_of}
-use Rattle.lower.specs.Marked.{all_statements}
+use Rattle.lower.specs.Sizes.{all_nodes}
 use Rattle.lower.specs.StraightLine.{IsStraightLine}
 use Rattle.object_facts.proofs.Fair.{fair}
 use Rattle.object_facts.specs.Object.{facts_of, row_of, condition_of}
@@ -58,7 +56,7 @@ abbrev site_in : Object → Kernel → Site
 site_in o k = site_of (object_image o) (facts_of o) (kernel_pieces k)
 
 -- what stands at the site of an object that holds the image implements the kernel
-implements : (p : Program) (o : Object) → IsStraightLine p → all_statements p.subprograms + length p.subprograms ≤ 4096 → IsSound o → HoldsImage (kernel_of p) o
+implements : (p : Program) (o : Object) → IsStraightLine p → all_nodes p.subprograms + length p.subprograms ≤ 4096 → IsSound o → HoldsImage (kernel_of p) o
     → Implements (site_in o (kernel_of p)) (kernel_of p)
 implements p o plain few sound holds =
     let k = kernel_of p in
@@ -78,11 +76,11 @@ same_run p o holds budget input =
     ∙ ap (λ at. runs (object_image o) budget (start (object_image o) (address_of (labels (kernel_pieces (kernel_of p))) 0 0) at o.init) input) holds.init_at
     ∙ ap (λ words. runs (object_image o) budget (start (object_image o) (address_of (labels (kernel_pieces (kernel_of p))) 0 0) data_start words) input) holds.init
 
-pub image_behaves : (p : Program) (o : Object) → IsStraightLine p → all_statements p.subprograms + length p.subprograms ≤ 4096 → IsSound o → HoldsImage (kernel_of p) o → Behaves p o
+pub image_behaves : (p : Program) (o : Object) → IsStraightLine p → all_nodes p.subprograms + length p.subprograms ≤ 4096 → IsSound o → HoldsImage (kernel_of p) o → Behaves p o
 image_behaves p o plain few sound holds =
-    behaves p plain o (site_in o (kernel_of p)) (implements p o plain few sound holds) refl (same_run p o holds)
+    behaves p plain (within_law p plain few) o (site_in o (kernel_of p)) (implements p o plain few sound holds) refl (same_run p o holds)
 
-pub image_ends_in_time : (p : Program) (o : Object) → IsStraightLine p → all_statements p.subprograms + length p.subprograms ≤ 4096 → IsSound o → HoldsImage (kernel_of p) o
+pub image_ends_in_time : (p : Program) (o : Object) → IsStraightLine p → all_nodes p.subprograms + length p.subprograms ≤ 4096 → IsSound o → HoldsImage (kernel_of p) o
     → EndsInTime p o
 image_ends_in_time p o plain few sound holds =
-    ends_in_time p plain o (site_in o (kernel_of p)) (implements p o plain few sound holds) refl (same_run p o holds)
+    ends_in_time p plain (within_law p plain few) o (site_in o (kernel_of p)) (implements p o plain few sound holds) refl (same_run p o holds)

@@ -1,5 +1,5 @@
 -- What an object says of the addresses of its items is what their marks do.
-use Rattle.std.proofs.Common.{◌≡◌, ℕ, ◌==◌, Bool, true, false, List, [], ◌∷◌, length, find, option_map, Option, Some, None, refl, sym, ap, ◌∙◌, if◌then◌else◌}
+use Rattle.std.proofs.Common.{◌≡◌, ℕ, ◌==◌, Bool, true, false, List, [], ◌∷◌, option_map, Some, None, refl, if◌then◌else◌}
 use Rattle.std.specs.Option.{option_and_then}
 use Rattle.assembler.specs.declared.piece.Mark.{Mark}
 use Rattle.assembler.specs.declared.piece.Mark.TheVariants.{Row as RowMark, Role as RoleMark}
@@ -7,7 +7,6 @@ use Rattle.kernel_code.specs.Standing.{row_marked, condition_marked}
 use Rattle.linker.specs.Laws.{row_at, role_at}
 use Rattle.object_facts.specs.Object.{row_of, condition_of}
 use Rattle.decision_map.specs.Roles as map
-use Rattle.transcript.specs.Facts.{Row, Condition}
 
 pub rows_kept : (address j : ℕ) (marks : List Mark) → option_map row_of (row_at address j marks) ≡ row_marked j marks
 rows_kept address j [] = refl

@@ -1,17 +1,16 @@
 -- Legal units whose statements rise, within the limit on nodes, can be compiled, and their object passes the checks and behaves.
-use Rattle.std.proofs.Common.{◌≡◌, ◌≤◌, ◌+◌, ℕ, length, true, List, [], map, sum_by, Some, sym, ap, ◌∙◌, arith}
+use Rattle.std.proofs.Common.{◌≡◌, ◌≤◌, ℕ, length, true, List, [], sum_by, Some, sym, ap, ◌∙◌, arith}
 use Rattle.ada_meaning.specs.Program.{Program}
 use Rattle.ada_syntax.specs.Nodes.{capped, unit_nodes}
 use Rattle.ada_syntax.specs.declared.unit.Unit.{Unit as LibraryUnit}
 use Rattle.ada_types.specs.Legal.{elaborated}
 use Rattle.ada_types.specs.Typing.{places_of}
 use Rattle.compiler.proofs.Images.{image_behaves, image_ends_in_time}
-use Rattle.compiler.proofs.LegalCalls.{calls_law}
 use Rattle.compiler.proofs.Sound.{made_law}
 use Rattle.compiler.proofs.Statements.{places_are_statements}
 use Rattle.compiler.specs.Behaves.{Behaves, EndsInTime}
 use Rattle.compiler.specs.Compiled.{IsCompiled}
-use Rattle.compiler.specs.Made.{places_in, IsCompilable, IsMadeOf}
+use Rattle.compiler.specs.Made.{IsCompilable, IsMadeOf}
 use Rattle.legal_programs.proofs.Counted.{limit_law}
 use Rattle.legal_programs.proofs.Numbered.{numbered_law, stay_law, obligations_law}
 use Rattle.legal_programs.proofs.Programs.{straight_line_law, places_law}
@@ -25,7 +24,6 @@ pub compilable_law : (units : List LibraryUnit) (main : List ℕ) (p : Program) 
     → sum_by (λ u. capped (unit_nodes u)) units ≤ 4096 → IsCompilable p
 compilable_law units main p legal rises few = record {
   straight = straight_line_law units main p legal;
-  calls = calls_law units main p legal;
   numbered = numbered_law units main p legal rises;
   in_order = stay_law units main p legal rises;
   few = limit_law units main p 4096 legal (omega arith) few;

@@ -2,11 +2,10 @@ pub mod Kept
 pub mod Behaving
 pub mod Images
 pub mod RowStarts
-pub mod NoRoles
+pub mod Roles
 pub mod Placing
 pub mod Statements
 pub mod Sound
-pub mod LegalCalls
 pub mod Legal
 pub mod MarksOf
 pub mod Core

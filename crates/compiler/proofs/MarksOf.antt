@@ -1,17 +1,15 @@
--- Each statement of a made object has its row, and no condition has a branch, since there is none.
-use Rattle.std.proofs.Common.{◌≡◌, ℕ, zero, suc, ◌+◌, ◌≤◌, ◌<◌, List, [], ◌∷◌, length, map, slice_get, Option, Some, None, refl, sym, ap, ◌∙◌, subst, arith, ◌⊎◌, inl, inr}
-use Rattle.std.specs.Prelude.{◌↔◌}
+-- Each statement of a made object has its row, and no branch is that of a condition, since there is none.
+use Rattle.std.proofs.Common.{◌≡◌, ℕ, zero, suc, ◌+◌, ◌≤◌, ◌<◌, List, [], ◌∷◌, length, map, slice_get, Some, refl, sym, ap, ◌∙◌, subst, arith, ◌⊎◌, inl, inr}
 use Rattle.ada_meaning.specs.Collected.{labels_of}
 use Rattle.ada_meaning.specs.Obligations.{numbers}
 use Rattle.ada_meaning.specs.Program.{Program}
+use Rattle.compiler.proofs.Roles.{no_branch}
 use Rattle.compiler.proofs.RowStarts.{start_at}
-use Rattle.compiler.proofs.Sound.{starts_law, no_role, entries_long}
-use Rattle.compiler.specs.Made.{places_in, IsCompilable, IsMadeOf}
-use Rattle.compiler.specs.Source.{IsRowOf, IsRoleOf, IsCondition, HasItsMarks}
+use Rattle.compiler.proofs.Sound.{starts_law, others_law, entries_long}
+use Rattle.compiler.specs.Made.{IsCompilable, IsMadeOf}
+use Rattle.compiler.specs.Source.{IsRowOf, IsCondition, HasItsMarks}
 use Rattle.cov_base.specs.declared.obligations.DecEntry.{DecEntry}
 use Rattle.decision_meaning.specs.Pair.{Somewhere}
-use Rattle.legal_programs.specs.Listed.{obligations_at}
-use Rattle.line_table.specs.declared.roles.Role.{Role}
 use Rattle.line_table.specs.declared.rows.Row.{Row}
 use Rattle.object_format.specs.declared.object.Object.{Object}
 use Rattle.object_format.specs.RowCheck.{start_of}
@@ -61,9 +59,6 @@ none_there n d there = let x : ⊥ = cc there in x
 no_condition : (decisions : List DecEntry) → decisions ≡ [] → (d c : ℕ) → IsCondition decisions d c → ⊥
 no_condition decisions none d c is = none_there d is.0 (ap (λ ds. slice_get ds d) (sym none) ∙ is.1)
 
-no_branch : (roles : List Role) → roles ≡ [] → (d c i : ℕ) → Somewhere (IsRoleOf d c i) roles → ⊥
-no_branch roles none d c i there = subst (λ rs. Somewhere (IsRoleOf d c i) rs) none there
-
 pub marks_law : (p : Program) (o : Object) → IsCompilable p → IsMadeOf p o → HasItsMarks o
 marks_law p o able made =
     let n = length (labels_of p.subprograms) in
@@ -75,7 +70,7 @@ marks_law p o able made =
         λ is. start_row s i o.rows (subst (λ ss. Somewhere (IsStart s i) ss) (sym starts) (numbers_start s i 0 n (omega arith) (omega (arith, is.0, long)) is.1)),
       );
       roles = λ d c i. (
-        λ there. absurd (no_branch o.roles (no_role p o able made) d c i there),
+        λ there. absurd (no_branch o.roles (others_law p o able made) d c i there),
         λ is. absurd (no_condition o.obligations.decisions (ap (λ ob. ob.decisions) made.obligations) d c is.0),
       );
     }

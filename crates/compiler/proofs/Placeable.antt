@@ -1,13 +1,13 @@
 -- The pieces of a program that can be compiled can be placed.
 use Rattle.std.proofs.Common.{◌≡◌, List, [], sym, subst, ◌∙◌, ap}
 use Rattle.ada_meaning.specs.Program.{Program}
-use Rattle.assembler.specs.Reach.{AreInReach, EndInTime, AreItems}
+use Rattle.assembler.specs.Reach.{AreInReach, EndInTime}
 use Rattle.assembler.specs.declared.piece.Piece.{Piece}
 use Rattle.compiler.specs.Made.{IsCompilable}
 use Rattle.kernel_code.proofs.PiecesFit.{pieces_can_be_placed}
 use Rattle.kernel_code.specs.Pieces.{kernel_pieces, CanBePlaced}
 use Rattle.kernel_ir.specs.declared.kernel.Kernel.{Kernel}
-use Rattle.lower.proofs.Static.{well_formed_law, within_law}
+use Rattle.lower.proofs.Fits.{well_formed_law, within_law}
 use Rattle.lower.specs.Lowered.{kernel_of}
 
 placeable : (p : Program) → IsCompilable p → CanBePlaced (kernel_pieces (kernel_of p))

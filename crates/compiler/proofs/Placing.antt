@@ -1,5 +1,5 @@
 -- An object that holds the image of a program's kernel has its places in memory.
-use Rattle.std.proofs.Common.{◌≡◌, ℕ, ◌+◌, ◌*◌, ◌%◌, ◌≤◌, ◌<◌, ◌==◌, ◌&&◌, Bool, true, nat_lt, nat_le, List, [], length, map, refl, sym, ap, ◌∙◌, subst, arith, lit≤}
+use Rattle.std.proofs.Common.{◌≡◌, ℕ, ◌+◌, ◌*◌, ◌%◌, ◌≤◌, ◌<◌, ◌==◌, ◌&&◌, Bool, true, nat_lt, nat_le, List, [], length, refl, ap, ◌∙◌, arith}
 use Rattle.std.proofs.lemmas.Bool.Decides.{nat_tests}
 use Rattle.ada_meaning.specs.Program.{Program}
 use Rattle.assembler.specs.Placed.{words_in, words_of}
@@ -10,15 +10,14 @@ use Rattle.kernel_code.specs.Code.{start_lines}
 use Rattle.kernel_code.specs.Line.{items_of}
 use Rattle.kernel_code.specs.Pieces.{kernel_pieces}
 use Rattle.kernel_ir.specs.declared.kernel.Kernel.{Kernel}
-use Rattle.kernel_ir.specs.Limits.{kernel_instructions}
 use Rattle.linker.proofs.Places.{text_words, is_entered}
 use Rattle.linker.specs.Linked.{linked}
-use Rattle.lower.proofs.Static.{well_formed_law, within_law, short_law}
+use Rattle.lower.proofs.Fits.{well_formed_law, within_law, short_law}
 use Rattle.lower.specs.Lowered.{kernel_of}
-use Rattle.lower.specs.Marked.{all_statements}
+use Rattle.lower.specs.Sizes.{all_nodes}
 use Rattle.lower.specs.StraightLine.{IsStraightLine}
 use Rattle.object_format.specs.Fields.{is_placed}
-use Rattle.object_format.specs.Text.{is_in_text, text_end}
+use Rattle.object_format.specs.Text.{is_in_text}
 use Rattle.object_format.specs.declared.object.Object.{Object}
 use Rattle.rv_semantics.specs.Layout.{data_start}
 
@@ -46,7 +45,7 @@ start_long : (k : Kernel) → 7 ≤ words_in (kernel_pieces k)
 start_long k = let start : words_of (items_of (start_lines k.main)) ≡ 7 = refl in omega arith
 
 -- text, entry and data have their places
-pub placed_law : (p : Program) (o : Object) → IsStraightLine p → all_statements p.subprograms + length p.subprograms ≤ 4096 → HoldsImage (kernel_of p) o → is_placed o ≡ true
+pub placed_law : (p : Program) (o : Object) → IsStraightLine p → all_nodes p.subprograms + length p.subprograms ≤ 4096 → HoldsImage (kernel_of p) o → is_placed o ≡ true
 placed_law p o plain few holds =
     let k = kernel_of p in
     let pieces = kernel_pieces k in
@@ -60,7 +59,7 @@ placed_law p o plain few holds =
     ∙ laid_out (length o.text) (is_in_text o.text o.entry) (omega arith) (omega arith) entered)
 
 -- the text takes at most 240 bytes for each node, and 4,096 beside
-pub text_bound : (p : Program) (o : Object) (nodes : ℕ) → IsStraightLine p → HoldsImage (kernel_of p) o → all_statements p.subprograms + length p.subprograms ≤ nodes
+pub text_bound : (p : Program) (o : Object) (nodes : ℕ) → IsStraightLine p → HoldsImage (kernel_of p) o → all_nodes p.subprograms + length p.subprograms ≤ nodes
     → 4 * length o.text ≤ 240 * nodes + 4096
 text_bound p o nodes plain holds few =
     omega (arith, text_long (kernel_of p) o holds, pieces_few (kernel_of p), short_law p plain, few)

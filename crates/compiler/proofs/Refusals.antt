@@ -1,16 +1,17 @@
 -- Sources that are a legal program are not refused.
-use Rattle.std.proofs.Common.{◌≡◌, ℕ, ◌+◌, List, [], ◌∷◌, ◌++◌, map, Option, Some, None, Result, Ok, Err, refl, sym, ap, ◌∙◌, subst}
-use Rattle.ada_lexer.specs.declared.lexer.LexFault.{LexFault}
+use Rattle.std.proofs.Common.{◌≡◌, ℕ, false, List, ◌++◌, map, Option, Some, None, Result, Ok, Err, refl, sym, ap, ◌∙◌, subst}
 use Rattle.ada_lexer.specs.declared.token.Token.{Token}
 use Rattle.ada_meaning.specs.Program.{Program}
 use Rattle.ada_parser.proofs.FileLaws.{file_unique}
-use Rattle.ada_parser.specs.Refusal.{Refused}
 use Rattle.ada_syntax.specs.declared.unit.Unit.{Unit as LibraryUnit}
+use Rattle.ada_names.proofs.Laws.{offends_fails}
+use Rattle.ada_names.specs.Naming.{named}
+use Rattle.ada_names.specs.Rules.{BreaksNames}
 use Rattle.ada_types.proofs.Laws.{refused_is_illegal}
 use Rattle.ada_types.specs.Checked as checked
 use Rattle.ada_types.specs.Checked.{entry_of}
 use Rattle.ada_types.specs.Legal.{elaborated}
-use Rattle.compiler.specs.Legal.{IsLegal, AreRefused, no_units, breaks_names, breaks_types, too_many_nodes}
+use Rattle.compiler.specs.Legal.{IsLegal, AreRefused, no_units, breaks_names, breaks_types, declares_too_much, too_many_nodes}
 use Rattle.cov_base.specs.declared.obligations.SourceFile.{SourceFile}
 use Rattle.cov_base.specs.declared.position.Pos.{Pos}
 use Rattle.generic_expand.specs.Expanded.{first_past}
@@ -56,13 +57,20 @@ have_units files units _ have (too_deep {tokens} {pos} fits same deep) =
 have_units files units fault have (without_units {tokens} flat breaks) =
     derived have.parsed (subst (λ lists. BreaksGrammar 0 lists fault) (one_tokens files tokens have.tokens flat have.flat) breaks)
 
+-- units that break a rule on names don't keep them
+broken : (units : List LibraryUnit) (main : List ℕ) (pos : Pos) → BreaksNames units main pos → named units main ≡ false
+broken units main pos offends = offends_fails offends
+
 pub not_refused : (files : List SourceFile) (main : List ℕ) (p : Program) (fault : SourceFault) → IsLegal files main p → AreRefused files main fault → ⊥
 not_refused files main p fault legal (no_units none) = have_units files legal.units fault legal.parsed none
 not_refused files main p _ legal (breaks_names {units} {pos} have offends) =
-    none_some (elaborated units main) p (refused_is_illegal units main _ (checked.breaks_names offends))
+    none_some (elaborated units main) p (refused_is_illegal broken units main _ (checked.breaks_names offends))
     (ap (λ us. elaborated us main) (one_program files units legal.units have legal.parsed) ∙ legal.elaborated)
 not_refused files main p _ legal (breaks_types {units} {pos} have holds offends) =
-    none_some (elaborated units main) p (refused_is_illegal units main _ (checked.breaks_types holds offends))
+    none_some (elaborated units main) p (refused_is_illegal broken units main _ (checked.breaks_types holds offends))
+    (ap (λ us. elaborated us main) (one_program files units legal.units have legal.parsed) ∙ legal.elaborated)
+not_refused files main p _ legal (declares_too_much {units} {ss} {pos} have holds typed past) =
+    none_some (elaborated units main) p (refused_is_illegal broken units main _ (checked.declares_too_much holds typed past))
     (ap (λ us. elaborated us main) (one_program files units legal.units have legal.parsed) ∙ legal.elaborated)
 not_refused files main p _ legal (too_many_nodes {units} {pos = pos} have is past) =
     none_some (first_past 0 (map entry_of units)) pos (ap (λ us. first_past 0 (map entry_of us)) (one_program files units legal.units have legal.parsed) ∙ legal.few) past

@@ -1,16 +1,16 @@
 -- An object that is made of a program passes the checks of objects.
-use Rattle.std.proofs.Common.{◌≡◌, ◌≢◌, ℕ, zero, suc, ◌+◌, ◌*◌, ◌^◌, ◌≤◌, ◌<◌, ◌==◌, ◌&&◌, Bool, true, false, nat_lt, nat_le, List, [], ◌∷◌, ◌++◌, length, map, All, AllPairs, refl, sym, ap, ◌∙◌, subst, arith, lit≤, length-append}
+use Rattle.std.proofs.Common.{◌≡◌, ◌≢◌, ℕ, zero, suc, ◌^◌, ◌≤◌, ◌<◌, ◌==◌, ◌&&◌, Bool, true, false, nat_lt, nat_le, List, [], ◌∷◌, ◌++◌, length, map, AllPairs, refl, sym, ap, ◌∙◌, subst, arith, lit≤, length-append}
 use Rattle.std.specs.List.{list_all, AllByRecursion}
 use Rattle.std.proofs.lemmas.Bool.Decides.{nat_tests}
 use Rattle.std.proofs.lemmas.List.{append-nil, length-map}
 use Rattle.std.proofs.lemmas.List.Elements.{All-from_recursion}
-use Rattle.ada_meaning.specs.Collected.{labels_of, labels, all_labels, block_labels}
+use Rattle.ada_meaning.specs.Collected.{declaration_labels, labels_of, labels, all_labels, block_labels}
 use Rattle.ada_meaning.specs.Obligations.{numbers, predefined_names, no_instance}
 use Rattle.ada_meaning.specs.Program.{Subprogram, Program}
 use Rattle.ada_meaning.specs.Tree as tree
 use Rattle.ada_meaning.specs.Types as type
-use Rattle.compiler.proofs.NoRoles.{no_roles}
 use Rattle.compiler.proofs.Placing.{placed_law, text_bound}
+use Rattle.compiler.proofs.Roles.{others_decide_nothing, others_are_roles, roles_few, held_are_other, held_passes}
 use Rattle.compiler.proofs.RowStarts.{named, start_at, starts_of_linked, starts_differ, rows_in_range}
 use Rattle.compiler.specs.Made.{places_in, IsCompilable, IsMadeOf}
 use Rattle.cov_base.specs.declared.obligations.Obligations.{Obligations}
@@ -22,18 +22,18 @@ use Rattle.legal_programs.specs.Listed.{entry_at, obligations_at}
 use Rattle.line_table.specs.declared.roles.Role.{Role}
 use Rattle.line_table.specs.declared.rows.Row.{Row as TableRow}
 use Rattle.linker.proofs.RowMarks.{rows_are_in_order}
-use Rattle.linker.proofs.Roles.{roles_are_branches}
 use Rattle.linker.specs.Linked.{linked}
-use Rattle.lower.proofs.Static.{rows_law}
+use Rattle.lower.proofs.Marks.{rows_law, conditions_law}
 use Rattle.lower.specs.Lowered.{kernel_of}
-use Rattle.lower.specs.Marked.{row_of, statement_count, statements_in, all_statements}
-use Rattle.lower.specs.StraightLine.{IsPlainStatement, ArePlainStatements, IsPlainBlock, IsStraightLine}
+use Rattle.lower.specs.Marked.{row_of}
+use Rattle.lower.specs.Sizes.{declarations_nodes, statement_nodes, statements_nodes, block_nodes, all_nodes}
+use Rattle.lower.specs.StraightLine.{IsPlainStatement, ArePlainStatements, IsPlainBlock, IsPlainProcedure}
 use Rattle.object_format.specs.Checked.{IsSound}
-use Rattle.object_format.specs.Counts.{IsCountable, AreCountable, InstanceFits, RegionFits, FileFits, IsCounted}
+use Rattle.object_format.specs.Counts.{IsCountable, AreCountable, InstanceFits, RegionFits, IsCounted}
 use Rattle.object_format.specs.Decisions.{AreExpression}
-use Rattle.object_format.specs.Fields.{is_placed, are_files, are_statements, are_obliged, is_row, is_role, passes_field}
-use Rattle.object_format.specs.Read.{HasObject, is_plain}
-use Rattle.object_format.specs.RoleCheck.{branches_from, conditions_of, AreWhole, PassesRole}
+use Rattle.object_format.specs.Fields.{is_placed, are_files, are_statements, are_obliged, is_row, is_role, is_other_role, passes_field}
+use Rattle.object_format.specs.Read.{HasObject, has_no_condition, is_plain}
+use Rattle.object_format.specs.RoleCheck.{PassesRole}
 use Rattle.object_format.specs.RowCheck.{start_of, is_in, PassesRow}
 use Rattle.object_format.specs.declared.object.FileEntry.{FileEntry}
 use Rattle.object_format.specs.declared.object.Object.{Object}
@@ -50,27 +50,32 @@ right_holds : (a b : Bool) → (a && b) ≡ true → b ≡ true
 right_holds true b both = both
 right_holds false b both = absurd (let x : ⊥ = cc in x)
 
--- how many labels there are
+-- there are no more labels than nodes
+label_declarations : (ds : List tree.Declaration) → length (declaration_labels ds) ≤ declarations_nodes ds
+label_declarations [] = omega arith
+label_declarations (tree.initialized l d v ∷ ds) = omega (arith, label_declarations ds)
+label_declarations (tree.without_value d t ∷ ds) = omega (arith, label_declarations ds)
 
-label_each : (n : ℕ) (s : tree.Stmt) → IsPlainStatement n s → length (labels s) ≡ 1
-label_each n (tree.null_statement l) plain = refl
-label_each n (tree.return_statement l) plain = refl
-label_each n (tree.procedure_call l tree.test_put (tree.by_expression (tree.literal x) tree.no_actual)) plain = refl
-label_each n (tree.procedure_call l (tree.subprogram (type.of_instance zero) m) tree.no_actual) plain = refl
-label_each n s plain = absurd plain
+label_each : (p : Program) (n : ℕ) (s : tree.Stmt) → IsPlainStatement p n s → length (labels s) ≤ statement_nodes s
+label_each p n (tree.null_statement l) plain = omega arith
+label_each p n (tree.assignment l o parts v) plain = omega arith
+label_each p n (tree.procedure_call l c actuals) plain = omega arith
+label_each p n (tree.return_statement l) plain = omega arith
+label_each p n s plain = absurd plain
 
-label_all : (n : ℕ) (ss : tree.Stmts) → ArePlainStatements n ss → length (all_labels ss) ≡ statement_count ss
-label_all n tree.no_statement plain = refl
-label_all n (tree.and_statement s ss) plain = omega (arith, length-append (labels s) (all_labels ss), label_each n s plain.0, label_all n ss plain.1)
+label_all : (p : Program) (n : ℕ) (ss : tree.Stmts) → ArePlainStatements p n ss → length (all_labels ss) ≤ statements_nodes ss
+label_all p n tree.no_statement plain = omega arith
+label_all p n (tree.and_statement s ss) plain = omega (arith, length-append (labels s) (all_labels ss), label_each p n s plain.0, label_all p n ss plain.1)
 
-label_block : (n : ℕ) (b : tree.Block) → IsPlainBlock n b → length (block_labels b) ≡ statements_in b
-label_block n (tree.block [] ss tree.no_handler) plain = ap length (append-nil (all_labels ss)) ∙ label_all n ss plain
-label_block n (tree.block [] ss (tree.handler cs hss hs)) plain = absurd plain
-label_block n (tree.block (x ∷ ds) ss hs) plain = absurd plain
+label_block : (p : Program) (b : tree.Block) → IsPlainBlock p b → length (block_labels b) ≤ block_nodes b
+label_block p (tree.block ds ss tree.no_handler) plain =
+    let front = declaration_labels ds in
+    omega (arith, length-append (front ++ all_labels ss) [], length-append front (all_labels ss), label_declarations ds, label_all p (length ds) ss plain.2)
+label_block p (tree.block ds ss (tree.handler cs hss hs)) plain = absurd plain
 
-label_bodies : (n : ℕ) (ss : List Subprogram) → Everywhere (λ s. (s.parameters ≡ []) × IsPlainBlock n s.body) ss → length (labels_of ss) ≡ all_statements ss
-label_bodies n [] plain = refl
-label_bodies n (s ∷ ss) plain = omega (arith, length-append (block_labels s.body) (labels_of ss), label_block n s.body plain.0.1, label_bodies n ss plain.1)
+label_bodies : (p : Program) (ss : List Subprogram) → Everywhere (IsPlainProcedure p) ss → length (labels_of ss) ≤ all_nodes ss
+label_bodies p [] plain = omega arith
+label_bodies p (s ∷ ss) plain = omega (arith, length-append (block_labels s.body) (labels_of ss), label_block p s.body plain.0.body, label_bodies p ss plain.1)
 
 numbers_long : (from count : ℕ) → length (numbers from count) ≡ count
 numbers_long from zero = refl
@@ -89,11 +94,11 @@ obliged_holds files places statements = ap (λ b. true && true && b && true && t
 
 abbrev plain_parts : List ℕ → Obligations → List Role → Bool
 plain_parts init ob roles =
-    (length init == 0) && (length ob.exceptions == 4) && (length ob.instances == 1) && (length ob.decisions == 0) && (length ob.regions == 0) && (length roles == 0)
+    (length init == 0) && (length ob.exceptions == 4) && (length ob.instances == 1) && (length ob.decisions == 0) && (length ob.regions == 0) && has_no_condition roles
 
-plain_holds : (places : List Pos) (init : List ℕ) (ob : Obligations) (roles : List Role) → init ≡ [] → ob ≡ obligations_at places [] → roles ≡ [] → plain_parts init ob roles ≡ true
-plain_holds places init ob roles no_init obligations no_role =
-    ap (λ i. plain_parts i ob roles) no_init ∙ (ap (λ x. plain_parts [] x roles) obligations ∙ ap (plain_parts [] (obligations_at places [])) no_role)
+plain_holds : (places : List Pos) (init : List ℕ) (ob : Obligations) (roles : List Role) → init ≡ [] → ob ≡ obligations_at places [] → has_no_condition roles ≡ true → plain_parts init ob roles ≡ true
+plain_holds places init ob roles no_init obligations undecided =
+    ap (λ i. plain_parts i ob roles) no_init ∙ (ap (λ x. plain_parts [] x roles) obligations ∙ undecided)
 
 few_files : (files : List FileEntry) → are_files files ≡ true → length files ≤ 64
 few_files files are =
@@ -114,8 +119,9 @@ starts_law p o able made =
     ∙ (starts_of_labels (labels_of p.subprograms)
     ∙ ap (map start_at) (subst (λ ls. map (λ l. l.number) ls ≡ numbers 0 (length ls)) able.in_order able.numbered.statements))))
 
-pub no_role : (p : Program) (o : Object) → IsCompilable p → IsMadeOf p o → o.roles ≡ []
-no_role p o able made = made.holds.roles ∙ no_roles p [] able.straight able.calls
+-- none of its branches is that of a condition
+pub others_law : (p : Program) (o : Object) → IsCompilable p → IsMadeOf p o → list_all is_other_role o.roles ≡ true
+others_law p o able made = held_are_other (kernel_of p) o (conditions_law p able.straight) made.holds
 
 pub entries_long : (p : Program) → length (map entry_at (places_in p)) ≡ length (labels_of p.subprograms)
 entries_long p = length-map (places_in p) entry_at ∙ length-map (labels_of p.subprograms) (λ l. l.place)
@@ -132,7 +138,7 @@ field_law p o able made =
     ap (λ ob. list_all (is_row (length ob.statements) (length ob.instances)) o.rows) made.obligations
     ∙ (ap (λ m. list_all (is_row m 1) o.rows) (entries_long p) ∙ rows_in_range n o.rows (starts_law p o able made)) in
     let roles : list_all (is_role o.obligations.decisions (length o.obligations.instances)) o.roles ≡ true =
-    ap (list_all (is_role o.obligations.decisions (length o.obligations.instances))) (no_role p o able made) in
+    others_are_roles o.obligations.decisions (length o.obligations.instances) o.roles (others_law p o able made) in
     both_hold _ _ (both_hold _ _ (both_hold _ _ (both_hold (is_placed o) (are_files o.files) (placed_law p o able.straight able.few made.holds) made.files) obliged) rows) roles
 
 row_law : (p : Program) (o : Object) → IsCompilable p → IsMadeOf p o → PassesRow o
@@ -146,15 +152,7 @@ row_law p o able made =
     }
 
 role_law : (p : Program) (o : Object) → IsCompilable p → IsMadeOf p o → PassesRole o
-role_law p o able made =
-    let pieces = kernel_pieces (kernel_of p) in
-    let none = no_role p o able made in
-    record {
-      branches = ap (map (λ (role : Role). role.address)) made.holds.roles
-          ∙ (roles_are_branches pieces [] (pieces_are_marked (kernel_of p)).marks made.holds.items ∙ ap (branches_from 0x10000) (sym made.holds.text));
-      single = subst (λ roles. AllPairs (λ one next. one ≢ next) (conditions_of roles)) (sym none) (λ i j d below within. absurd (omega (arith, within)));
-      whole = subst (λ roles. AreWhole o.obligations.decisions (conditions_of roles)) (sym none) (λ one has condition below. absurd (omega (arith, has.1)));
-    }
+role_law p o able made = held_passes (kernel_of p) o (conditions_law p able.straight) made.holds
 
 sound_law : (p : Program) (o : Object) → IsCompilable p → IsMadeOf p o → IsSound o
 sound_law p o able made = record {
@@ -169,7 +167,7 @@ sound_law p o able made = record {
 counted_law : (p : Program) (o : Object) → IsCompilable p → IsMadeOf p o → IsCounted o
 counted_law p o able made =
     let n = length (labels_of p.subprograms) in
-    let few : n ≤ 4096 = omega (arith, label_bodies (length p.subprograms) p.subprograms able.straight.bodies, able.few) in
+    let few : n ≤ 4096 = omega (arith, label_bodies p p.subprograms able.straight.bodies, able.few) in
     let rows_long : length o.rows ≡ n =
     sym (length-map o.rows start_of) ∙ (ap length (starts_law p o able made) ∙ (length-map (numbers 0 n) start_at ∙ numbers_long 0 n)) in
     record {
@@ -183,11 +181,11 @@ counted_law p o able made =
       decisions = subst (λ ob. IsCountable ob.decisions) (sym made.obligations) (lit≤ tt);
       regions = subst (λ ob. AreCountable RegionFits ob.regions) (sym made.obligations) (lit≤ tt, All-from_recursion RegionFits [] tt);
       rows = omega (arith, rows_long, few);
-      roles = subst (λ (roles : List Role). length roles < 2 ^ 32) (sym (no_role p o able made)) (lit≤ tt);
+      roles = omega (arith, roles_few o (role_law p o able made), text_bound p o 4096 able.straight made.holds able.few);
     }
 
 pub made_law : (p : Program) (o : Object) → IsCompilable p → IsMadeOf p o → HasObject o × (is_plain o ≡ true)
 made_law p o able made = (
   record { sound = sound_law p o able made; counted = counted_law p o able made },
-  plain_holds (places_in p) o.init o.obligations o.roles made.holds.init made.obligations (no_role p o able made),
+  plain_holds (places_in p) o.init o.obligations o.roles made.holds.init made.obligations (others_decide_nothing o.roles (others_law p o able made)),
 )

@@ -1,10 +1,14 @@
 -- Which sources are a legal program, which program they are, and why others are refused.
 use Rattle.std.specs.Prelude.{◌≡◌, ℕ, true, List, map, Some, None}
 use Rattle.std.specs.Str.{str_to_ascii_lowercase}
-use Rattle.ada_meaning.specs.Program.{Program}
+use Rattle.ada_meaning.specs.Program.{Subprogram, Program}
+use Rattle.ada_names.specs.Naming.{named}
+use Rattle.ada_names.specs.Rules.{BreaksNames}
 use Rattle.ada_syntax.specs.declared.unit.Unit.{Unit as LibraryUnit}
 use Rattle.ada_types.specs.Checked.{entry_of}
-use Rattle.ada_types.specs.Legal.{naming, typing, Construct, program, holds, Offends, elaborated}
+use Rattle.ada_types.specs.Legal.{typed, elaborated}
+use Rattle.ada_types.specs.Rules.{BreaksTypes}
+use Rattle.ada_types.specs.Typing.{too_many_words}
 use Rattle.cov_base.specs.declared.failure.Failure.{Failure}
 use Rattle.cov_base.specs.declared.failure.Failure.TheVariants.{Fault, WantOfMemory}
 use Rattle.cov_base.specs.declared.obligations.SourceFile.{SourceFile}
@@ -22,17 +26,16 @@ pub record IsLegal (files : List SourceFile) (main : List ℕ) (p : Program) : T
   pub elaborated : elaborated units main ≡ Some p
   pub few : first_past 0 (map entry_of units) ≡ None
 
--- all units with a main procedure
-abbrev pub whole : List LibraryUnit → (main : List ℕ) → Construct
-whole units main = program units (str_to_ascii_lowercase main)
-
--- sources that are refused, with their first fault: they have no units; else a construct breaks a rule on names; else one on types; else
--- there are too many nodes
+-- Sources that are refused, with their first fault: they have no units; else a construct breaks a rule on names, where the case of the main
+-- procedure's name does not count; else one on types; else a procedure declares too many words; else there are too many nodes.
 pub data AreRefused (files : List SourceFile) (main : List ℕ) : SourceFault → Type 0 where
   no_units : {fault : SourceFault} → HaveNoUnits files fault → AreRefused files main fault
-  breaks_names : {units : List LibraryUnit} {pos : Pos} → HaveUnits files units → Offends naming (whole units main) pos → AreRefused files main (fault_at pos Naming)
-  breaks_types : {units : List LibraryUnit} {pos : Pos} → HaveUnits files units → holds naming (whole units main) ≡ true → Offends typing (whole units main) pos
+  breaks_names : {units : List LibraryUnit} {pos : Pos} → HaveUnits files units → BreaksNames units (str_to_ascii_lowercase main) pos
+      → AreRefused files main (fault_at pos Naming)
+  breaks_types : {units : List LibraryUnit} {pos : Pos} → HaveUnits files units → named units (str_to_ascii_lowercase main) ≡ true → BreaksTypes units pos
       → AreRefused files main (fault_at pos Typing)
+  declares_too_much : {units : List LibraryUnit} {ss : List Subprogram} {pos : Pos} → HaveUnits files units → named units (str_to_ascii_lowercase main) ≡ true → typed units ≡ Some ss
+      → too_many_words units ss ≡ Some pos → AreRefused files main (fault_at pos Limit)
   too_many_nodes : {units : List LibraryUnit} {p : Program} {pos : Pos} → HaveUnits files units → elaborated units main ≡ Some p → first_past 0 (map entry_of units) ≡ Some pos
       → AreRefused files main (fault_at pos Limit)
 

@@ -1,6 +1,5 @@
 pub mod Behaves
 pub mod Held
-pub mod Callless
 pub mod Made
 pub mod Compiled
 pub mod Legal

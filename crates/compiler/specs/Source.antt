@@ -1,6 +1,5 @@
 -- When an object is that of sources.
-use Rattle.std.specs.Prelude.{◌≡◌, ◌↔◌, ℕ, ◌+◌, ◌*◌, ◌<◌, ◌≤◌, ℤ, true, List, [], length, map, sum_by, slice_get, Some}
-use Rattle.ada_meaning.specs.Execution.{Execution, Ends}
+use Rattle.std.specs.Prelude.{◌≡◌, ◌↔◌, ℕ, ◌+◌, ◌*◌, ◌<◌, ◌≤◌, true, List, [], length, map, sum_by, slice_get, Some}
 use Rattle.ada_meaning.specs.Obligations.{obligations_of}
 use Rattle.ada_meaning.specs.Program.{Program}
 use Rattle.ada_syntax.specs.Nodes.{unit_nodes}

@@ -10,9 +10,10 @@ ghost use Rattle.compiler.specs.Checking.{UnitsAreRefused, PassesLimit};
 ghost use Rattle.compiler.specs.Legal.{RefusesFor};
 ghost use Rattle.generic_expand.specs.Expanded as expanded;
 
+use ada_names::NameFault;
 use ada_syntax::Unit;
 use ada_tree::Program;
-use ada_types::{CheckFault, LimitFault, NameFault, TypeFault, check};
+use ada_types::{CheckFault, LimitFault, TypeFault, check};
 use cov_base::{Failure, Pos, SourceFile};
 use generic_expand::{ExpandFault, expand};
 use parsed_programs::{SourceFault, Why, units_of};
@@ -35,7 +36,7 @@ pub(crate) fn legal_program(
     Ok(program)
 }
 
-/// The program of units that pass the rules on names and types.
+/// The program of units that pass the rules on names and types, and the limit on declared words.
 #[tactic(auto, using(crate::proofs::Checked::refusals))]
 fn checked_program(
     alloc: Global,

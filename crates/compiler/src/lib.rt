@@ -20,6 +20,7 @@ pub use compiled::{compiled_objects_pass_and_behave, legal_units_are_compilable}
 pub use compiling::{Compiled, compile};
 pub use laws::objects_behave_as_their_programs;
 pub use soundness::{
-    made_objects_pass_their_checks, rising_places_are_statements, texts_are_bounded,
+    made_objects_pass_their_checks, rising_places_are_statements,
+    roles_without_conditions_are_of_checks_and_structure, texts_are_bounded,
 };
 pub use sources::{built_objects_are_of_their_sources, legal_sources_are_not_refused};

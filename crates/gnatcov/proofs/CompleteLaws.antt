@@ -1,23 +1,15 @@
 -- When commands do their work.
-use Rattle.std.proofs.Common.{◌≡◌, ◌⊎◌, inl, inr, ⊎_elim, ℕ, ◌+◌, ◌*◌, ◌≤◌, ◌&&◌, Bool, true, false, ℤ, List, [], ◌∷◌, IfSome, MatchOption, Option, Some, None, Result, Ok, Err, refl, sym, ap, subst, ◌∙◌}
+use Rattle.std.proofs.Common.{◌≡◌, inl, inr, ⊎_elim, ℕ, ◌+◌, ◌&&◌, Bool, true, ℤ, List, [], ◌∷◌, IfSome, MatchOption, Option, Some, None, Result, Ok, Err, refl, sym, subst, ◌∙◌}
 use Rattle.std.specs.FinMap as finmap
-use Rattle.ada_meaning.specs.Execution.{Execution, Ends}
-use Rattle.ada_meaning.specs.Program.{Program}
 use Rattle.command_words.specs.Task.{Task, Compile, Run, Coverage}
 use Rattle.compiler.proofs.Refusals.{not_refused}
 use Rattle.compiler.specs.Behaves.{number_of}
-use Rattle.compiler.specs.Legal.{IsLegal}
-use Rattle.compiler.specs.Source.{IsObjectOf, IsCheap}
-use Rattle.cov_base.specs.declared.level.Annotation.{Annotation}
-use Rattle.cov_base.specs.declared.level.Level.{Level}
-use Rattle.cov_base.specs.declared.obligations.SourceFile.{SourceFile}
 use Rattle.cov_io.specs.Outside.{Held}
 use Rattle.coverage_set.proofs.OwnTraces.{own_fits, own_follows}
-use Rattle.decision_map.specs.declared.fault.FitFault.{FitFault}
 use Rattle.decision_map.specs.Fits.{fault_of}
 use Rattle.decision_meaning.specs.Pair.{Everywhere}
 use Rattle.gnatcov.specs.Complete.{NothingFails, IsDone, LegalSourcesCompile, ProgramsRun, ProgramsDoNotTrap, TracesAreCovered}
-use Rattle.gnatcov.specs.Content.{IsFileOf, IsTraceFor, sources_of, IsInputOf, RefusesInput, RefusesObject, RefusesSource, RefusesTrace, StopsRun, trace_file, Follows}
+use Rattle.gnatcov.specs.Content.{IsFileOf, IsTraceFor, sources_of, IsInputOf, RefusesSource, RefusesTrace, StopsRun, trace_file, Follows}
 use Rattle.gnatcov.specs.declared.status.FileRef.TheVariants.{Word}
 use Rattle.gnatcov.specs.declared.status.Status.{Status}
 use Rattle.gnatcov.specs.declared.status.Status.TheVariants.{Done, Usage, SourceRefused, ObjectRefused, TraceRefused, InputRefused, OverBudget, Trap, ReadFault, WriteFault, WantOfMemory}
@@ -26,7 +18,6 @@ use Rattle.gnatcov.specs.RunsCovered.{ARun, transcript_of, IsTraceOf, AreTracesO
 use Rattle.gnatcov.specs.Verdict.{Output, AfterRead, AfterObject, AfterInput, AfterTrace, AfterTraces, Compiles, RunsOn, Covers, ComesTo}
 use Rattle.gnatcov.proofs.HeadlineLaws.{is_file, all_fair}
 use Rattle.gnatcov.proofs.InputLaws.{numbers_fit}
-use Rattle.kernel_code.specs.Whole.{IsInput}
 use Rattle.object_facts.specs.Object.{facts_of}
 use Rattle.object_format.proofs.FileLaws.{one_object, structured_only}
 use Rattle.object_format.specs.Checked.{IsSound, FailsFirst}
@@ -38,13 +29,11 @@ use Rattle.object_format.specs.File.{object_bytes, structured}
 use Rattle.object_format.specs.Read.{is_plain, passes_plain_field, IsRefusedFor}
 use Rattle.rv_machine.specs.Objects.{object_run}
 use Rattle.rv_semantics.specs.declared.stepped.TrapWhy.{TrapWhy}
-use Rattle.rv_semantics.specs.Run.Outcome.{Ended, Trapped, Cut}
-use Rattle.trace_format.specs.Checks.{trace_of}
+use Rattle.rv_semantics.specs.Run.Outcome.{Ended, Trapped}
 use Rattle.trace_format.specs.declared.fault.TraceFault.{TraceFault}
 use Rattle.trace_format.specs.Trace.{TraceFile}
 use Rattle.transcript.proofs.Broken.{whole_law, broken_law}
 use Rattle.transcript.specs.Reading.{AllFollow, IsDisciplined}
-use Rattle.transcript.specs.Replay.{replay, BreaksAt}
 use Rattle.vector_rebuild.specs.Rebuilt.{visits_of}
 
 -- a refusal, as a verdict

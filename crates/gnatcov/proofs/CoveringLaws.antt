@@ -1,5 +1,5 @@
 -- What adding traces makes of a coverage, and what is reported of it.
-use Rattle.std.proofs.Common.{◌≡◌, ◌≢◌, ◌↔◌, ◌⊎◌, inl, inr, ⊎_elim, ℕ, Bool, true, false, ◌&&◌, ◌==◌, List, [], ◌∷◌, ◌++◌, length, map, AllPairs, Option, Some, None, slice_get, Result, Ok, Err, refl, sym, ap, subst, ◌∙◌, arith}
+use Rattle.std.proofs.Common.{◌≡◌, ◌↔◌, ◌⊎◌, inl, inr, ⊎_elim, ℕ, Bool, true, false, ◌&&◌, ◌==◌, List, [], ◌∷◌, ◌++◌, length, map, Result, Ok, refl, sym, ap, subst, ◌∙◌, arith}
 use Rattle.std.proofs.lemmas.Bool.{eqb-true}
 use Rattle.annotated_report.specs.Caller.{AreEvaluated, AreOfStatements}
 use Rattle.annotated_report.specs.Report.{report_text}
@@ -13,7 +13,7 @@ use Rattle.gnatcov.specs.Covering.{Adds, IsBadFit}
 use Rattle.gnatcov.specs.declared.status.Status.{Status}
 use Rattle.object_facts.specs.Object.{facts_of}
 use Rattle.object_format.specs.declared.object.Object.{Object}
-use Rattle.object_format.specs.Read.{is_plain}
+use Rattle.object_format.specs.Read.{has_no_condition, is_plain}
 use Rattle.trace_format.specs.Checks.{trace_of}
 use Rattle.trace_format.specs.declared.fault.TraceFault.{TraceFault}
 use Rattle.trace_format.specs.Trace.{TraceFile}
@@ -127,7 +127,7 @@ empty (d ∷ ds) none = absurd (omega (arith, none))
 no_decisions : (o : Object) → is_plain o ≡ true → o.obligations.decisions ≡ []
 no_decisions o plain =
     empty o.obligations.decisions (eqb-true (length o.obligations.decisions) 0 (fourth (length o.init == 0) (length o.obligations.exceptions == 4)
-    (length o.obligations.instances == 1) (length o.obligations.decisions == 0) (length o.obligations.regions == 0) (length o.roles == 0) plain))
+    (length o.obligations.instances == 1) (length o.obligations.decisions == 0) (length o.obligations.regions == 0) (has_no_condition o.roles) plain))
 
 pub statements_known : (o : Object) → is_plain o ≡ true → AreOfStatements o.obligations.decisions (length o.obligations.statements)
 statements_known o plain = λ d entry there. absurd (cc (no_decisions o plain, there))

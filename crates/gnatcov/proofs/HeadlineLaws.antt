@@ -1,16 +1,14 @@
 -- What coverage prints of a program's own executions.
-use Rattle.std.proofs.Common.{◌≡◌, ◌≢◌, ◌↔◌, ◌⊎◌, inl, inr, ⊎_elim, ℕ, ℤ, List, [], ◌∷◌, length, map, AllPairs, Option, Some, refl, sym, ap, subst, ◌∙◌}
-use Rattle.std.specs.FinMap as finmap
+use Rattle.std.proofs.Common.{◌≡◌, ◌↔◌, inl, inr, ⊎_elim, ℕ, List, [], ◌∷◌, length, map, Option, refl, sym, ap, subst, ◌∙◌}
 use Rattle.ada_meaning.specs.Execution.{Execution, Ends}
 use Rattle.ada_meaning.specs.Obligations.{obligations_of}
 use Rattle.ada_meaning.specs.Program.{Program}
 use Rattle.ada_meaning.proofs.FuelExecution.{one_ending_law}
 use Rattle.annotated_report.specs.Report.{report_text}
-use Rattle.command_words.specs.Task.{Task, Coverage}
+use Rattle.command_words.specs.Task.{Task}
 use Rattle.compiler.specs.Behaves.{Behaves, ShowsExecution}
 use Rattle.compiler.specs.Source.{entry_of_file, IsObjectOf}
 use Rattle.cov_base.specs.declared.event.Event.{Event}
-use Rattle.cov_base.specs.declared.level.Annotation.{Annotation}
 use Rattle.cov_base.specs.declared.level.Level.{Level}
 use Rattle.cov_base.specs.declared.obligations.Obligations.{Obligations}
 use Rattle.cov_base.specs.declared.obligations.SourceFile.{SourceFile}
@@ -18,10 +16,9 @@ use Rattle.cov_io.specs.Outside.{Held, WhereTold, Appends}
 use Rattle.decision_meaning.specs.Pair.{Everywhere, Somewhere}
 use Rattle.gnatcov.specs.Content.{IsFileOf}
 use Rattle.gnatcov.specs.declared.status.Status.{Status}
-use Rattle.gnatcov.specs.declared.status.Status.TheVariants.{Done}
 use Rattle.gnatcov.specs.Headline.{Occurs, CoverageTellsTheSource}
 use Rattle.gnatcov.specs.Outcome.{Call, Answers}
-use Rattle.gnatcov.specs.RunsCovered.{ARun, transcript_of, IsTraceOf, AreTracesOf, digest_of_run, RunsAreCovered}
+use Rattle.gnatcov.specs.RunsCovered.{ARun, transcript_of, AreTracesOf, RunsAreCovered}
 use Rattle.gnatcov.proofs.RunsLaw.{runs_law}
 use Rattle.kernel_code.specs.Whole.{IsInput}
 use Rattle.object_facts.proofs.Fair.{fair}
@@ -32,7 +29,6 @@ use Rattle.object_format.specs.File.{object_bytes}
 use Rattle.rv_machine.specs.Objects.{object_run}
 use Rattle.rv_semantics.specs.Run.Outcome.{Ended}
 use Rattle.transcript.proofs.Told.{told_law}
-use Rattle.transcript.specs.Computed.{reading}
 use Rattle.transcript.specs.Reading.{Tells, IsDisciplined}
 
 -- each of the runs ended

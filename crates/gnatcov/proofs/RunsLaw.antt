@@ -1,8 +1,6 @@
 -- What coverage prints of an object's own runs.
-use Rattle.std.proofs.Common.{◌≡◌, ◌≢◌, ◌↔◌, ◌⊎◌, inl, inr, ⊎_elim, ℕ, suc, ◌+◌, ◌<◌, ◌≤◌, arith, List, [], ◌∷◌, length, map, slice_index_or, AllPairs, IfSome, Option, Some, None, Result, Ok, Err, refl, sym, ap, subst, ◌∙◌}
+use Rattle.std.proofs.Common.{◌≡◌, ◌≢◌, ◌↔◌, inl, inr, ⊎_elim, ℕ, suc, ◌+◌, ◌<◌, ◌≤◌, arith, List, [], ◌∷◌, length, map, slice_index_or, AllPairs, IfSome, Option, Some, Result, Ok, refl, sym, ap, subst, ◌∙◌}
 use Rattle.std.specs.FinMap as finmap
-use Rattle.std.specs.List.{AllByRecursion}
-use Rattle.annotated_report.specs.Members.{AreAlike}
 use Rattle.annotated_report.specs.Report.{report_text}
 use Rattle.annotated_report.proofs.Alike.{same_text}
 use Rattle.command_words.specs.Task.{Task, Coverage}
@@ -12,10 +10,9 @@ use Rattle.cov_base.specs.declared.level.Level.{Level}
 use Rattle.cov_io.specs.Outside.{Held, WhereTold, Appends}
 use Rattle.coverage_set.proofs.RunLaw.{run_law}
 use Rattle.decision_meaning.specs.Pair.{Everywhere, Somewhere}
-use Rattle.gnatcov.specs.Content.{IsFileOf, IsTraceFor, RefusesObject, RefusesTrace, Shows, ClosesWith, IsReport, Reports, trace_file}
+use Rattle.gnatcov.specs.Content.{IsFileOf, Shows, ClosesWith, Reports, trace_file}
 use Rattle.gnatcov.specs.declared.status.Status.{Status}
 use Rattle.gnatcov.specs.declared.status.Status.TheVariants.{Done}
-use Rattle.gnatcov.specs.declared.status.FileRef.TheVariants.{Word}
 use Rattle.gnatcov.specs.Outcome.{Call, Delivered, Because, Answers}
 use Rattle.gnatcov.specs.RunsCovered.{ARun, transcript_of, IsTraceOf, AreTracesOf, digest_of_run, RunsAreCovered}
 use Rattle.gnatcov.specs.Verdict.{Output, AfterRead, AfterObject, AfterTrace, AfterTraces, Covers, ComesTo}

@@ -1,8 +1,9 @@
 pub mod Options
-pub mod Visible
-pub mod Calls
+pub mod Expressions
+pub mod Declarations
 pub mod Typed
 pub mod Programs
+pub mod Objects
 pub mod Order
 pub mod Numbered
 pub mod Counted

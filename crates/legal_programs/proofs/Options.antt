@@ -23,5 +23,10 @@ pub if_or : {X : Type 0} (P : X → Type 0) (o r : Option X) → IfSome o P → 
 if_or P None r first rest = rest
 if_or P (Some x) r first rest = first
 
+-- what holds of each item holds of all at once
+pub if_each : {X Y : Type 0} (P : X → Y → Type 0) (o : Option Y) → ((x : X) → IfSome o (P x)) → IfSome o (λ y. (x : X) → P x y)
+if_each P None h = tt
+if_each P (Some y) h = h
+
 pub of_some : {X : Type 0} (P : X → Type 0) (o : Option X) (x : X) → IfSome o P → o ≡ Some x → P x
 of_some P o x h is = subst (λ r. IfSome r P) is h

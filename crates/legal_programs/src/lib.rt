@@ -7,18 +7,20 @@ ghost use Rattle.ada_syntax.specs.Nodes.{capped, unit_nodes};
 ghost use Rattle.ada_syntax.specs.declared.unit.Unit.{Unit as LibraryUnit};
 ghost use Rattle.cov_base.specs.declared.obligations.Region.{Region};
 ghost use Rattle.ada_meaning.specs.Collected.{labels_of, decisions_of};
+ghost use Rattle.ada_meaning.specs.Objects.{IsDeclaredOnce};
 ghost use Rattle.ada_meaning.specs.Obligations.{numbers, obligations_of, ordered_labels, IsNumbered, IsResolved};
 ghost use Rattle.ada_meaning.specs.Program.{Program};
 ghost use Rattle.ada_types.specs.Legal.{elaborated};
 ghost use Rattle.ada_types.specs.Typing.{label_at, places_of};
 ghost use Rattle.legal_programs.specs.Listed.{obligations_at, row_at};
 ghost use Rattle.legal_programs.specs.Rising.{StatementsRise};
-ghost use Rattle.lower.specs.Marked.{row_of, all_statements};
+ghost use Rattle.lower.specs.Marked.{row_of};
+ghost use Rattle.lower.specs.Sizes.{all_nodes};
 ghost use Rattle.lower.specs.StraightLine.{IsStraightLine};
 
-/// A legal program has procedures without parameters, whose statements are `null`, `return`, `Put` of
-/// a numeral of the base range, and calls of one another; its main procedure is one of them. There is
-/// one for each unit.
+/// A legal program has procedures without parameters, with objects of one word whose values are in the
+/// base range. Their statements are `null`, `return`, assignments, `Put` of an expression and `Get` of
+/// an object. Its main procedure is one of them, and there is one for each unit.
 pub fn legal_programs_are_straight_lines()
     ensures straight { (units : List LibraryUnit) (main : List ℕ) (p : Program) → elaborated units main ≡ Some p → IsStraightLine p }
     ensures as_many { (units : List LibraryUnit) (main : List ℕ) (p : Program) → elaborated units main ≡ Some p
@@ -27,14 +29,15 @@ pub fn legal_programs_are_straight_lines()
         → decisions_of p.subprograms ≡ [] }
 {}
 
-/// A legal program has, with its subprograms, no more statements than its units have nodes.
-pub fn each_statement_has_a_node()
+/// A legal program has, with its subprograms, no more nodes than its units have tokens that count as
+/// nodes.
+pub fn each_node_has_a_token()
     ensures { (units : List LibraryUnit) (main : List ℕ) (p : Program) → elaborated units main ≡ Some p
-        → all_statements p.subprograms + length p.subprograms ≤ sum_by unit_nodes units }
+        → all_nodes p.subprograms + length p.subprograms ≤ sum_by unit_nodes units }
 {}
 
-/// The statement obligations of a legal program stand where the statements of its units stand, in the
-/// order of the text.
+/// The statement obligations of a legal program stand where the statements of its units stand, and the
+/// declarations with an initial value, in the order of the text.
 pub fn labels_stand_at_their_statements()
     ensures labels { (units : List LibraryUnit) (main : List ℕ) (p : Program) → elaborated units main ≡ Some p
         → labels_of p.subprograms ≡ map (label_at (places_of units)) (places_of units) }
@@ -43,13 +46,15 @@ pub fn labels_stand_at_their_statements()
 {}
 
 /// The numbers in a legal program are those of its obligations, where the places of its statements
-/// rise. What its instances have for formals is resolved, since there are none.
+/// rise. What its instances have for formals is resolved, since there are none. Each object of a
+/// subprogram has a number of its own.
 pub fn legal_programs_are_numbered()
     ensures numbered { (units : List LibraryUnit) (main : List ℕ) (p : Program) → elaborated units main ≡ Some p → StatementsRise units
         → IsNumbered p }
     ensures in_order { (units : List LibraryUnit) (main : List ℕ) (p : Program) → elaborated units main ≡ Some p → StatementsRise units
         → ordered_labels p ≡ labels_of p.subprograms }
     ensures resolved { (units : List LibraryUnit) (main : List ℕ) (p : Program) → elaborated units main ≡ Some p → IsResolved p }
+    ensures declared_once { (units : List LibraryUnit) (main : List ℕ) (p : Program) → elaborated units main ≡ Some p → IsDeclaredOnce p }
 {}
 
 /// The obligations of a legal program are its statements, at the places of the text, where these
@@ -66,11 +71,11 @@ pub fn rows_have_the_numbers_of_obligations()
         → map row_of (labels_of p.subprograms) ≡ map row_at (numbers 0 (length (places_of units))) }
 {}
 
-/// A legal program has a statement for each place of its units, and where the nodes of its units, as
-/// they are counted, are within a limit, so are its statements with its subprograms.
+/// A legal program has a statement obligation for each place of its units, and where the nodes of its
+/// units, as they are counted, are within a limit, so are its nodes with its subprograms.
 pub fn statements_are_counted()
     ensures statements { (units : List LibraryUnit) (main : List ℕ) (p : Program) → elaborated units main ≡ Some p
-        → all_statements p.subprograms ≡ length (places_of units) }
+        → length (labels_of p.subprograms) ≡ length (places_of units) }
     ensures limit { (units : List LibraryUnit) (main : List ℕ) (p : Program) (limit : ℕ) → elaborated units main ≡ Some p → limit < 2 ^ 32 - 1
-        → sum_by (λ u. capped (unit_nodes u)) units ≤ limit → all_statements p.subprograms + length p.subprograms ≤ limit }
+        → sum_by (λ u. capped (unit_nodes u)) units ≤ limit → all_nodes p.subprograms + length p.subprograms ≤ limit }
 {}

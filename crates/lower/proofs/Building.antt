@@ -1,58 +1,110 @@
 -- Code that is put behind code.
-use Rattle.std.proofs.Common.{◌≡◌, ℕ, suc, ◌+◌, ◌<◌, ◌≤◌, take, get_or, map, List, [], ◌∷◌, ◌++◌, length, arith, Result, Ok, Err, OnOk, refl, sym, ap, ◌∙◌}
+use Rattle.std.proofs.Common.{◌≡◌, ℕ, zero, suc, ◌+◌, ◌<◌, ◌≤◌, max, drop, get_or, List, [], ◌∷◌, length, arith, Result, Ok, Err, OnOk, refl, sym, ap, ◌∙◌}
+use Rattle.std.proofs.lemmas.List.{at_drop_more, at_drop_all}
 use Rattle.ada_meaning.specs.Tree as tree
 use Rattle.ada_tree.specs.declared.expr.Actual.{Actual}
-use Rattle.std.proofs.Math.Seq.{take-suc, take-length}
-use Rattle.ada_tree.specs.declared.program.Program.{Program}
-use Rattle.ada_tree.specs.declared.program.Subprogram.{Subprogram}
-use Rattle.ada_tree.specs.View.{statements_of, actuals_of, subprogram_of, program_of}
-use Rattle.kernel_ir.specs.declared.kernel.Body.{Body}
-use Rattle.kernel_ir.specs.declared.kernel.Kernel.{Kernel}
-use Rattle.kernel_ir.specs.declared.kernel.Layout.{Layout}
+use Rattle.ada_tree.specs.declared.expr.Operand.{Operand}
+use Rattle.ada_tree.specs.Sizes.{expr_size}
+use Rattle.ada_tree.specs.View.{operator_of, with_operands, actuals_of}
 use Rattle.kernel_ir.proofs.Joining.{joined_nothing, joined_assoc}
 use Rattle.kernel_ir.specs.Sequence.{joined}
-use Rattle.kernel_ir.specs.Tree.{Code, no_op}
-use Rattle.lower.specs.Lowered.{put_code, statement_code, statements_code, body_of, kernel_of}
+use Rattle.kernel_ir.specs.declared.simple.Simple.{Simple}
+use Rattle.kernel_ir.specs.Tree.{simple, Code, no_op, and_op}
+use Rattle.lower.specs.Chain.{number_of, bounds_of, operand_code, operands_code, end_of_operands}
+use Rattle.lower.specs.Lowered.{one, end_of, end_of_declarations, end_of_statements, expr_code}
+use Rattle.lower.proofs.Values.{end_is_above}
 
 pub nothing_put : (a : Code) → a ≡ joined a no_op
 nothing_put a = sym (joined_nothing a)
 
 -- two pieces, one after the other
-pub two_put : {E : Type 0} (r : Result (Unit {0}) E) (a b c x y : Code) → b ≡ joined a x → OnOk r (c ≡ joined b y) → OnOk r (c ≡ joined a (joined x y))
-two_put (Ok u) a b c x y first second = second ∙ ap (λ z. joined z y) first ∙ joined_assoc a x y
-two_put (Err e) a b c x y first second = tt
+pub two_put : (a b c x y : Code) → b ≡ joined a x → c ≡ joined b y → c ≡ joined a (joined x y)
+two_put a b c x y first second = second ∙ ap (λ z. joined z y) first ∙ joined_assoc a x y
 
--- one more statement
-pub one_more : (done : List tree.Stmt) (s : tree.Stmt) → statements_code (statements_of (done ++ (s ∷ []))) ≡ joined (statements_code (statements_of done)) (statement_code s)
-one_more [] s = joined_nothing (statement_code s)
-one_more (d ∷ done) s = ap (joined (statement_code d)) (one_more done s) ∙ sym (joined_assoc (statement_code d) (statements_code (statements_of done)) (statement_code s))
+-- the same where the second piece may not fit in memory
+pub then_put : {A E : Type 0} (r : Result A E) (a b c x y : Code) → b ≡ joined a x → OnOk r (c ≡ joined b y) → OnOk r (c ≡ joined a (joined x y))
+then_put (Ok u) a b c x y first second = two_put a b c x y first second
+then_put (Err e) a b c x y first second = tt
 
--- where there is no actual, nothing is put
-pub no_first : (a : Code) (actuals : List Actual) → length actuals ≡ 0 → a ≡ joined a (put_code (actuals_of actuals))
-no_first a [] none = nothing_put a
-no_first a (x ∷ actuals) none = absurd (omega (arith, none))
+-- an operation, and then a piece
+pub one_then : (s : Simple) (a b c y : Code) → b ≡ joined a (one s) → c ≡ joined b y → c ≡ joined a (and_op (simple s) y)
+one_then s a b c y first second = two_put a b c (one s) y first second
 
--- the same of the first statements of a list
-pub statement_put : (items : List tree.Stmt) (i : ℕ) (d s : tree.Stmt) (a b : Code) → i < length items → s ≡ get_or items i d → b ≡ joined a (statement_code s)
-    → a ≡ statements_code (statements_of (take i items)) → b ≡ statements_code (statements_of (take (i + 1) items))
-statement_put items i d s a b lt is put so_far =
-    let next : suc i ≡ i + 1 = omega arith in
-    put ∙ ap (λ z. joined z (statement_code s)) so_far ∙ sym (one_more (take i items) s)
-    ∙ ap (λ z. statements_code (statements_of (take i items ++ (z ∷ [])))) is
-    ∙ ap (λ ss. statements_code (statements_of ss)) (sym (take-suc items i d lt)) ∙ ap (λ n. statements_code (statements_of (take n items))) next
+pub one_then_put : {A E : Type 0} (r : Result A E) (s : Simple) (a b c y : Code) → b ≡ joined a (one s) → OnOk r (c ≡ joined b y) → OnOk r (c ≡ joined a (and_op (simple s) y))
+one_then_put r s a b c y first second = then_put r a b c (one s) y first second
 
-bodies_are : (ss : List Subprogram) → map (λ s. body_of (subprogram_of s)) ss ≡ map body_of (map subprogram_of ss)
-bodies_are [] = refl
-bodies_are (s ∷ ss) = ap (λ bs. body_of (subprogram_of s) ∷ bs) (bodies_are ss)
+pub whenever_ok : {A E : Type 0} (r : Result A E) {P : Type 0} → P → OnOk r P
+whenever_ok (Ok u) p = p
+whenever_ok (Err e) p = tt
 
-abbrev made : List Body → ℕ → List Layout → List ℕ → Kernel
-made bodies main layouts library = record { bodies = bodies; main = main; layouts = layouts; library = library; exceptions = 4 }
+pub no_actual : (actuals : List Actual) → length actuals ≡ 0 → actuals_of actuals ≡ tree.no_actual
+no_actual [] none = refl
+no_actual (x ∷ actuals) none = absurd (omega (arith, none))
 
--- the kernel of all subprograms
-pub kernel_made : (p : Program) (items : List Subprogram) (n : ℕ) (bodies : List Body) (layouts : List Layout) (library : List ℕ) → items ≡ p.subprograms
-    → bodies ≡ map (λ s. body_of (subprogram_of s)) (take n items) → n ≡ length items → layouts ≡ [] → library ≡ [] → made bodies p.main layouts library ≡ kernel_of (program_of p)
-kernel_made p items n bodies layouts library all are whole no_layout no_word =
-    ap (λ bs. made bs p.main layouts library) (are ∙ ap (λ m. map (λ s. body_of (subprogram_of s)) (take m items)) whole
-    ∙ ap (map (λ s. body_of (subprogram_of s))) (take-length items ∙ all) ∙ bodies_are p.subprograms)
-    ∙ ap (λ ls. made (map body_of (map subprogram_of p.subprograms)) p.main ls library) no_layout
-    ∙ ap (λ ws. made (map body_of (map subprogram_of p.subprograms)) p.main [] ws) no_word
+-- the code of a chain is that of its first operand, and then that of the others
+pub chain_code : (k : ℕ) (e : tree.Expr) (os : List Operand)
+    → expr_code number_of bounds_of k (with_operands e os) ≡ joined (expr_code number_of bounds_of k e) (operands_code k os)
+chain_code k e [] = sym (joined_nothing (expr_code number_of bounds_of k e))
+chain_code k e (o ∷ os) =
+    chain_code k (tree.operation (operator_of o.operator) e o.operand) os ∙ joined_assoc (expr_code number_of bounds_of k e) (operand_code k o) (operands_code k os)
+
+pub operands_above : (k : ℕ) (os : List Operand) → k < end_of_operands k os
+operands_above k [] = omega arith
+operands_above k (o ∷ os) = omega (arith, operands_above k os)
+
+pub chain_end : (k : ℕ) (e : tree.Expr) (os : List Operand) → end_of k (with_operands e os) ≡ max (end_of k e) (end_of_operands k os)
+chain_end k e [] = omega (arith, end_is_above k e)
+chain_end k e (o ∷ os) = omega (arith, chain_end k (tree.operation (operator_of o.operator) e o.operand) os)
+
+-- how large the operands of a chain are
+abbrev pub operands_size : List Operand → ℕ
+operands_size [] = 0
+operands_size (o ∷ os) = expr_size o.operand + operands_size os + 1
+
+pub chain_size : (e : tree.Expr) (os : List Operand) → expr_size (with_operands e os) ≡ expr_size e + operands_size os
+chain_size e [] = omega arith
+chain_size e (o ∷ os) = omega (arith, chain_size (tree.operation (operator_of o.operator) e o.operand) os)
+
+pub operand_within : (os : List Operand) (i : ℕ) (d : Operand) → i < length os → expr_size (get_or os i d).operand + 1 ≤ operands_size os
+operand_within [] i d h = absurd (omega arith)
+operand_within (o ∷ os) zero d h = omega arith
+operand_within (o ∷ os) (suc i) d h = omega (arith, operand_within os i d (omega arith))
+
+pub expr_positive : (e : tree.Expr) → 1 ≤ expr_size e
+expr_positive (tree.literal x) = omega arith
+expr_positive (tree.constant e) = omega arith
+expr_positive (tree.attribute o parts e) = omega arith
+expr_positive (tree.read o parts) = omega arith
+expr_positive (tree.signed s e) = omega arith
+expr_positive (tree.operation o e f) = omega arith
+expr_positive (tree.relation r e f) = omega arith
+expr_positive (tree.complement e) = omega arith
+expr_positive (tree.conversion r e) = omega arith
+expr_positive (tree.call c actuals) = omega arith
+expr_positive (tree.decision d t) = omega arith
+
+-- the code of the items of a list, one after another: of one more item, and where none is left
+pub one_more : {X : Type 0} (F : List X → Code) (f : X → Code) → ((x : X) (xs : List X) → F (x ∷ xs) ≡ joined (f x) (F xs))
+    → (xs : List X) (i : ℕ) (d x : X) (a c : Code) → i < length xs → x ≡ get_or xs i d → c ≡ joined a (f x) → joined c (F (drop (i + 1) xs)) ≡ joined a (F (drop i xs))
+one_more F f step xs i d x a c lt is put =
+    ap (λ z. joined z (F (drop (i + 1) xs))) (put ∙ ap (λ y. joined a (f y)) is) ∙ joined_assoc a (f (get_or xs i d)) (F (drop (i + 1) xs))
+    ∙ ap (joined a) (sym (step (get_or xs i d) (drop (i + 1) xs)) ∙ sym (at_drop_more F xs i d lt))
+
+pub none_left : {X : Type 0} (F : List X → Code) → F [] ≡ no_op → (xs : List X) (i : ℕ) (a c : Code) → length xs ≤ i → joined a (F (drop i xs)) ≡ c → a ≡ c
+none_left F empty xs i a c all whole = sym (joined_nothing a) ∙ ap (joined a) (sym (at_drop_all F xs i all ∙ empty)) ∙ whole
+
+-- the slots that they take
+pub one_further : {X : Type 0} (E : List X → ℕ) (g : X → ℕ) → ((x : X) (xs : List X) → E (x ∷ xs) ≡ max (g x) (E xs))
+    → (xs : List X) (i : ℕ) (d x : X) (m n l : ℕ) → i < length xs → x ≡ get_or xs i d → l ≡ g x → n ≡ max m l → max n (E (drop (i + 1) xs)) ≡ max m (E (drop i xs))
+one_further E g step xs i d x m n l lt is taken most =
+    let rest : E (drop i xs) ≡ max (g (get_or xs i d)) (E (drop (i + 1) xs)) = at_drop_more E xs i d lt ∙ step (get_or xs i d) (drop (i + 1) xs) in
+    omega (arith, rest, taken ∙ ap g is, most)
+
+-- a slot is left behind the objects
+pub declarations_above : (k : ℕ) (ds : List tree.Declaration) → k < end_of_declarations k ds
+declarations_above k [] = omega arith
+declarations_above k (d ∷ ds) = omega (arith, declarations_above k ds)
+
+pub statements_above : (k : ℕ) (ss : tree.Stmts) → k < end_of_statements k ss
+statements_above k tree.no_statement = omega arith
+statements_above k (tree.and_statement s ss) = omega (arith, statements_above k ss)

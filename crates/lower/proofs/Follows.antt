@@ -1,163 +1,65 @@
 -- A kernel does what its program does.
-use Rattle.std.proofs.Common.{◌≡◌, ◌≢◌, ℕ, zero, suc, ◌+◌, ◌-◌, ◌*◌, ◌<◌, ◌≤◌, nat_lt, ℤ, Bool, true, false, List, [], ◌∷◌, length, map, Option, Some, None, slice_get, if◌then◌else◌, refl, sym, ap, subst, ◌∙◌, arith}
+use Rattle.std.proofs.Common.{◌≡◌, ◌≢◌, ℕ, zero, suc, ◌+◌, ◌-◌, ◌*◌, ◌<◌, ◌≤◌, max, nat_lt, ℤ, true, false, List, [], ◌∷◌, length, map, Option, Some, None, slice_get, refl, ap, arith}
 use Rattle.std.proofs.lemmas.Bool.{lt-ltb}
-use Rattle.cov_base.specs.declared.event.Event.TheVariants.{Start}
-use Rattle.ada_meaning.specs.Arithmetic.{base_range, is_within}
-use Rattle.ada_meaning.specs.Calls.{Argument, Calls}
+use Rattle.ada_meaning.specs.Calls.{Calls}
 use Rattle.ada_meaning.specs.Execution as source
 use Rattle.ada_meaning.specs.Program.{Subprogram, Program}
+use Rattle.ada_meaning.specs.Resolved.{number_in, bounds_in}
 use Rattle.ada_meaning.specs.State as state
-use Rattle.ada_meaning.specs.State.{Seen, World, Outcome, Gives, Raises, OutOfFuel, goes_to, give}
-use Rattle.ada_meaning.specs.Statements.{Flow, goes_on, leaves, returns, continued, does, does_all, does_block}
+use Rattle.ada_meaning.specs.State.{World, Outcome, Gives, Raises, OutOfFuel, goes_to, give}
+use Rattle.ada_meaning.specs.Statements.{Flow, does_all, declares_all, does_block}
 use Rattle.ada_meaning.specs.Tree as tree
-use Rattle.ada_meaning.specs.Types as type
 use Rattle.decision_meaning.specs.Pair.{Everywhere}
 use Rattle.kernel_ir.proofs.Joining.{joined_does}
-use Rattle.kernel_ir.proofs.Memories.{with_slot_at}
-use Rattle.kernel_ir.specs.declared.kernel.Kernel.{Kernel}
+use Rattle.kernel_ir.specs.declared.kernel.Body.{Body}
+use Rattle.kernel_ir.specs.Limits.{IsWithin, most_arguments, widest}
 use Rattle.kernel_ir.specs.Meaning as code
-use Rattle.kernel_ir.specs.Tree.{Code}
-use Rattle.kernel_ir.specs.World.{Ended, Ends, Exits, Returns, area_end}
+use Rattle.kernel_ir.specs.World.{Memory, Ended, Ends, Cut, area_end}
 use Rattle.kernel_ir.specs.World as kernel
-use Rattle.lower.specs.Lowered.{statement_code, statements_code, block_code, body_of, kernel_of}
+use Rattle.lower.specs.Lowered.{end_of_declarations, end_of_statements, width_of, declarations_code, statements_code, block_code, body_of, kernel_of}
 use Rattle.lower.specs.Same.{Observed, Same}
-use Rattle.lower.specs.StraightLine.{IsPlainCall, IsPlainStatement, ArePlainStatements, IsPlainBlock, IsStraightLine}
+use Rattle.lower.specs.StraightLine.{IsPlainBlock, IsPlainProcedure, IsStraightLine}
+use Rattle.lower.proofs.Relation.{Inside, Runs, AtStops, runs_are, runs_then}
+use Rattle.lower.proofs.Steps.{Step, steps_are, Called, CallsDo, declarations_do, statements_do}
 
--- a statement and its code end alike; the source is at the same depth as before
-abbrev Step : (depth : ℕ) → Outcome Flow → Ended → Type 0
-Step d (Gives goes_on w) (Ends v) = (w.depth ≡ d) × Observed 0 w.seen v.seen
-Step d (Gives (returns r) w) (Returns v) = (w.depth ≡ d) × Observed 0 w.seen v.seen
-Step d (Raises e w) (kernel.Raises f v) = (f ≡ e) × Observed 0 w.seen v.seen
-Step d (OutOfFuel w) (kernel.Cut v) = Observed 0 w.seen v.seen
-Step d r o = ⊥
+-- a frame has a slot behind the objects
+pub objects_below : (k : ℕ) (ds : List tree.Declaration) → k < end_of_declarations k ds
+objects_below k [] = omega arith
+objects_below k (d ∷ ds) = omega (arith, objects_below k ds)
 
--- the same of a call
-abbrev Call : (depth : ℕ) → Outcome (Option ℤ) → Ended → Type 0
-Call d (Gives r w) (Ends v) = (w.depth ≡ d) × Observed 0 w.seen v.seen
-Call d (Raises e w) (kernel.Raises f v) = (f ≡ e) × Observed 0 w.seen v.seen
-Call d (OutOfFuel w) (kernel.Cut v) = Observed 0 w.seen v.seen
-Call d r o = ⊥
+module _ (fp : ℕ) (start : World) (begun : kernel.World) where
+  -- what a body gives to its caller
+  abbrev Framed : Outcome Flow → Ended → Type 0
+  Framed r e = Runs (λ x. Called fp start begun) (goes_to (state.left start.depth r) (λ f. give (source.result_in f))) (code.back e)
 
--- no straight-line code leaves a loop
-no_leaving : (d : ℕ) (w : World) (e : Ended) → Step d (Gives leaves w) e → ⊥
-no_leaving d w (Ends v) same = same
-no_leaving d w (Exits v) same = same
-no_leaving d w (Returns v) same = same
-no_leaving d w (kernel.Raises f v) same = same
-no_leaving d w (kernel.Cut v) same = same
+  framed_stops : AtStops Framed
+  framed_stops = record { raises = λ x y w v same seen. (same, seen); cut = λ w v seen. seen }
 
--- what calls of procedures do, in a frame and at a depth
-abbrev CallsDo : Program → Calls → code.Calls → (fp left : ℕ) → Type 0
-CallsDo p calls kcalls fp left =
-    (n : ℕ) → n < length p.subprograms → (w : World) (v : kernel.World) → Observed 1 w.seen v.seen → w.depth + left ≡ 512
-    → Call w.depth (calls 0 n [] w) (code.called kcalls 1 fp left n v)
+  called_inside : (n : ℕ) (w : World) (v : kernel.World) → Inside fp (suc start.depth) start.store begun.memory n 0 w v → Called fp start begun (state.at_depth start.depth w) v
+  called_inside n w v h = record { depth_is = refl; input = h.input; words = h.words; kept = λ q le. h.kept q (omega (arith, le)); seen = h.seen }
 
--- what comes behind a call in its statement
-call_step : (d : ℕ) (r : Outcome (Option ℤ)) (e : Ended) → Call d r e → Step d (goes_to r (λ x. give goes_on)) (kernel.goes_on e Ends)
-call_step d (Gives r w) (Ends v) same = same
-call_step d (Raises x w) (kernel.Raises f v) same = same
-call_step d (OutOfFuel w) (kernel.Cut v) same = same
-call_step d (Gives r w) (Exits v) same = absurd same
-call_step d (Gives r w) (Returns v) same = absurd same
-call_step d (Gives r w) (kernel.Raises f v) same = absurd same
-call_step d (Gives r w) (kernel.Cut v) same = absurd same
-call_step d (Raises x w) (Ends v) same = absurd same
-call_step d (Raises x w) (Exits v) same = absurd same
-call_step d (Raises x w) (Returns v) same = absurd same
-call_step d (Raises x w) (kernel.Cut v) same = absurd same
-call_step d (OutOfFuel w) (Ends v) same = absurd same
-call_step d (OutOfFuel w) (Exits v) same = absurd same
-call_step d (OutOfFuel w) (Returns v) same = absurd same
-call_step d (OutOfFuel w) (kernel.Raises f v) same = absurd same
+  framed_body : (n : ℕ) (r : Outcome Flow) (e : Ended) → Step (Inside fp (suc start.depth) start.store begun.memory n 0) r e → Framed (state.caught r (λ x. state.raise x)) e
+  framed_body n =
+      steps_are (Inside fp (suc start.depth) start.store begun.memory n 0) (λ r e. Framed (state.caught r (λ x. state.raise x)) e)
+      (record { raises = λ x y w v same seen. (same, seen); cut = λ w v seen. seen }) (λ w v h. called_inside n w v h) (λ r w v h. called_inside n w v h)
 
--- what comes behind a statement
-step_then : (d : ℕ) (r : Outcome Flow) (e : Ended) (f : World → Outcome Flow) (g : kernel.World → Ended) → Step d r e
-    → ((w : World) (v : kernel.World) → w.depth ≡ d → Observed 0 w.seen v.seen → Step d (f w) (g v))
-    → Step d (goes_to r (λ x. continued x f)) (kernel.goes_on e g)
-step_then d (Gives goes_on w) (Ends v) f g same next = next w v same.0 same.1
-step_then d (Gives (returns x) w) (Returns v) f g same next = same
-step_then d (Raises x w) (kernel.Raises y v) f g same next = same
-step_then d (OutOfFuel w) (kernel.Cut v) f g same next = same
-step_then d (Gives goes_on w) (Exits v) f g same next = absurd same
-step_then d (Gives goes_on w) (Returns v) f g same next = absurd same
-step_then d (Gives goes_on w) (kernel.Raises y v) f g same next = absurd same
-step_then d (Gives goes_on w) (kernel.Cut v) f g same next = absurd same
-step_then d (Gives leaves w) e f g same next = absurd (no_leaving d w e same)
-step_then d (Gives (returns x) w) (Ends v) f g same next = absurd same
-step_then d (Gives (returns x) w) (Exits v) f g same next = absurd same
-step_then d (Gives (returns x) w) (kernel.Raises y v) f g same next = absurd same
-step_then d (Gives (returns x) w) (kernel.Cut v) f g same next = absurd same
-step_then d (Raises x w) (Ends v) f g same next = absurd same
-step_then d (Raises x w) (Exits v) f g same next = absurd same
-step_then d (Raises x w) (Returns v) f g same next = absurd same
-step_then d (Raises x w) (kernel.Cut v) f g same next = absurd same
-step_then d (OutOfFuel w) (Ends v) f g same next = absurd same
-step_then d (OutOfFuel w) (Exits v) f g same next = absurd same
-step_then d (OutOfFuel w) (Returns v) f g same next = absurd same
-step_then d (OutOfFuel w) (kernel.Raises y v) f g same next = absurd same
-
-module _ (p : Program) (calls : Calls) (kcalls : code.Calls) (fuel fp left : ℕ) (agree : CallsDo p calls kcalls fp left) where
-  statement_does : (s : tree.Stmt) → IsPlainStatement (length p.subprograms) s → (w : World) (v : kernel.World) → Observed 0 w.seen v.seen → w.depth + left ≡ 512
-      → Step w.depth (does p calls fuel 0 s None w) (code.does_code (kernel_of p) kcalls fuel 1 fp left (statement_code s) v)
-  statement_does (tree.null_statement l) plain w v seen depth = (refl, record { events = ap (λ es. Start (record { 0 = l.number }) (record { 0 = 0 }) ∷ es) seen.events; output = seen.output; cost = omega (arith, seen.cost) })
-  statement_does (tree.return_statement l) plain w v seen depth = (refl, record { events = ap (λ es. Start (record { 0 = l.number }) (record { 0 = 0 }) ∷ es) seen.events; output = seen.output; cost = omega (arith, seen.cost) })
-  statement_does (tree.procedure_call l tree.test_put (tree.by_expression (tree.literal x) tree.no_actual)) plain w v seen depth =
-      rw plain (
-        refl,
-        record {
-          events = ap (λ es. Start (record { 0 = l.number }) (record { 0 = 0 }) ∷ es) seen.events;
-          output = ap (λ z. z ∷ v.seen.output) (with_slot_at fp 0 x v) ∙ ap (λ os. x ∷ os) seen.output;
-          cost = omega (arith, seen.cost);
-        },
-      )
-  statement_does (tree.procedure_call l (tree.subprogram (type.of_instance zero) m) tree.no_actual) plain w v seen depth =
-      call_step w.depth _ _ (agree m plain _ _ (record { events = ap (λ es. Start (record { 0 = l.number }) (record { 0 = 0 }) ∷ es) seen.events; output = seen.output; cost = omega (arith, seen.cost) }) depth)
-  statement_does s plain w v seen depth = absurd plain
-
-  statements_do : (ss : tree.Stmts) → ArePlainStatements (length p.subprograms) ss → (w : World) (v : kernel.World) → Observed 0 w.seen v.seen → w.depth + left ≡ 512
-      → Step w.depth (does_all p calls fuel 0 ss None w) (code.does_code (kernel_of p) kcalls fuel 1 fp left (statements_code ss) v)
-  statements_do tree.no_statement plain w v seen depth = (refl, seen)
-  statements_do (tree.and_statement s ss) plain w v seen depth =
-      rw (joined_does (kernel_of p) kcalls fuel 1 fp left (statement_code s) (statements_code ss) v)
-      (step_then w.depth (does p calls fuel 0 s None w) (code.does_code (kernel_of p) kcalls fuel 1 fp left (statement_code s) v)
-      (does_all p calls fuel 0 ss None) (code.does_code (kernel_of p) kcalls fuel 1 fp left (statements_code ss))
-      (statement_does s plain.0 w v seen depth)
-      (λ x y same seen. subst (λ d. Step d (does_all p calls fuel 0 ss None x) (code.does_code (kernel_of p) kcalls fuel 1 fp left (statements_code ss) y)) same
-      (statements_do ss plain.1 x y seen (ap (λ d. d + left) same ∙ depth))))
-
--- a body in an activation of its own
-framed_call : (d : ℕ) (r : Outcome Flow) (e : Ended) → Step (suc d) r e
-    → Call d (goes_to (state.left d (state.caught r (λ x. state.raise x))) (λ f. give (source.result_in f))) (code.back e)
-framed_call d (Gives goes_on w) (Ends v) same = (refl, same.1)
-framed_call d (Gives (returns x) w) (Returns v) same = (refl, same.1)
-framed_call d (Raises x w) (kernel.Raises y v) same = same
-framed_call d (OutOfFuel w) (kernel.Cut v) same = same
-framed_call d (Gives goes_on w) (Exits v) same = absurd same
-framed_call d (Gives goes_on w) (Returns v) same = absurd same
-framed_call d (Gives goes_on w) (kernel.Raises y v) same = absurd same
-framed_call d (Gives goes_on w) (kernel.Cut v) same = absurd same
-framed_call d (Gives leaves w) e same = absurd (no_leaving (suc d) w e same)
-framed_call d (Gives (returns x) w) (Ends v) same = absurd same
-framed_call d (Gives (returns x) w) (Exits v) same = absurd same
-framed_call d (Gives (returns x) w) (kernel.Raises y v) same = absurd same
-framed_call d (Gives (returns x) w) (kernel.Cut v) same = absurd same
-framed_call d (Raises x w) (Ends v) same = absurd same
-framed_call d (Raises x w) (Exits v) same = absurd same
-framed_call d (Raises x w) (Returns v) same = absurd same
-framed_call d (Raises x w) (kernel.Cut v) same = absurd same
-framed_call d (OutOfFuel w) (Ends v) same = absurd same
-framed_call d (OutOfFuel w) (Exits v) same = absurd same
-framed_call d (OutOfFuel w) (Returns v) same = absurd same
-framed_call d (OutOfFuel w) (kernel.Raises y v) same = absurd same
-
-body_does : (p : Program) (calls : Calls) (kcalls : code.Calls) (fuel fp left d : ℕ) → CallsDo p calls kcalls fp left → (b : tree.Block) → IsPlainBlock (length p.subprograms) b
-    → (w : World) (v : kernel.World) → Observed 0 w.seen v.seen → w.depth ≡ suc d → suc d + left ≡ 512
-    → Call d (goes_to (state.left d (does_block p calls fuel 0 b None w)) (λ f. give (source.result_in f))) (code.back (code.does_code (kernel_of p) kcalls fuel 1 fp left (block_code b) v))
-body_does p calls kcalls fuel fp left d agree (tree.block [] ss tree.no_handler) plain w v seen at room =
-    framed_call d _ _ (subst (λ n. Step n (does_all p calls fuel 0 ss None w) (code.does_code (kernel_of p) kcalls fuel 1 fp left (statements_code ss) v)) at
-    (statements_do p calls kcalls fuel fp left agree ss plain w v seen (ap (λ n. n + left) at ∙ room)))
-body_does p calls kcalls fuel fp left d agree (tree.block [] ss (tree.handler cs hss hs)) plain w v seen at room = absurd plain
-body_does p calls kcalls fuel fp left d agree (tree.block (x ∷ ds) ss hs) plain w v seen at room = absurd plain
+  body_does : (p : Program) (calls : Calls) (kcalls : code.Calls) (fuel left : ℕ) (b : tree.Block) (w : World) (v : kernel.World) → IsPlainBlock p b → width_of b ≤ fp
+      → CallsDo p calls kcalls (width_of b) fp left → suc start.depth + left ≡ 512 → Inside fp (suc start.depth) start.store begun.memory 0 0 w v
+      → Framed (does_block p calls fuel 0 b None w) (code.does_code (kernel_of p) kcalls fuel (width_of b) fp left (block_code (number_in p zero) (bounds_in p zero) b) v)
+  body_does p calls kcalls fuel left (tree.block ds ss tree.no_handler) w v plain room agree deep h =
+      let k = length ds in
+      let width = max (end_of_declarations k ds) (end_of_statements k ss) in
+      let declared = declarations_code (number_in p zero) (bounds_in p zero) k ds in
+      let stated = statements_code (number_in p zero) (bounds_in p zero) k ss in
+      let narrow : k < width = omega (arith, objects_below k ds) in
+      rw (joined_does (kernel_of p) kcalls fuel width fp left declared stated v)
+      (runs_then (λ u. Inside fp (suc start.depth) start.store begun.memory k 0) Framed framed_stops (λ u x. state.caught (does_all p calls fuel 0 ss None x) (λ e. state.raise e))
+      (code.does_code (kernel_of p) kcalls fuel width fp left stated)
+      (λ u x y g. framed_body k _ _ (statements_do p calls kcalls fuel width fp left (suc start.depth) start.store begun.memory room agree deep ss k x y plain.2 narrow
+      (omega arith) g))
+      (declares_all p calls fuel 0 ds w) (code.does_code (kernel_of p) kcalls fuel width fp left declared v)
+      (declarations_do p calls kcalls fuel width fp left (suc start.depth) start.store begun.memory room ds 0 k w v plain.0 (omega arith) narrow (omega arith) h))
+  body_does p calls kcalls fuel left (tree.block ds ss (tree.handler cs hss hs)) w v plain room agree deep h = absurd plain
 
 -- calls may nest up to the greatest depth, and no deeper
 may_nest : (d left : ℕ) → d + suc left ≡ 512 → nat_lt d source.deepest ≡ true
@@ -169,61 +71,78 @@ unfolding source.deepest
 may_not d full = let same : d ≡ 512 = omega (arith, full) in rw same refl
 
 -- a subprogram with a number, and its body
-record Standing (P : Subprogram → Type 0) (ss : List Subprogram) (n : ℕ) : Type 0 where
+record Standing (f : Subprogram → Body) (P : Subprogram → Type 0) (Q : Body → Type 0) (ss : List Subprogram) (n : ℕ) : Type 0 where
   s : Subprogram
   there : slice_get ss n ≡ Some s
-  body : slice_get (map body_of ss) n ≡ Some (body_of s)
+  body : slice_get (map f ss) n ≡ Some (f s)
   holds : P s
+  narrow : Q (f s)
 
-standing : (P : Subprogram → Type 0) (ss : List Subprogram) (n : ℕ) → Everywhere P ss → n < length ss → Standing P ss n
-standing P [] n all lt = absurd (omega (arith, lt))
-standing P (s ∷ ss) zero all lt = record { s = s; there = refl; body = refl; holds = all.0 }
-standing P (s ∷ ss) (suc n) all lt = later (standing P ss n all.1 (omega (arith, lt)))
+standing : (f : Subprogram → Body) (P : Subprogram → Type 0) (Q : Body → Type 0) (ss : List Subprogram) (n : ℕ) → Everywhere P ss → Everywhere Q (map f ss)
+    → n < length ss → Standing f P Q ss n
+standing f P Q [] n all each lt = absurd (omega (arith, lt))
+standing f P Q (s ∷ ss) zero all each lt = record { s = s; there = refl; body = refl; holds = all.0; narrow = each.0 }
+standing f P Q (s ∷ ss) (suc n) all each lt = later (standing f P Q ss n all.1 each.1 (omega (arith, lt)))
   where
-    later : Standing P ss n → Standing P (s ∷ ss) (suc n)
-    later x = record { s = x.s; there = x.there; body = x.body; holds = x.holds }
+    later : Standing f P Q ss n → Standing f P Q (s ∷ ss) (suc n)
+    later x = record { s = x.s; there = x.there; body = x.body; holds = x.holds; narrow = x.narrow }
 
--- the body of a subprogram, in an activation
-entered : (p : Program) (fuel fp left : ℕ) → CallsDo p (source.calls_in p fuel) (code.calls_in (kernel_of p) fuel) fp left → (s : Subprogram) → IsPlainBlock (length p.subprograms) s.body
-    → (w : World) (v : kernel.World) → Observed 0 w.seen v.seen → w.depth + suc left ≡ 512
-    → Call w.depth (source.called p (source.calls_in p fuel) (suc fuel) 0 (Some s) [] w) (code.executed (kernel_of p) (code.calls_in (kernel_of p) fuel) (suc fuel) (Some (body_of s)) fp left v)
-entered p fuel fp left agree s plain w v seen room =
-    rw (may_nest w.depth left room)
-    (body_does p (source.calls_in p fuel) (code.calls_in (kernel_of p) fuel) (suc fuel) fp left w.depth agree s.body plain _ _
-    (record { events = seen.events; output = seen.output; cost = omega (arith, seen.cost) }) refl (omega (arith, room)))
+abbrev IsNarrow : Body → Type 0
+IsNarrow b = (1 ≤ b.width) × (b.width + most_arguments ≤ widest)
 
-calls_do : (p : Program) → IsStraightLine p → (fuel fp left : ℕ) → fuel ≢ left → CallsDo p (source.calls_in p fuel) (code.calls_in (kernel_of p) fuel) fp left
-calls_do p plain zero fp zero differ = absurd (differ refl)
-calls_do p plain zero fp (suc left) differ = λ n lt w v seen room. record { events = seen.events; output = seen.output; cost = omega (arith, seen.cost) }
-calls_do p plain (suc fuel) fp zero differ = λ n lt w v seen room.
-    let at = standing (λ s. (s.parameters ≡ []) × IsPlainBlock (length p.subprograms) s.body) p.subprograms n plain.bodies lt in
-    rw (at.there, may_not w.depth room) (refl, record { events = seen.events; output = seen.output; cost = omega (arith, seen.cost) })
-calls_do p plain (suc fuel) fp (suc left) differ = λ n lt w v seen room.
-    let at = standing (λ s. (s.parameters ≡ []) × IsPlainBlock (length p.subprograms) s.body) p.subprograms n plain.bodies lt in
-    rw (at.there, at.body) (entered p fuel (fp - 1) left (calls_do p plain fuel (fp - 1) left (λ same. differ (ap suc same))) at.s at.holds.1 w (kernel.paid 1 v)
-    (record { events = seen.events; output = seen.output; cost = omega (arith, seen.cost) }) room)
+module _ (p : Program) where
+  abbrev body : Subprogram → Body
+  body = body_of (number_in p zero) (bounds_in p zero)
 
-call_same : (d : ℕ) (r : Outcome (Option ℤ)) (e : Ended) → Call d r e → Same r e
-call_same d (Gives r w) (Ends v) same = same.1
-call_same d (Raises x w) (kernel.Raises f v) same = same
-call_same d (OutOfFuel w) (kernel.Cut v) same = same
-call_same d (Gives r w) (Exits v) same = absurd same
-call_same d (Gives r w) (Returns v) same = absurd same
-call_same d (Gives r w) (kernel.Raises f v) same = absurd same
-call_same d (Gives r w) (kernel.Cut v) same = absurd same
-call_same d (Raises x w) (Ends v) same = absurd same
-call_same d (Raises x w) (Exits v) same = absurd same
-call_same d (Raises x w) (Returns v) same = absurd same
-call_same d (Raises x w) (kernel.Cut v) same = absurd same
-call_same d (OutOfFuel w) (Ends v) same = absurd same
-call_same d (OutOfFuel w) (Exits v) same = absurd same
-call_same d (OutOfFuel w) (Returns v) same = absurd same
-call_same d (OutOfFuel w) (kernel.Raises f v) same = absurd same
+  -- the body of a subprogram, in an activation
+  entered : (fuel fp left : ℕ) (s : Subprogram) (w : World) (begun v : kernel.World)
+      → CallsDo p (source.calls_in p fuel) (code.calls_in (kernel_of p) fuel) (width_of s.body) fp left
+      → IsPlainProcedure p s → width_of s.body ≤ fp → v.memory ≡ begun.memory → v.input ≡ w.input → Observed 0 w.seen v.seen → w.depth + suc left ≡ 512
+      → Runs (λ r. Called fp w begun) (source.called p (source.calls_in p fuel) (suc fuel) 0 (Some s) [] w)
+      (code.executed (kernel_of p) (code.calls_in (kernel_of p) fuel) (suc fuel) (Some (body s)) fp left v)
+  entered fuel fp left s w begun v agree plain room same input seen depth =
+      rw (may_nest w.depth left depth)
+      (body_does fp w begun p (source.calls_in p fuel) (code.calls_in (kernel_of p) fuel) (suc fuel) left s.body _ _ plain.body room agree (omega (arith, depth)) (record {
+        depth_is = refl;
+        input = input;
+        slots = λ d lt. absurd (omega (arith, lt));
+        words = λ a le. ap (λ m. m a) same;
+        kept = λ q lt. refl;
+        seen = record { events = seen.events; output = seen.output; cost = omega (arith, seen.cost) };
+      }))
 
-pub same_law : (p : Program) → IsStraightLine p → (fuel : ℕ) (input : List ℤ) → fuel ≢ source.deepest → Same (source.exec p fuel input) (code.exec (kernel_of p) fuel input)
+  module _ (plain : IsStraightLine p) (small : IsWithin (kernel_of p)) where
+    abbrev found : (n : ℕ) → n < length p.subprograms → Standing body (IsPlainProcedure p) IsNarrow p.subprograms n
+    found n lt = standing body (IsPlainProcedure p) IsNarrow p.subprograms n plain.bodies small.widths lt
+
+    calls_do : (fuel width fp left : ℕ) → fuel ≢ left → width ≤ 7500 → 7500 * suc left ≤ fp → CallsDo p (source.calls_in p fuel) (code.calls_in (kernel_of p) fuel) width fp left
+    calls_do zero width fp zero differ narrow deep = absurd (differ refl)
+    calls_do zero width fp (suc left) differ narrow deep = λ n lt w v seen input depth. record { events = seen.events; output = seen.output; cost = omega (arith, seen.cost) }
+    calls_do (suc fuel) width fp zero differ narrow deep = λ n lt w v seen input depth.
+        let x = found n lt in
+        rw (x.there, may_not w.depth depth) (refl, record { events = seen.events; output = seen.output; cost = omega (arith, seen.cost) })
+    calls_do (suc fuel) width fp (suc left) differ narrow deep = λ n lt w v seen input depth.
+        let x = found n lt in
+        rw (x.there, x.body)
+        (entered fuel (fp - width) left x.s w v (kernel.paid 1 v)
+        (calls_do fuel (width_of x.s.body) (fp - width) left (λ same. differ (ap suc same)) (omega (arith, x.narrow.1)) (omega (arith, narrow, deep)))
+        x.holds (omega (arith, x.narrow.1, narrow, deep)) refl input (record { events = seen.events; output = seen.output; cost = omega (arith, seen.cost) }) depth)
+
+    call_same : (fp : ℕ) (start : World) (begun : kernel.World) (r : Outcome (Option ℤ)) (e : Ended) → Runs (λ x. Called fp start begun) r e → Same r e
+    call_same fp start begun =
+        runs_are (λ x. Called fp start begun) Same (record { raises = λ x y w v same seen. (same, seen); cut = λ w v seen. seen }) (λ a w v h. h.seen)
+
+    same_from : (fuel : ℕ) (input : List ℤ) → fuel ≢ 512 → Same (source.exec p fuel input) (code.exec (kernel_of p) fuel input)
+    same_from zero input differ = record { events = refl; output = refl; cost = omega arith }
+    same_from (suc fuel) input differ =
+        let x = found p.main plain.main in
+        rw (x.there, x.body)
+        (call_same area_end (source.initial p input) (code.begin (kernel_of p) input) _ _
+        (entered fuel area_end 511 x.s (source.initial p input) (code.begin (kernel_of p) input) (code.begin (kernel_of p) input)
+        (calls_do fuel (width_of x.s.body) area_end 511 (λ same. differ (ap suc same)) (omega (arith, x.narrow.1)) (omega arith))
+        x.holds (omega (arith, x.narrow.1)) refl refl (record { events = refl; output = refl; cost = omega arith }) refl))
+
+pub same_law : (p : Program) → IsStraightLine p → IsWithin (kernel_of p) → (fuel : ℕ) (input : List ℤ) → fuel ≢ source.deepest
+    → Same (source.exec p fuel input) (code.exec (kernel_of p) fuel input)
 unfolding source.deepest
-same_law p plain zero input differ = record { events = refl; output = refl; cost = omega arith }
-same_law p plain (suc fuel) input differ =
-    let at = standing (λ s. (s.parameters ≡ []) × IsPlainBlock (length p.subprograms) s.body) p.subprograms p.main plain.bodies plain.main in
-    rw (at.there, at.body) (call_same 0 _ _ (entered p fuel area_end 511 (calls_do p plain fuel area_end 511 (λ same. differ (ap suc same))) at.s at.holds.1 (source.initial p input) (code.begin (kernel_of p) input)
-    (record { events = refl; output = refl; cost = omega arith }) refl))
+same_law p plain small fuel input differ = same_from p plain small fuel input differ

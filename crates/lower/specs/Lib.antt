@@ -1,4 +1,6 @@
 pub mod StraightLine
+pub mod Sizes
 pub mod Lowered
 pub mod Same
 pub mod Marked
+pub mod Chain

@@ -1,47 +1,172 @@
--- The kernel of a program.
-use Rattle.std.specs.Prelude.{ℕ, [], map}
-use Rattle.ada_meaning.specs.Program.{Subprogram, Program}
+-- The kernel of a program: the objects of a body are the first slots of its frame, in their order, and values of expressions are worked
+-- out in the slots behind them.
+use Rattle.std.specs.Prelude.{ℕ, zero, ◌+◌, ℤ, max, List, [], ◌∷◌, length, map}
+use Rattle.ada_meaning.specs.Arithmetic.{base_range}
+use Rattle.ada_meaning.specs.Program.{Bounds, Subprogram, Program}
+use Rattle.ada_meaning.specs.Resolved.{number_in, bounds_in}
 use Rattle.ada_meaning.specs.Tree as tree
+use Rattle.ada_meaning.specs.Types as type
 use Rattle.kernel_ir.specs.declared.kernel.Body.{Body}
 use Rattle.kernel_ir.specs.declared.kernel.Kernel.{Kernel}
+use Rattle.kernel_ir.specs.declared.simple.Operator.{Operator}
+use Rattle.kernel_ir.specs.declared.simple.Operator.TheVariants as operator
+use Rattle.kernel_ir.specs.declared.simple.Simple.{Simple}
 use Rattle.kernel_ir.specs.declared.simple.Simple.TheVariants as op
 use Rattle.kernel_ir.specs.Sequence.{joined}
-use Rattle.kernel_ir.specs.Tree.{Op, simple, returns, call, Code, no_op, and_op}
+use Rattle.kernel_ir.specs.Tree.{simple, returns, call, Code, no_op, and_op}
+
+-- code of one operation that holds no others
+abbrev pub one : Simple → Code
+one s = and_op (simple s) no_op
 
 -- a statement starts
-abbrev pub start_of : tree.Label → Op
-start_of l = simple (op.Start (record { 0 = l.number }) (record { 0 = 0 }))
+abbrev pub start_of : tree.Label → Simple
+start_of l = op.Start (record { 0 = l.number }) (record { 0 = 0 })
 
--- the value of the first actual is put by way of slot 0
-abbrev pub put_code : tree.Actuals → Code
-put_code (tree.by_expression (tree.literal x) rest) = and_op (simple (op.Number 0 x)) (and_op (simple (op.Put 0)) no_op)
-put_code actuals = no_op
+-- raises Constraint_Error unless a slot's value lies within bounds
+abbrev pub within : (slot : ℕ) → Bounds → Simple
+within k b = op.Within k b.low b.high
 
--- what a call does when its statement has started
-abbrev pub call_code : tree.Callee → tree.Actuals → Code
-call_code tree.test_get actuals = no_op
-call_code tree.test_put actuals = put_code actuals
-call_code (tree.subprogram o n) actuals = and_op (call n) no_op
-call_code (tree.formal_subprogram k) actuals = no_op
+-- the slot of an object
+abbrev pub slot_of : tree.Object → ℕ
+slot_of (tree.library_object o d) = d
+slot_of (tree.local_object d) = d
 
--- the code of a statement
-abbrev pub statement_code : tree.Stmt → Code
-statement_code (tree.null_statement l) = and_op (start_of l) no_op
-statement_code (tree.procedure_call l c actuals) = and_op (start_of l) (call_code c actuals)
-statement_code (tree.return_statement l) = and_op (start_of l) (and_op returns no_op)
-statement_code s = no_op
+-- the operator on one integer, on a slot; the result is checked against the base range (RM 4.5.4, 4.5.6)
+abbrev pub sign_on : (slot : ℕ) → type.Sign → Simple
+sign_on k type.unary_plus = within k base_range
+sign_on k type.unary_minus = op.Negate k k
+sign_on k type.absolute_value = op.Absolute k k
 
-abbrev pub statements_code : tree.Stmts → Code
-statements_code tree.no_statement = no_op
-statements_code (tree.and_statement s ss) = joined (statement_code s) (statements_code ss)
+-- the operator on two integers (RM 4.5.3, 4.5.5)
+abbrev pub operator_for : type.Operator → Operator
+operator_for type.addition = operator.Add
+operator_for type.subtraction = operator.Subtract
+operator_for type.multiplication = operator.Multiply
+operator_for type.division = operator.Divide
+operator_for type.modulus = operator.Modulo
+operator_for type.remainder = operator.Remainder
 
-abbrev pub block_code : tree.Block → Code
-block_code (tree.block ds ss hs) = statements_code ss
+-- an operator, on a slot and the one behind it
+abbrev pub operator_on : (slot : ℕ) → type.Operator → Simple
+operator_on k o = op.Arithmetic (operator_for o) k k (k + 1)
 
--- the body of a subprogram, whose frame has one word
-abbrev pub body_of : Subprogram → Body
-body_of s = record { code = block_code s.body; width = 1 }
+-- the first slot behind those that the value of an expression is worked out in, of which k is the first
+abbrev pub end_of : (k : ℕ) → tree.Expr → ℕ
+end_of k (tree.signed s e) = end_of k e
+end_of k (tree.operation o e f) = max (end_of k e) (end_of (k + 1) f)
+end_of k e = k + 1
+
+-- the same of the first actual of Test_IO.Put
+abbrev pub end_of_put : (k : ℕ) → tree.Actuals → ℕ
+end_of_put k (tree.by_expression e rest) = end_of k e
+end_of_put k actuals = k + 1
+
+-- of a call
+abbrev pub end_of_call : (k : ℕ) → tree.Callee → tree.Actuals → ℕ
+end_of_call k tree.test_put actuals = end_of_put k actuals
+end_of_call k c actuals = k + 1
+
+-- of what an object is set to, of declarations and of statements
+abbrev pub end_of_value : (k : ℕ) → tree.NewValue → ℕ
+end_of_value k (tree.scalar_value r e) = end_of k e
+end_of_value k v = k + 1
+
+abbrev pub end_of_declaration : (k : ℕ) → tree.Declaration → ℕ
+end_of_declaration k (tree.initialized l d v) = end_of_value k v
+end_of_declaration k (tree.without_value d t) = k + 1
+
+abbrev pub end_of_declarations : (k : ℕ) → List tree.Declaration → ℕ
+end_of_declarations k [] = k + 1
+end_of_declarations k (d ∷ ds) = max (end_of_declaration k d) (end_of_declarations k ds)
+
+abbrev pub end_of_statement : (k : ℕ) → tree.Stmt → ℕ
+end_of_statement k (tree.assignment l o parts v) = end_of_value k v
+end_of_statement k (tree.procedure_call l c actuals) = end_of_call k c actuals
+end_of_statement k s = k + 1
+
+abbrev pub end_of_statements : (k : ℕ) → tree.Stmts → ℕ
+end_of_statements k tree.no_statement = k + 1
+end_of_statements k (tree.and_statement s ss) = max (end_of_statement k s) (end_of_statements k ss)
+
+-- how many words the frame of a body has: one for each object, and those that values are worked out in
+abbrev pub width_of : tree.Block → ℕ
+width_of (tree.block ds ss hs) = max (end_of_declarations (length ds) ds) (end_of_statements (length ds) ss)
+
+-- by the bounds of ranges; k is the first slot behind the objects
+module _ (bounds : type.Range → Bounds) where
+  -- sets an object to the value of the slot k, which a subtype has
+  abbrev pub checked_code : (k : ℕ) → tree.Object → type.Range → Code
+  checked_code k o r = and_op (simple (within k (bounds r))) (one (op.Move (slot_of o) k))
+
+  -- sets an object to the next word of the input, which its subtype has
+  abbrev pub input_code : (k : ℕ) → tree.Object → type.Range → Code
+  input_code k o r = and_op (simple (op.Get k)) (checked_code k o r)
+
+  abbrev pub get_code : (k : ℕ) → tree.Actuals → Code
+  get_code k (tree.by_variable o parts r rest) = input_code k o r
+  get_code k actuals = no_op
+
+-- by the values of static expressions too
+module _ (number : type.Static → ℤ) (bounds : type.Range → Bounds) where
+  -- the value of an expression, into a slot
+  abbrev pub expr_code : (k : ℕ) → tree.Expr → Code
+  expr_code k (tree.literal x) = one (op.Number k x)
+  expr_code k (tree.constant e) = one (op.Number k (number e))
+  expr_code k (tree.read o parts) = one (op.Move k (slot_of o))
+  expr_code k (tree.signed s e) = joined (expr_code k e) (one (sign_on k s))
+  expr_code k (tree.operation o e f) = joined (expr_code k e) (joined (expr_code (k + 1) f) (one (operator_on k o)))
+  expr_code k e = no_op
+
+  -- sets an object to a value that its subtype has
+  abbrev pub value_code : (k : ℕ) → tree.Object → tree.NewValue → Code
+  value_code k o (tree.scalar_value r e) = joined (expr_code k e) (checked_code bounds k o r)
+  value_code k o v = no_op
+
+  -- puts the value of an expression, which the parameter's subtype Integer has
+  abbrev pub output_code : (k : ℕ) → tree.Expr → Code
+  output_code k e = joined (expr_code k e) (and_op (simple (within k base_range)) (one (op.Put k)))
+
+  abbrev pub put_code : (k : ℕ) → tree.Actuals → Code
+  put_code k (tree.by_expression e rest) = output_code k e
+  put_code k actuals = no_op
+
+  -- what a call does when its statement has started
+  abbrev pub call_code : (k : ℕ) → tree.Callee → tree.Actuals → Code
+  call_code k tree.test_get actuals = get_code bounds k actuals
+  call_code k tree.test_put actuals = put_code k actuals
+  call_code k (tree.subprogram o n) actuals = and_op (call n) no_op
+  call_code k (tree.formal_subprogram n) actuals = no_op
+
+  -- the code of a declaration: an object without an initial value has its subtype's first value
+  abbrev pub declaration_code : (k : ℕ) → tree.Declaration → Code
+  declaration_code k (tree.initialized l d v) = and_op (simple (start_of l)) (value_code k (tree.local_object d) v)
+  declaration_code k (tree.without_value d (type.scalar r)) = one (op.Number d (bounds r).low)
+  declaration_code k d = no_op
+
+  abbrev pub declarations_code : (k : ℕ) → List tree.Declaration → Code
+  declarations_code k [] = no_op
+  declarations_code k (d ∷ ds) = joined (declaration_code k d) (declarations_code k ds)
+
+  -- the code of a statement
+  abbrev pub statement_code : (k : ℕ) → tree.Stmt → Code
+  statement_code k (tree.null_statement l) = one (start_of l)
+  statement_code k (tree.assignment l o parts v) = and_op (simple (start_of l)) (value_code k o v)
+  statement_code k (tree.procedure_call l c actuals) = and_op (simple (start_of l)) (call_code k c actuals)
+  statement_code k (tree.return_statement l) = and_op (simple (start_of l)) (and_op returns no_op)
+  statement_code k s = no_op
+
+  abbrev pub statements_code : (k : ℕ) → tree.Stmts → Code
+  statements_code k tree.no_statement = no_op
+  statements_code k (tree.and_statement s ss) = joined (statement_code k s) (statements_code k ss)
+
+  abbrev pub block_code : tree.Block → Code
+  block_code (tree.block ds ss hs) = joined (declarations_code (length ds) ds) (statements_code (length ds) ss)
+
+  -- the body of a subprogram
+  abbrev pub body_of : Subprogram → Body
+  body_of s = record { code = block_code s.body; width = width_of s.body }
 
 -- the kernel of a program: its bodies have the numbers of the subprograms, and the exceptions are the predefined ones
 abbrev pub kernel_of : Program → Kernel
-kernel_of p = record { bodies = map body_of p.subprograms; main = p.main; layouts = []; library = []; exceptions = 4 }
+kernel_of p = record { bodies = map (body_of (number_in p zero) (bounds_in p zero)) p.subprograms; main = p.main; layouts = []; library = []; exceptions = 4 }

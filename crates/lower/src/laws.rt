@@ -10,16 +10,18 @@ ghost use Rattle.kernel_ir.specs.Limits.{IsWellFormed, IsWithin, kernel_instruct
 ghost use Rattle.kernel_ir.specs.Meaning as code;
 ghost use Rattle.kernel_ir.specs.Obligations.{rows, conditions};
 ghost use Rattle.lower.specs.Lowered.{kernel_of};
-ghost use Rattle.lower.specs.Marked.{row_of, all_statements};
+ghost use Rattle.lower.specs.Marked.{row_of};
 ghost use Rattle.lower.specs.Same.{Same};
+ghost use Rattle.lower.specs.Sizes.{all_nodes};
 ghost use Rattle.lower.specs.StraightLine.{IsStraightLine};
 
 /// Under each fuel but 512, which is the greatest depth of calls, a straight-line program and its
-/// kernel end alike or are both cut off, with the same events and the same output so far. With just
-/// that fuel the kernel may find that a call is too deep where the source is cut off before it looks.
+/// kernel end alike or are both cut off, with the same events and the same output so far, where the
+/// frames of the kernel lie apart in memory. With just that fuel the kernel may find that a call is
+/// too deep where the source is cut off before it looks.
 #[tactic(auto, using(crate::proofs::Follows::same_law))]
 pub fn kernels_do_what_their_programs_do()
-    ensures { (p : Program) → IsStraightLine p → (fuel : ℕ) (input : List ℤ) → fuel ≢ source.deepest
+    ensures { (p : Program) → IsStraightLine p → IsWithin (kernel_of p) → (fuel : ℕ) (input : List ℤ) → fuel ≢ source.deepest
         → Same (source.exec p fuel input) (code.exec (kernel_of p) fuel input) }
 {}
 
@@ -31,11 +33,11 @@ pub fn kernels_hold_the_obligations()
     ensures conditions { (p : Program) → IsStraightLine p → conditions (kernel_of p) ≡ [] }
 {}
 
-/// It takes at most 17 instructions for each statement, 8 for each procedure and 16 beside; within the
+/// It takes at most 28 instructions for each node, 8 for each procedure and 16 beside; within the
 /// limit on nodes it is small enough for machine code.
 pub fn kernels_are_small()
     ensures instructions { (p : Program) → IsStraightLine p
-        → kernel_instructions (kernel_of p) ≤ 17 * all_statements p.subprograms + 8 * length p.subprograms + 16 }
-    ensures within { (p : Program) → IsStraightLine p → all_statements p.subprograms + length p.subprograms ≤ 4096
+        → kernel_instructions (kernel_of p) ≤ 28 * all_nodes p.subprograms + 8 * length p.subprograms + 16 }
+    ensures within { (p : Program) → IsStraightLine p → all_nodes p.subprograms + length p.subprograms ≤ 4096
         → IsWithin (kernel_of p) }
 {}

@@ -5,8 +5,10 @@
 //! ending on every input, at no more than twice the cost.
 #![tactic(auto)]
 
+mod expressions;
 mod laws;
 mod lowering;
+mod statements;
 #[cfg(test)]
 mod tests;
 

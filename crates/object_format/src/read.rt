@@ -5,7 +5,7 @@ ghost use Rattle.object_format.specs.declared.object.Object.{Object};
 ghost use Rattle.object_format.specs.Fields.{passes_field};
 ghost use Rattle.object_format.specs.Checked.{IsSound};
 ghost use Rattle.object_format.specs.File.{object_bytes, structured};
-ghost use Rattle.object_format.specs.Read.{IsObject, is_plain, passes_plain_field, IsFailure};
+ghost use Rattle.object_format.specs.Read.{IsObject, has_no_condition, is_plain, passes_plain_field, IsFailure};
 ghost use Rattle.spelling.specs.Outcome.{Delivers};
 
 use crate::checks::check;
@@ -13,13 +13,14 @@ use crate::fault::ObjectFault;
 use crate::object::Object;
 use crate::structure::structure;
 use cov_base::Failure;
+use line_table::{Role, RoleKind};
 use std::alloc::Global;
 
 /// The object whose file the bytes are. The fault is the first check that fails: `Short` under 8
 /// bytes, `Magic`, `Version`, `Short` where a count runs past the end, and then the others in the
 /// order of [`ObjectFault`]. In the language of the moment an object has no data, no declared
-/// exceptions, one instance, no decisions, no regions and no roles, and any other fails as
-/// [`ObjectFault::Field`].
+/// exceptions, one instance, no decisions, no regions and no roles of conditions, and any other fails
+/// as [`ObjectFault::Field`]. Its branches belong to checks, or to other control flow.
 pub fn read_object(alloc: Global, bytes: &[u8]) -> Result<Object, Failure<ObjectFault>>
     // What is read is an object, and is spelled so.
     ensures found { IfOk result (λ o. IsObject o × (is_plain o ≡ true) × (bytes.now ≡ object_bytes o)) }
@@ -66,7 +67,7 @@ fn checked_plain(alloc: Global, bytes: &[u8]) -> Result<Object, Failure<ObjectFa
     Ok(value)
 }
 
-/// Whether an object has nothing that the language of the moment leaves empty.
+/// Whether an object has nothing that the language of the moment leaves out.
 fn is_plain(value: &Object) -> bool
     ensures { result ≡ is_plain value.now }
 {
@@ -76,5 +77,12 @@ fn is_plain(value: &Object) -> bool
         && due.instances.len() == 1
         && due.decisions.len() == 0
         && due.regions.len() == 0
-        && value.roles.as_slice().len() == 0
+        && has_no_condition(value.roles.as_slice())
+}
+
+/// Whether no role is that of a condition.
+fn has_no_condition(roles: &[Role]) -> bool
+    ensures { result ≡ has_no_condition roles.now }
+{
+    roles.iter().all(|role| role.kind != RoleKind::CONDITION)
 }

@@ -6,7 +6,7 @@ use crate::{
     ObjectFault, digest, read_object, read_whole_object, write_object, write_whole_object,
 };
 use cov_base::Failure;
-use given::{ALL_PARTS, CHANGES, ONE_REGION, ONE_STATEMENT, TWO_DECISIONS};
+use given::{ALL_PARTS, CHANGES, ONE_REGION, ONE_STATEMENT, TWO_BRANCHES, TWO_DECISIONS};
 use spelling::seal;
 use std::alloc::{AllocError, Global};
 use std::test::Fail;
@@ -117,10 +117,17 @@ fn objects_are_read_and_written_again(rt: HostRuntime) -> Result<(), Fail> {
 }
 
 #[test]
+fn the_language_of_the_moment_is_read_and_written_again(rt: HostRuntime) -> Result<(), Fail> {
+    for pieces in [ONE_STATEMENT.as_slice(), TWO_BRANCHES.as_slice()] {
+        let bytes = whole(rt.alloc(), pieces)?;
+        let written = again_plain(rt.alloc(), bytes.as_slice());
+        assert!(rt; matches!(&written, Ok(written) if written.as_slice() == bytes.as_slice()));
+    }
+    Ok(())
+}
+
+#[test]
 fn the_language_of_the_moment_has_no_region(rt: HostRuntime) -> Result<(), Fail> {
-    let bytes = whole(rt.alloc(), ONE_STATEMENT.as_slice())?;
-    let written = again_plain(rt.alloc(), bytes.as_slice());
-    assert!(rt; matches!(&written, Ok(written) if written.as_slice() == bytes.as_slice()));
     let bytes = whole(rt.alloc(), ONE_REGION.as_slice())?;
     assert_eq!(rt;
         plain_refusal(rt.alloc(), bytes.as_slice())?,

@@ -2,12 +2,12 @@
 
 ghost use Rattle.std.specs.Prelude.{◌≡◌, [], ◌∷◌, ◌++◌, IfOk, OnOk};
 ghost use Rattle.ada_meaning.specs.Collected.{labels, labels_of, decisions_of};
-ghost use Rattle.ada_meaning.specs.Obligations.{ordered_labels, no_instance, obligations_of};
+ghost use Rattle.ada_meaning.specs.Obligations.{ordered_labels, no_instance, obligations_of, statement_entry};
 ghost use Rattle.ada_tree.specs.View.{label_of, statements_of, program_of};
 ghost use Rattle.obligations.specs.Entries as spec;
 ghost use Rattle.obligations.specs.Entries.{predefined};
 
-use ada_tree::{Block, Label, Program, Statement, StatementKind, Subprogram};
+use ada_tree::{Block, Declaration, Label, Program, Statement, StatementKind, Subprogram};
 use cov_base::{Bytes, ExceptionName, InstanceEntry, Obligations, Seq, StmtEntry};
 use std::alloc::{AllocError, Global};
 
@@ -25,16 +25,16 @@ fn label(statement: &Statement) -> Label
 {
     match &statement.kind {
         StatementKind::Null(label) => *label,
+        StatementKind::Assignment(label, _, _) => *label,
         StatementKind::Call(label, _, _) => *label,
         StatementKind::Return(label) => *label,
     }
 }
 
-/// The entry of a statement.
-fn entry(statement: &Statement) -> StmtEntry
-    ensures { spec.of_statement statement.now ≡ result ∷ [] }
+/// The entry of a statement obligation.
+fn entry(label: Label) -> StmtEntry
+    ensures { result ≡ statement_entry (label_of label) }
 {
-    let label = label(statement);
     StmtEntry {
         file: label.place.file,
         line: label.place.line,
@@ -47,7 +47,38 @@ fn entry(statement: &Statement) -> StmtEntry
 fn push_block(block: &Block, entries: &mut Vec<StmtEntry>) -> Result<(), AllocError>
     ensures { OnOk result (entries.new.items ≡ entries.old.items ++ spec.of_block block.now) }
 {
+    push_declarations(block.declarations.as_slice(), entries)?;
     push_statements(block.statements.as_slice(), entries)
+}
+
+/// Adds the entry of a declaration, where it has an initial value.
+fn push_declaration(
+    declaration: &Declaration,
+    entries: &mut Vec<StmtEntry>,
+) -> Result<(), AllocError>
+    ensures { OnOk result (entries.new.items ≡ entries.old.items ++ spec.of_declarations (declaration.now ∷ [])) }
+{
+    match declaration {
+        Declaration::Initialized(label, _, _) => {
+            entries.push(entry(*label))?;
+            Ok(())
+        }
+        Declaration::WithoutValue(_, _) => Ok(()),
+    }
+}
+
+/// Adds the entries of declarations.
+#[tactic(auto, using(crate::proofs::Lists::appended))]
+fn push_declarations(
+    declarations: &[Declaration],
+    entries: &mut Vec<StmtEntry>,
+) -> Result<(), AllocError>
+    ensures { OnOk result (entries.new.items ≡ entries.old.items ++ spec.of_declarations declarations.now) }
+{
+    for declaration in declarations {
+        push_declaration(declaration, entries)?;
+    }
+    Ok(())
 }
 
 /// Adds the entries of statements.
@@ -56,7 +87,7 @@ fn push_statements(statements: &[Statement], entries: &mut Vec<StmtEntry>) -> Re
     ensures { OnOk result (entries.new.items ≡ entries.old.items ++ spec.of_statements (statements_of statements.now)) }
 {
     for statement in statements {
-        entries.push(entry(statement))?;
+        entries.push(entry(label(statement)))?;
     }
     Ok(())
 }
@@ -113,7 +144,7 @@ fn exception(alloc: Global, name: &str) -> Result<ExceptionName, AllocError>
 }
 
 /// What coverage has to show of a program, without its exempt regions: that each statement is
-/// executed, also one after a return. The statements stand in order in the program, as they do where
+/// executed, also one after a return, and each declaration that gives an initial value. The statements stand in order in the program, as they do where
 /// their sources are read from the left.
 pub fn obligations(alloc: Global, program: &Program) -> Result<Obligations, AllocError>
     requires in_order { ordered_labels (program_of program.now) ≡ labels_of (program_of program.now).subprograms }

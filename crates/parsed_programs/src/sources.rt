@@ -24,13 +24,17 @@ ghost use Rattle.parsed_programs.specs.Steps.{AreOnlyUnits, FailsToLex, FailsToP
 
 use crate::fault::{SourceFault, Why};
 use ada_lexer::{LexFault, Token, lex, nested};
-use ada_parser::parse;
+use ada_parser::parse_within;
 use ada_syntax::Unit;
 use cov_base::{Failure, Pos, Seq, SourceFile};
+use expression_parser::Extent;
 use std::alloc::Global;
 
 /// The most bytes of a source file.
 const MAX_SOURCE: usize = 1_048_576;
+
+/// How much of the language is open.
+const OPEN_EXTENT: Extent = Extent::Objects;
 
 /// Where each file begins.
 const BEGINNING: Pos = Pos {
@@ -142,7 +146,7 @@ fn units_of_file(
     ensures only_units { IfOk result (λ units. IsOnlyFile open_extent tokens.now units.items) }
     ensures refused { IfErr result (FailsToParse file (tokens.now ∷ [])) }
 {
-    match parse(alloc, tokens) {
+    match parse_within(alloc, OPEN_EXTENT, tokens) {
         Ok(units) => Ok(units),
         Err(Failure::Fault(fault)) => Err(Failure::Fault(fault_in(file, fault.pos, Why::Syntax))),
         Err(Failure::WantOfMemory) => Err(Failure::WantOfMemory),

@@ -8,7 +8,7 @@ use std::test::Fail;
 
 const MAIN: &str = "with R;\nprocedure M is\nbegin\n   R (1);\nend M;\n";
 
-const ROUTINE: &str = "procedure R is\nbegin\n   null;\nend R;\n";
+const ROUTINE: &str = "procedure R is\n   X : Integer := 1;\nbegin\n   X := X + 2;\nend R;\n";
 
 const WITHOUT_SEMICOLON: &str = "procedure R is\nbegin\n   null\nend R;\n";
 

@@ -1,6 +1,8 @@
 //! Tests of the public call over files and a sink in memory.
 
+mod endings;
 mod refused_sources;
+mod rules;
 
 use super::gnatcov;
 use crate::status::{FileRef, Status, TraceWhy};
@@ -111,7 +113,7 @@ const P1_TRACE: Making = Making {
 
 /// The same where the budget is just enough, and an input that is not read by the program.
 const P1_TRACE_AGAIN: Making = Making {
-    line: "gnatcov run --budget 26 -o p1.trace --input least p1.obj",
+    line: "gnatcov run --budget 38 -o p1.trace --input least p1.obj",
     ..P1_TRACE
 };
 
@@ -450,8 +452,8 @@ fn goes_from_sources_to_a_report(rt: HostRuntime) -> Result<(), Fail> {
     let mut files = sources(alloc)?;
     assert_eq!(rt; number_by(alloc, &P1_OBJECT, &mut files)?, Some(3));
     assert_eq!(rt; number_by(alloc, &Z_OBJECT, &mut files)?, Some(1));
-    assert_eq!(rt; number_by(alloc, &P1_TRACE, &mut files)?, Some(26));
-    assert_eq!(rt; number_by(alloc, &P1_TRACE_AGAIN, &mut files)?, Some(26));
+    assert_eq!(rt; number_by(alloc, &P1_TRACE, &mut files)?, Some(38));
+    assert_eq!(rt; number_by(alloc, &P1_TRACE_AGAIN, &mut files)?, Some(38));
     assert_eq!(rt; number_by(alloc, &Z_TRACE, &mut files)?, Some(14));
     let report = put_by(alloc, COVERAGE, &mut files)?;
     assert_eq!(rt; report.as_str(), P1_REPORT);
@@ -506,8 +508,8 @@ const OBJECT_REFUSED: Status = Status::ObjectRefused {
 
 /// The closing digest of the object of `P1`, which it has by another reckoning.
 const P1_DIGEST: [u8; 32] = [
-    0x8a, 0xc0, 0x7c, 0x24, 0x43, 0x0d, 0x68, 0x0a, 0x62, 0x94, 0x61, 0xbf, 0xc5, 0x19, 0x8d, 0x58,
-    0xfb, 0x5c, 0x6c, 0x19, 0xf0, 0x7b, 0x07, 0x5d, 0x9e, 0x1b, 0xfb, 0x7b, 0x7e, 0xcb, 0x63, 0x3d,
+    0x14, 0x25, 0x4a, 0xd3, 0xfe, 0x2e, 0x1d, 0x1c, 0x76, 0xfb, 0x2d, 0xcc, 0x39, 0xa8, 0xdb, 0x4d,
+    0x6d, 0xf0, 0x47, 0x65, 0x75, 0x7a, 0xee, 0xbf, 0x11, 0x85, 0xef, 0xc2, 0xcb, 0xb5, 0x5d, 0x51,
 ];
 
 /// The same of `Z`.
@@ -552,7 +554,7 @@ fn refusals() -> [Case<'static>; 9] {
         quiet(
             "gnatcov coverage --level=stmt --annotate=report --object=z.obj p1.trace",
             FOREIGN,
-            "gnatcov: trace 1 refused: foreign: kept 8ac07c24430d680a629461bfc5198d58fb5c6c19f07b075d9e1bfb7b7ecb633d, object 0c71a0f06f62ec2b59469289f258b32bd09bb0ef1d969de0af8b91678fb1ef4f\n",
+            "gnatcov: trace 1 refused: foreign: kept 14254ad3fe2e1d1c76fb2dcc39a8db4d6df04765757aeebf1185efc2cbb55d51, object 0c71a0f06f62ec2b59469289f258b32bd09bb0ef1d969de0af8b91678fb1ef4f\n",
         ),
         quiet(
             "gnatcov run --input=empty -o new p1.trace",
@@ -562,7 +564,7 @@ fn refusals() -> [Case<'static>; 9] {
         quiet(
             TWO_TRACES,
             FOREIGN_SECOND,
-            "gnatcov: trace 2 refused: foreign: kept 0c71a0f06f62ec2b59469289f258b32bd09bb0ef1d969de0af8b91678fb1ef4f, object 8ac07c24430d680a629461bfc5198d58fb5c6c19f07b075d9e1bfb7b7ecb633d\n",
+            "gnatcov: trace 2 refused: foreign: kept 0c71a0f06f62ec2b59469289f258b32bd09bb0ef1d969de0af8b91678fb1ef4f, object 14254ad3fe2e1d1c76fb2dcc39a8db4d6df04765757aeebf1185efc2cbb55d51\n",
         ),
         quiet(
             "gnatcov run --input=z.adb -o new p1.obj",
@@ -580,9 +582,9 @@ fn refusals() -> [Case<'static>; 9] {
             "gnatcov: input line 1 refused\n",
         ),
         quiet(
-            "gnatcov run --input=empty --budget=25 -o new p1.obj",
-            Status::OverBudget { count: 25 },
-            "gnatcov: over budget after 25 instructions\n",
+            "gnatcov run --input=empty --budget=37 -o new p1.obj",
+            Status::OverBudget { count: 37 },
+            "gnatcov: over budget after 37 instructions\n",
         ),
     ]
 }

@@ -375,7 +375,7 @@ pub(crate) static CHANGES: [(&str, usize, usize, &[u8], ObjectFault); 58] = [
     ),
 ];
 
-/// An object with one statement, and no part that the language of the moment leaves empty.
+/// An object with one statement, and no part that the language of the moment leaves out.
 pub(crate) static ONE_STATEMENT: [&[u8]; 11] = [
     b"GCOB\x01\0\0\0\0\0\x01\0\x04\0\0\0\x13\0\0\0\x13\x05\0\0",
     b"\x93\x080\0s\0\0\0\0\x10\x01\0\0\0\0\0\x01\0\0\0\x05\0\0\0",
@@ -388,6 +388,20 @@ pub(crate) static ONE_STATEMENT: [&[u8]; 11] = [
     b"\x03\0\0\0\x04\0\0\0\0\0\0\0\0\0\0\0\x01\0\0\0\0\0\x01\0",
     b"\0\0\0\0\0\0\0\0\0\0\0\0=\0\x17\x9fu\xf5\xdc\xfd[\xc8A\x0b",
     b"S3#\xf0\xc7\xa9\xc1q\xc3`\xfc\x99\xd8\x18\x03\x8e\xd5\xabF\xb6",
+];
+
+/// An object with two branches: one of a check, and one of other control flow.
+pub(crate) static TWO_BRANCHES: [&[u8]; 10] = [
+    b"GCOB\x01\0\0\0\0\0\x01\0\x08\0\0\0\x13\0\0\0\x13\x05P\0c\x14\x05\0\x13",
+    b"\x05\x10\0c\x04\x05\0\x13\x05\0\0\x93\x080\0s\0\0\0\0\0\0\x01\0\0\0\0",
+    b"\x01\0\0\0\x05\0\0\0c.adb\xa6S\x96#\xa6!\xb4\xf2\x19pd\xf9\x97z_\x90\xc2",
+    b"N\x81\x9f,Z}\xf5=\xce\x987\x83of\xaa\x01\0\0\0\0\0\0\0\0\0\0\0\0\0\0\0\0",
+    b"\0\0\0\x04\0\0\0\x10\0\0\0constraint_error\x0d\0\0\0program_error\x0d\0",
+    b"\0\0storage_error\x11\0\0\0test_io.end_error\x01\0\0\0\0\0\0\0\x03\0\0\0",
+    b"\x04\0\0\0\0\0\0\0\0\0\0\0\x01\0\0\0\0\0\x01\0\0\0\0\0\0\0\0\0\x02\0\0\0",
+    b"\x08\0\x01\0\0\0\0\0\0\0\0\0\0\0\0\x10\0\x01\0\x01\0\0\0\0\0\0\0\0\0\0",
+    b"\x91e\xa0$\xf9\xb0\xf4foC)8\x19\x0f\xa1\xee\x83\xd3f\x0dp\xa9\xff\xbf",
+    b"\xc4\xd72.)OD`",
 ];
 
 /// An object with a region.

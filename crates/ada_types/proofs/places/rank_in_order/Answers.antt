@@ -6,5 +6,6 @@ use Rattle.ada_types.proofs.places.rank_in_order.Goals as goal
 
 pub returns : goal.returns
 returns c =
-    let point = c.partition_point.ensures.partitioned (λ p. precedes p c.args.place) (always_returns_same _ _ _ (λ a r f k. search (rules, of_calls))) (parted c.args.place c.args.places.now c.requires) in
+    let point = c.partition_point.ensures.partitioned (λ p. precedes p c.args.place) (always_returns_same _ _ _ (λ a r f k. search (rules, of_calls)))
+    (parted c.args.place c.args.places.now c.requires.ordered) in
     sym (counted (λ p. precedes p c.args.place) c.args.places.now c.partition_point.result c.partition_point.ensures.bound point)

@@ -1,4 +1,5 @@
-use Rattle.lower.proofs.Static.{well_formed_law, rows_law, conditions_law}
+use Rattle.lower.proofs.Fits.{well_formed_law}
+use Rattle.lower.proofs.Marks.{rows_law, conditions_law}
 use Rattle.lower.proofs.laws.kernels_hold_the_obligations.Goals as goal
 
 pub returns : goal.returns

@@ -1,0 +1,89 @@
+-- Declarations: how they pass by their parts, and how they are refused.
+use Rattle.std.proofs.Common.{◌≡◌, ℕ, ◌+◌, ◌<◌, length, Result, Ok, Err, true, ◌&&◌, List, ◌∷◌, drop, Option, Some, refl, sym, ap, ◌∙◌, subst}
+use Rattle.std.specs.List.{list_all}
+use Rattle.std.proofs.Math.ListN.{get_or}
+use Rattle.std.proofs.Math.Bool.{and-true}
+use Rattle.cov_base.specs.declared.failure.Failure.{Failure}
+use Rattle.ada_syntax.specs.declared.declaration.Constancy.{Constancy}
+use Rattle.ada_syntax.specs.declared.declaration.Declaration.{Declaration}
+use Rattle.ada_syntax.specs.declared.declaration.DeclarationKind.TheVariants.{Object}
+use Rattle.ada_syntax.specs.declared.declaration.Initial.{Initial}
+use Rattle.ada_syntax.specs.declared.declaration.SubtypeIndication.{SubtypeIndication}
+use Rattle.ada_syntax.specs.declared.name.Identifier.{Identifier}
+use Rattle.ada_names.specs.declared.fault.NameFault.{NameFault}
+use Rattle.ada_names.specs.Names.{Region, declare_object, declare_objects}
+use Rattle.ada_names.specs.Naming.{is_new, all_new, inside, name_known, initial_known, declaration_known, kind_known, after, after_kind, after_all, declarations_known}
+use Rattle.ada_names.specs.Rules.{new_name, new_names, name, expression, declaration, declarations, parts_of_initial, parts_of_kind, holds, here, behind}
+use Rattle.ada_names.specs.NameCode.{SomeRefused, one_of, AllPass}
+use Rattle.ada_names.specs.Answer.{Refused, Passes}
+use Rattle.ada_names.proofs.Blame.{up, drop_item, some_first, some_rest, some_left, some_right, of_some}
+
+-- an initial value
+pub initial_passes : {A : Type 0} (rs : List Region) (i : Initial) (o : Option Initial) (r : Result A (Failure NameFault)) → o ≡ Some i →
+    Passes (expression rs i.value) r → AllPass (parts_of_initial rs o) r
+initial_passes rs i o (Ok x) same h = ap (λ q. list_all holds (parts_of_initial rs q)) same ∙ (and-true (holds (expression rs i.value)) ∙ h)
+initial_passes rs i o (Err f) same h = subst (λ q. SomeRefused (parts_of_initial rs q) f) (sym same) (one_of here h)
+
+pub initial_holds : (rs : List Region) (o : Option Initial) → list_all holds (parts_of_initial rs o) ≡ initial_known rs o
+initial_holds rs (Some i) = and-true (holds (expression rs i.value))
+initial_holds rs _ = refl
+
+-- names that a loop declares
+pub fresh_more : (region : Region) (is : List Identifier) (n : ℕ) (i : Identifier) → n < length is → i ≡ get_or is n i → is_new region i ≡ true →
+    all_new (declare_object region i) (drop (n + 1) is) ≡ all_new region (drop n is)
+fresh_more region is n i h e ok =
+    sym (ap (λ y. all_new region y) (drop_item is n i h e) ∙ ap (λ b. b && all_new (declare_object region i) (drop (n + 1) is)) ok)
+
+pub objects_more : (region : Region) (is : List Identifier) (n : ℕ) (i : Identifier) → n < length is → i ≡ get_or is n i →
+    declare_objects (declare_object region i) (drop (n + 1) is) ≡ declare_objects region (drop n is)
+objects_more region is n i h e = sym (ap (λ y. declare_objects region y) (drop_item is n i h e))
+
+pub new_first : (region : Region) (is : List Identifier) (n : ℕ) (i : Identifier) {f : Failure NameFault} → n < length is → i ≡ get_or is n i →
+    Refused (new_name region i) f → SomeRefused (new_names region (drop n is)) f
+new_first region is n i {f} h e r = subst (λ y. SomeRefused (new_names region y) f) (sym (drop_item is n i h e)) (some_first r)
+
+pub new_later : (region : Region) (is : List Identifier) (n : ℕ) (i : Identifier) {f : Failure NameFault} → n < length is → i ≡ get_or is n i →
+    SomeRefused (new_names (declare_object region i) (drop (n + 1) is)) f → SomeRefused (new_names region (drop n is)) f
+new_later region is n i {f} h e r = subst (λ y. SomeRefused (new_names region y) f) (sym (drop_item is n i h e)) (some_rest r)
+
+-- a declaration of objects
+module _ (outer : List Region) (region : Region) (d : Declaration) (is : List Identifier) (c : Constancy) (s : SubtypeIndication) (o : Option Initial) (same : d.kind ≡ Object is c s o) where
+  abbrev inner : List Region
+  inner = inside outer region is
+
+  by_part : {f : Failure NameFault} → SomeRefused (parts_of_kind outer region (Object is c s o)) f → Refused (declaration outer region d) f
+  by_part {f} r = of_some (declaration outer region d) (subst (λ k. SomeRefused (parts_of_kind outer region k) f) (sym same) r)
+
+  pub by_name : {f : Failure NameFault} → SomeRefused (new_names region is) f → Refused (declaration outer region d) f
+  by_name r = by_part (some_left (name inner s.mark ∷ parts_of_initial inner o) r)
+
+  pub by_mark : {f : Failure NameFault} → Refused (name inner s.mark) f → Refused (declaration outer region d) f
+  by_mark r = by_part (some_right (new_names region is) (some_first r))
+
+  pub by_initial : {f : Failure NameFault} → SomeRefused (parts_of_initial inner o) f → Refused (declaration outer region d) f
+  by_initial r = by_part (some_right (new_names region is) (some_rest r))
+
+  pub objects_known : all_new region is ≡ true → name_known inner s.mark ≡ true → list_all holds (parts_of_initial inner o) ≡ true →
+      declaration_known outer region d ≡ true
+  objects_known a b e =
+      let value : initial_known inner o ≡ true = sym (initial_holds inner o) ∙ e in
+      ap (λ k. kind_known outer region k) same ∙ rw (a, b, value) refl
+
+  pub objects_after : declare_objects region is ≡ after region d
+  objects_after = ap (λ k. after_kind region k) (sym same)
+
+-- declarations that a loop goes over
+module _ (outer : List Region) (region : Region) (ds : List Declaration) (n : ℕ) (d : Declaration) (h : n < length ds) (e : d ≡ get_or ds n d) where
+  pub declared_first : {f : Failure NameFault} → Refused (declaration outer region d) f → Refused (declarations outer region (drop n ds)) f
+  declared_first {f} r = subst (λ y. Refused (declarations outer region y) f) (sym (drop_item ds n d h e)) (up here r)
+
+  pub declared_later : {f : Failure NameFault} → Refused (declarations outer (after region d) (drop (n + 1) ds)) f → Refused (declarations outer region (drop n ds)) f
+  declared_later {f} r = subst (λ y. Refused (declarations outer region y) f) (sym (drop_item ds n d h e)) (up (behind here) r)
+
+  pub declarations_more : declaration_known outer region d ≡ true →
+      declarations_known outer (after region d) (drop (n + 1) ds) ≡ declarations_known outer region (drop n ds)
+  declarations_more ok =
+      sym (ap (λ y. declarations_known outer region y) (drop_item ds n d h e) ∙ ap (λ b. b && declarations_known outer (after region d) (drop (n + 1) ds)) ok)
+
+  pub after_more : after_all (after region d) (drop (n + 1) ds) ≡ after_all region (drop n ds)
+  after_more = sym (ap (λ y. after_all region y) (drop_item ds n d h e))

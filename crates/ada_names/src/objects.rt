@@ -1,0 +1,76 @@
+//! Objects of a subprogram, in the region of its declarations, and their names inside their own
+//! declaration (Ada RM 2012, 3.3.1, 8.3).
+
+ghost use Rattle.std.specs.Prelude.{◌≡◌, IfOk, IfErr, OnOk, true};
+ghost use Rattle.ada_names.specs.Names.{declare_object, declare_objects, hide, hiding};
+ghost use Rattle.ada_names.specs.Naming.{all_new};
+ghost use Rattle.ada_names.specs.Rules.{new_names};
+ghost use Rattle.ada_names.specs.NameCode.{SomeRefused};
+
+use crate::entity::Entity;
+use crate::fault::NameFault;
+use crate::region::{Region, check_new, key, numbered};
+use ada_syntax::Identifier;
+use cov_base::Failure;
+use std::alloc::{AllocError, Global};
+
+/// Adds an object, which gets the next number.
+fn declare_object(alloc: Global, region: &mut Region, name: &Identifier) -> Result<(), AllocError>
+    ensures { OnOk result (region.new ≡ declare_object region.old name.now) }
+{
+    let number = numbered(region.len())?;
+    region.declare(key(alloc, name)?, Entity::Object(number))
+}
+
+/// Adds objects, which are numbered as they come.
+pub fn declare_objects(
+    alloc: Global,
+    region: &mut Region,
+    names: &[Identifier],
+) -> Result<(), AllocError>
+    ensures { OnOk result (region.new ≡ declare_objects region.old names.now) }
+{
+    for name in names {
+        declare_object(alloc, region, name)?;
+    }
+    Ok(())
+}
+
+/// Hides a name.
+fn hide(alloc: Global, hidden: &mut Region, name: &Identifier) -> Result<(), AllocError>
+    ensures { OnOk result (hidden.new ≡ hide hidden.old name.now) }
+{
+    hidden.declare(key(alloc, name)?, Entity::Hidden)
+}
+
+/// The region of names that their own declaration hides.
+pub fn hiding(alloc: Global, names: &[Identifier]) -> Result<Region, AllocError>
+    ensures { IfOk result (λ hidden. hidden ≡ hiding names.now) }
+{
+    let mut hidden = Region::new(alloc);
+    for name in names {
+        hide(alloc, &mut hidden, name)?;
+    }
+    Ok(hidden)
+}
+
+/// The region of names that their own declaration hides, each of which must be new in the region that
+/// they will be declared in.
+#[tactic(auto, using(crate::proofs::Blame::blames))]
+pub fn hide_new(
+    alloc: Global,
+    local: &Region,
+    names: &[Identifier],
+) -> Result<Region, Failure<NameFault>>
+    ensures fresh { OnOk result (all_new local.now names.now ≡ true) }
+    ensures hidden { IfOk result (λ hidden. hidden ≡ hiding names.now) }
+    ensures refused { IfErr result (SomeRefused (new_names local.now names.now)) }
+{
+    let mut hidden = Region::new(alloc);
+    for name in names {
+        check_new(alloc, local, name)?;
+        check_new(alloc, &hidden, name)?;
+        hide(alloc, &mut hidden, name)?;
+    }
+    Ok(hidden)
+}

@@ -1,0 +1,110 @@
+//! Library units (Ada RM 2012, 6.3, 10.1).
+
+ghost use Rattle.std.specs.Prelude.{◌≡◌, map};
+ghost use Rattle.ada_syntax.specs.StatementTree.{Statements, handled};
+ghost use Rattle.ada_syntax.specs.StatementView.{handlers_of};
+ghost use Rattle.ada_tree.specs.View.{subprogram_of};
+ghost use Rattle.ada_names.specs.Naming.{library_of};
+ghost use Rattle.ada_types.specs.Legal.{typed};
+ghost use Rattle.ada_types.specs.Typing as spec;
+ghost use Rattle.ada_types.specs.Rules as rules;
+ghost use Rattle.ada_types.specs.Answer.{Shows};
+ghost use Rattle.ada_types.specs.TypingCode.{ShowsUnits, subprograms_view};
+
+use crate::declarations::typed_declarations;
+use crate::fault::{TypeFault, mistyped};
+use crate::places::{Places, places_of};
+use crate::statements::typed_statements;
+use ada_names::{
+    Library, Region, declarations_of, is_bare_procedure, numbered, seen, statements_of,
+};
+use ada_syntax::{HandledStatements, Handler, LibraryItem, Unit};
+use ada_tree::{Block, Subprogram};
+use cov_base::{Failure, Seq};
+use std::alloc::Global;
+
+/// Whether a unit is a procedure without parameters and handlers.
+fn is_plain(item: &LibraryItem) -> bool
+    ensures { result ≡ spec.is_plain_item item.now }
+{
+    match item {
+        LibraryItem::Subprogram(body) => {
+            is_bare_procedure(body) && has_no_handlers(&body.statements)
+        }
+        _ => false,
+    }
+}
+
+/// Whether a body has no handlers.
+fn has_no_handlers(statements: &HandledStatements) -> bool
+    ensures { result ≡ spec.has_no_handlers statements.now }
+{
+    is_without(statements.handlers.as_slice())
+}
+
+/// Whether there is no handler.
+fn is_without(handlers: &[Handler]) -> bool
+    ensures { (statements : Statements) → result ≡ spec.has_no_handlers (handled statements (handlers_of handlers.now)) }
+{
+    match handlers {
+        [] => true,
+        [..] => false,
+    }
+}
+
+/// A unit, by its number.
+#[tactic(auto, using(crate::proofs::Blame::blames))]
+fn typed_unit(
+    alloc: Global,
+    library: &Region,
+    places: &Places,
+    number: u32,
+    unit: &Unit,
+) -> Result<Subprogram, Failure<TypeFault>>
+    ensures { Shows subprogram_of (spec.typed_unit library.now places.now number unit.now) (rules.unit library.now places.now number unit.now) result }
+{
+    let seen = seen(alloc, library, number, unit)?;
+    let declared = typed_declarations(alloc, &seen, places, declarations_of(&unit.item))?;
+    let statements = typed_statements(alloc, &seen, places, &declared, statements_of(&unit.item))?;
+    if !is_plain(&unit.item) {
+        return Err(mistyped(unit.pos));
+    }
+    Ok(Subprogram {
+        body: Block {
+            declarations: Seq::from(declared.declarations),
+            statements: Seq::from(statements),
+        },
+    })
+}
+
+/// All units, of which all statement obligations stand at these places.
+#[tactic(auto, using(crate::proofs::Blame::blames))]
+fn typed_units(
+    alloc: Global,
+    library: &Region,
+    places: &Places,
+    units: &[Unit],
+) -> Result<Vec<Subprogram>, Failure<TypeFault>>
+    ensures { ShowsUnits library.now places.now units.now result }
+{
+    let mut typed = Vec::new(alloc);
+    for (index, unit) in units.iter().enumerate() {
+        let subprogram = typed_unit(alloc, library, places, numbered(index)?, unit)?;
+        typed.push(subprogram)?;
+    }
+    Ok(typed)
+}
+
+/// The subprograms of units whose library is this.
+#[tactic(auto, using(crate::proofs::Blame::blames))]
+pub fn typed_program(
+    alloc: Global,
+    library: &Library,
+    units: &[Unit],
+) -> Result<Vec<Subprogram>, Failure<TypeFault>>
+    requires { library.now ≡ library_of units.now }
+    ensures { Shows subprograms_view (typed units.now) (rules.program units.now) result }
+{
+    let places = places_of(alloc, units)?;
+    typed_units(alloc, &library.region, &places, units)
+}

@@ -1,5 +1,0 @@
-use Rattle.legal_programs.proofs.Programs.{nodes_law}
-use Rattle.legal_programs.proofs.each_statement_has_a_node.Goals as goal
-
-pub returns : goal.returns
-returns c = nodes_law

@@ -1,0 +1,35 @@
+-- How code is made: by static expressions that are in no generic, and of operators and their right operands, each put on what was worked
+-- out so far.
+use Rattle.std.specs.Prelude.{ℕ, zero, ◌+◌, ℤ, max, List, [], ◌∷◌}
+use Rattle.ada_meaning.specs.Program.{Bounds, Program}
+use Rattle.ada_meaning.specs.Resolved.{number_in, bounds_in}
+use Rattle.ada_meaning.specs.Types as type
+use Rattle.ada_tree.specs.declared.expr.Operand.{Operand}
+use Rattle.ada_tree.specs.View.{operator_of}
+use Rattle.kernel_ir.specs.Sequence.{joined}
+use Rattle.kernel_ir.specs.Tree.{Code, no_op}
+use Rattle.lower.specs.Lowered.{one, operator_on, end_of, expr_code}
+
+-- a program that holds nothing
+abbrev pub no_program : Program
+no_program = record { subprograms = []; main = 0; objects = []; instances = []; declared = []; exceptions = [] }
+
+-- the values of static expressions and the bounds of ranges, in each program without instances
+abbrev pub number_of : type.Static → ℤ
+number_of = number_in no_program zero
+
+abbrev pub bounds_of : type.Range → Bounds
+bounds_of = bounds_in no_program zero
+
+-- the code of one operator with its right operand, where k holds the left one
+abbrev pub operand_code : (k : ℕ) → Operand → Code
+operand_code k o = joined (expr_code number_of bounds_of (k + 1) o.operand) (one (operator_on k (operator_of o.operator)))
+
+abbrev pub operands_code : (k : ℕ) → List Operand → Code
+operands_code k [] = no_op
+operands_code k (o ∷ os) = joined (operand_code k o) (operands_code k os)
+
+-- the first slot behind those that their values are worked out in
+abbrev pub end_of_operands : (k : ℕ) → List Operand → ℕ
+end_of_operands k [] = k + 1
+end_of_operands k (o ∷ os) = max (end_of (k + 1) o.operand) (end_of_operands k os)

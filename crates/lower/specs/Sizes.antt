@@ -1,0 +1,33 @@
+-- How large a program is: in nodes, of which each construct has one and those of its parts.
+use Rattle.std.specs.Prelude.{ℕ, zero, suc, ◌+◌, List, [], ◌∷◌}
+use Rattle.ada_meaning.specs.Program.{Subprogram}
+use Rattle.ada_meaning.specs.Tree as tree
+use Rattle.ada_tree.specs.Sizes.{expr_size, actuals_size}
+
+abbrev pub value_nodes : tree.NewValue → ℕ
+value_nodes (tree.scalar_value r e) = expr_size e
+value_nodes v = zero
+
+abbrev pub declaration_nodes : tree.Declaration → ℕ
+declaration_nodes (tree.initialized l d v) = suc (value_nodes v)
+declaration_nodes (tree.without_value d t) = 1
+
+abbrev pub declarations_nodes : List tree.Declaration → ℕ
+declarations_nodes [] = zero
+declarations_nodes (d ∷ ds) = declaration_nodes d + declarations_nodes ds
+
+abbrev pub statement_nodes : tree.Stmt → ℕ
+statement_nodes (tree.assignment l o parts v) = suc (value_nodes v)
+statement_nodes (tree.procedure_call l c actuals) = suc (actuals_size actuals)
+statement_nodes s = 1
+
+abbrev pub statements_nodes : tree.Stmts → ℕ
+statements_nodes tree.no_statement = zero
+statements_nodes (tree.and_statement s ss) = statement_nodes s + statements_nodes ss
+
+abbrev pub block_nodes : tree.Block → ℕ
+block_nodes (tree.block ds ss hs) = declarations_nodes ds + statements_nodes ss
+
+abbrev pub all_nodes : List Subprogram → ℕ
+all_nodes [] = zero
+all_nodes (s ∷ ss) = block_nodes s.body + all_nodes ss

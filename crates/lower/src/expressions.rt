@@ -1,0 +1,152 @@
+//! Code of expressions.
+
+ghost use Rattle.std.specs.Prelude.{◌≡◌, ◌+◌, IfOk, OnOk};
+ghost use Rattle.ada_tree.specs.View.{static_of, range_of, sign_of, operator_of, object_of};
+ghost use Rattle.ada_meaning.specs.Tree as tree;
+ghost use Rattle.kernel_ir.specs.Sequence.{joined};
+ghost use Rattle.kernel_ir.specs.declared.simple.Simple.TheVariants as op;
+ghost use Rattle.lower.specs.Chain.{number_of, bounds_of, operands_code, end_of_operands};
+ghost use Rattle.lower.specs.Lowered.{one, within, slot_of, sign_on, operator_for, operator_on, end_of, expr_code};
+
+use ada_tree::{Expr, ExprKind, Object, Operand, Operator, Range, Sign, Static};
+use kernel_ir::{Code, Simple, Slot};
+use std::alloc::AllocError;
+
+/// The base range of each integer type, which is that of Integer too (RM 3.5.4).
+pub(crate) const INTEGER: Range = Range {
+    first: i32::MIN,
+    last: i32::MAX,
+};
+
+/// The slot behind another. A frame of 2 ^ 32 words is too large for memory.
+pub(crate) fn slot_behind(slot: Slot) -> Result<Slot, AllocError>
+    ensures { IfOk result (λ end. end ≡ slot + 1) }
+{
+    slot.checked_add(1).ok_or(AllocError)
+}
+
+/// The value of a static expression.
+fn number_of(value: Static) -> i32
+    ensures { result ≡ number_of (static_of value) }
+{
+    match value {
+        Static::First(range) => range.first,
+        Static::Last(range) => range.last,
+    }
+}
+
+/// The slot of an object.
+pub(crate) fn slot_of(object: Object) -> Slot
+    ensures { result ≡ slot_of (object_of object) }
+{
+    let Object::Local(slot) = object;
+    slot
+}
+
+/// Raises Constraint_Error unless a slot's value lies within a range.
+pub(crate) fn within(slot: Slot, range: Range) -> Simple
+    ensures { result ≡ within slot (bounds_of (range_of range)) }
+{
+    Simple::Within {
+        slot,
+        low: range.first,
+        high: range.last,
+    }
+}
+
+/// An operator on one integer, on a slot. Unary plus is a check against the base range.
+fn sign_on(slot: Slot, sign: Sign) -> Simple
+    ensures { result ≡ sign_on slot (sign_of sign) }
+{
+    match sign {
+        Sign::Plus => within(slot, INTEGER),
+        Sign::Minus => Simple::Negate {
+            to: slot,
+            from: slot,
+        },
+        Sign::Absolute => Simple::Absolute {
+            to: slot,
+            from: slot,
+        },
+    }
+}
+
+/// An operator on two integers.
+fn operator_for(operator: Operator) -> kernel_ir::Operator
+    ensures { result ≡ operator_for (operator_of operator) }
+{
+    match operator {
+        Operator::Add => kernel_ir::Operator::Add,
+        Operator::Subtract => kernel_ir::Operator::Subtract,
+        Operator::Multiply => kernel_ir::Operator::Multiply,
+        Operator::Divide => kernel_ir::Operator::Divide,
+        Operator::Modulus => kernel_ir::Operator::Modulo,
+        Operator::Remainder => kernel_ir::Operator::Remainder,
+    }
+}
+
+/// Puts a number behind code, into a slot. Answers the slot behind it.
+fn put_number(code: &mut Code, to: Slot, value: i32) -> Result<Slot, AllocError>
+    ensures code { OnOk result (code.new ≡ joined code.old (one (op.Number to value))) }
+    ensures end { IfOk result (λ end. end ≡ to + 1) }
+{
+    code.push_simple(Simple::Number { to, value })?;
+    slot_behind(to)
+}
+
+/// Puts the value of an object behind code, into a slot. Answers the slot behind it.
+fn put_read(code: &mut Code, to: Slot, object: Object) -> Result<Slot, AllocError>
+    ensures code { OnOk result (code.new ≡ joined code.old (expr_code number_of bounds_of to (tree.read (object_of object) tree.whole))) }
+    ensures end { IfOk result (λ end. end ≡ to + 1) }
+{
+    code.push_simple(Simple::Move {
+        to,
+        from: slot_of(object),
+    })?;
+    slot_behind(to)
+}
+
+/// Puts the value of an expression behind code, into a slot. Answers the first slot behind those that
+/// it is worked out in.
+#[cycle(value)]
+pub(crate) fn put_expr(code: &mut Code, to: Slot, expr: &Expr) -> Result<Slot, AllocError>
+    ensures code { OnOk result (code.new ≡ joined code.old (expr_code number_of bounds_of to expr.now)) }
+    ensures end { IfOk result (λ end. end ≡ end_of to expr.now) }
+{
+    match &expr.kind {
+        ExprKind::Literal(value) => put_number(code, to, *value),
+        ExprKind::Constant(value) => put_number(code, to, number_of(*value)),
+        ExprKind::Read(object) => put_read(code, to, *object),
+        ExprKind::Signed(sign, operand) => {
+            let end = put_expr(code, to, operand)?;
+            code.push_simple(sign_on(to, *sign))?;
+            Ok(end)
+        }
+        ExprKind::Operations(first, others) => {
+            let end = put_expr(code, to, first)?;
+            let others_end = put_operands(code, to, others)?;
+            Ok(end.max(others_end))
+        }
+    }
+}
+
+/// Puts operators with their right operands behind code, from the left, where a slot holds what stands
+/// left of them. Answers the first slot behind those that they are worked out in.
+#[cycle(value)]
+fn put_operands(code: &mut Code, to: Slot, operands: &[Operand]) -> Result<Slot, AllocError>
+    ensures code { OnOk result (code.new ≡ joined code.old (operands_code to operands.now)) }
+    ensures end { IfOk result (λ end. end ≡ end_of_operands to operands.now) }
+{
+    let right = slot_behind(to)?;
+    let mut end = right;
+    for operand in operands {
+        end = end.max(put_expr(code, right, &operand.operand)?);
+        code.push_simple(Simple::Arithmetic {
+            operator: operator_for(operand.operator),
+            to,
+            left: to,
+            right,
+        })?;
+    }
+    Ok(end)
+}
