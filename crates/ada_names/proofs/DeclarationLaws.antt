@@ -11,8 +11,8 @@ use Rattle.ada_syntax.specs.declared.declaration.Initial.{Initial}
 use Rattle.ada_syntax.specs.declared.declaration.SubtypeIndication.{SubtypeIndication}
 use Rattle.ada_syntax.specs.declared.name.Identifier.{Identifier}
 use Rattle.ada_names.specs.declared.fault.NameFault.{NameFault}
-use Rattle.ada_names.specs.Names.{Region, declare_object, declare_objects}
-use Rattle.ada_names.specs.Naming.{is_new, all_new, inside, name_known, initial_known, declaration_known, kind_known, after, after_kind, after_all, declarations_known}
+use Rattle.ada_names.specs.Names.{Region, hide, declare_objects}
+use Rattle.ada_names.specs.Naming.{is_new, all_new, Surroundings, inner, name_known, initial_known, declaration_known, kind_known, after, after_kind, declared_by, after_all, declarations_known}
 use Rattle.ada_names.specs.Rules.{new_name, new_names, name, expression, declaration, declarations, parts_of_initial, parts_of_kind, holds, here, behind}
 use Rattle.ada_names.specs.NameCode.{SomeRefused, one_of, AllPass}
 use Rattle.ada_names.specs.Answer.{Refused, Passes}
@@ -30,60 +30,56 @@ initial_holds rs _ = refl
 
 -- names that a loop declares
 pub fresh_more : (region : Region) (is : List Identifier) (n : ℕ) (i : Identifier) → n < length is → i ≡ get_or is n i → is_new region i ≡ true →
-    all_new (declare_object region i) (drop (n + 1) is) ≡ all_new region (drop n is)
+    all_new (hide region i) (drop (n + 1) is) ≡ all_new region (drop n is)
 fresh_more region is n i h e ok =
-    sym (ap (λ y. all_new region y) (drop_item is n i h e) ∙ ap (λ b. b && all_new (declare_object region i) (drop (n + 1) is)) ok)
-
-pub objects_more : (region : Region) (is : List Identifier) (n : ℕ) (i : Identifier) → n < length is → i ≡ get_or is n i →
-    declare_objects (declare_object region i) (drop (n + 1) is) ≡ declare_objects region (drop n is)
-objects_more region is n i h e = sym (ap (λ y. declare_objects region y) (drop_item is n i h e))
+    sym (ap (λ y. all_new region y) (drop_item is n i h e) ∙ ap (λ b. b && all_new (hide region i) (drop (n + 1) is)) ok)
 
 pub new_first : (region : Region) (is : List Identifier) (n : ℕ) (i : Identifier) {f : Failure NameFault} → n < length is → i ≡ get_or is n i →
     Refused (new_name region i) f → SomeRefused (new_names region (drop n is)) f
 new_first region is n i {f} h e r = subst (λ y. SomeRefused (new_names region y) f) (sym (drop_item is n i h e)) (some_first r)
 
 pub new_later : (region : Region) (is : List Identifier) (n : ℕ) (i : Identifier) {f : Failure NameFault} → n < length is → i ≡ get_or is n i →
-    SomeRefused (new_names (declare_object region i) (drop (n + 1) is)) f → SomeRefused (new_names region (drop n is)) f
+    SomeRefused (new_names (hide region i) (drop (n + 1) is)) f → SomeRefused (new_names region (drop n is)) f
 new_later region is n i {f} h e r = subst (λ y. SomeRefused (new_names region y) f) (sym (drop_item is n i h e)) (some_rest r)
 
 -- a declaration of objects
-module _ (outer : List Region) (region : Region) (d : Declaration) (is : List Identifier) (c : Constancy) (s : SubtypeIndication) (o : Option Initial) (same : d.kind ≡ Object is c s o) where
-  abbrev inner : List Region
-  inner = inside outer region is
+module _ (k : Surroundings) (d : Declaration) (is : List Identifier) (c : Constancy) (s : SubtypeIndication) (o : Option Initial) (same : d.kind ≡ Object is c s o) where
+  by_part : {f : Failure NameFault} → SomeRefused (parts_of_kind k (Object is c s o)) f → Refused (declaration k d) f
+  by_part {f} r = of_some (declaration k d) (subst (λ x. SomeRefused (parts_of_kind k x) f) (sym same) r)
 
-  by_part : {f : Failure NameFault} → SomeRefused (parts_of_kind outer region (Object is c s o)) f → Refused (declaration outer region d) f
-  by_part {f} r = of_some (declaration outer region d) (subst (λ k. SomeRefused (parts_of_kind outer region k) f) (sym same) r)
+  pub by_name : {f : Failure NameFault} → SomeRefused (new_names k.region is) f → Refused (declaration k d) f
+  by_name r = by_part (some_left (name (inner k is) s.mark ∷ parts_of_initial (inner k is) o) r)
 
-  pub by_name : {f : Failure NameFault} → SomeRefused (new_names region is) f → Refused (declaration outer region d) f
-  by_name r = by_part (some_left (name inner s.mark ∷ parts_of_initial inner o) r)
+  pub by_mark : {f : Failure NameFault} → Refused (name (inner k is) s.mark) f → Refused (declaration k d) f
+  by_mark r = by_part (some_right (new_names k.region is) (some_first r))
 
-  pub by_mark : {f : Failure NameFault} → Refused (name inner s.mark) f → Refused (declaration outer region d) f
-  by_mark r = by_part (some_right (new_names region is) (some_first r))
+  pub by_initial : {f : Failure NameFault} → SomeRefused (parts_of_initial (inner k is) o) f → Refused (declaration k d) f
+  by_initial r = by_part (some_right (new_names k.region is) (some_rest r))
 
-  pub by_initial : {f : Failure NameFault} → SomeRefused (parts_of_initial inner o) f → Refused (declaration outer region d) f
-  by_initial r = by_part (some_right (new_names region is) (some_rest r))
-
-  pub objects_known : all_new region is ≡ true → name_known inner s.mark ≡ true → list_all holds (parts_of_initial inner o) ≡ true →
-      declaration_known outer region d ≡ true
+  pub objects_known : all_new k.region is ≡ true → name_known (inner k is) s.mark ≡ true → list_all holds (parts_of_initial (inner k is) o) ≡ true →
+      declaration_known k d ≡ true
   objects_known a b e =
-      let value : initial_known inner o ≡ true = sym (initial_holds inner o) ∙ e in
-      ap (λ k. kind_known outer region k) same ∙ rw (a, b, value) refl
+      let value : initial_known (inner k is) o ≡ true = sym (initial_holds (inner k is) o) ∙ e in
+      ap (λ x. kind_known k.outer k.region x) same ∙ rw (a, b, value) refl
 
-  pub objects_after : declare_objects region is ≡ after region d
-  objects_after = ap (λ k. after_kind region k) (sym same)
+  pub region_after : declare_objects k.objects k.region is ≡ (after k d).region
+  region_after = ap (λ x. after_kind k.objects k.region x) (sym same)
+
+  pub objects_after : k.objects + length is ≡ (after k d).objects
+  objects_after = ap (λ x. k.objects + declared_by x) (sym same)
 
 -- declarations that a loop goes over
-module _ (outer : List Region) (region : Region) (ds : List Declaration) (n : ℕ) (d : Declaration) (h : n < length ds) (e : d ≡ get_or ds n d) where
-  pub declared_first : {f : Failure NameFault} → Refused (declaration outer region d) f → Refused (declarations outer region (drop n ds)) f
-  declared_first {f} r = subst (λ y. Refused (declarations outer region y) f) (sym (drop_item ds n d h e)) (up here r)
+module _ (k : Surroundings) (ds : List Declaration) (n : ℕ) (d : Declaration) (h : n < length ds) (e : d ≡ get_or ds n d) where
+  pub declared_first : {f : Failure NameFault} → Refused (declaration k d) f → Refused (declarations k (drop n ds)) f
+  declared_first {f} r = subst (λ y. Refused (declarations k y) f) (sym (drop_item ds n d h e)) (up here r)
 
-  pub declared_later : {f : Failure NameFault} → Refused (declarations outer (after region d) (drop (n + 1) ds)) f → Refused (declarations outer region (drop n ds)) f
-  declared_later {f} r = subst (λ y. Refused (declarations outer region y) f) (sym (drop_item ds n d h e)) (up (behind here) r)
+  pub declared_later : {f : Failure NameFault} → Refused (declarations (after k d) (drop (n + 1) ds)) f → Refused (declarations k (drop n ds)) f
+  declared_later {f} r = subst (λ y. Refused (declarations k y) f) (sym (drop_item ds n d h e)) (up (behind here) r)
 
-  pub declarations_more : declaration_known outer region d ≡ true →
-      declarations_known outer (after region d) (drop (n + 1) ds) ≡ declarations_known outer region (drop n ds)
+  pub declarations_more : declaration_known k d ≡ true →
+      declarations_known (after k d) (drop (n + 1) ds) ≡ declarations_known k (drop n ds)
   declarations_more ok =
-      sym (ap (λ y. declarations_known outer region y) (drop_item ds n d h e) ∙ ap (λ b. b && declarations_known outer (after region d) (drop (n + 1) ds)) ok)
+      sym (ap (λ y. declarations_known k y) (drop_item ds n d h e) ∙ ap (λ b. b && declarations_known (after k d) (drop (n + 1) ds)) ok)
 
-  pub after_more : after_all (after region d) (drop (n + 1) ds) ≡ after_all region (drop n ds)
-  after_more = sym (ap (λ y. after_all region y) (drop_item ds n d h e))
+  pub after_more : after_all (after k d) (drop (n + 1) ds) ≡ after_all k (drop n ds)
+  after_more = sym (ap (λ y. after_all k y) (drop_item ds n d h e))

@@ -5,8 +5,8 @@ use Rattle.cov_base.specs.declared.failure.Failure.{Failure}
 use Rattle.ada_syntax.specs.declared.name.Identifier.{Identifier}
 use Rattle.ada_names.specs.declared.fault.NameFault.{NameFault}
 use Rattle.ada_names.specs.declared.entity.Entity.{Entity}
-use Rattle.ada_names.specs.declared.entity.Entity.TheVariants.{Hidden, Object}
-use Rattle.ada_names.specs.Names.{Region, key, same_name, entity_of, declare, declare_object, hide, hide_all}
+use Rattle.ada_names.specs.declared.entity.Entity.TheVariants.{Hidden}
+use Rattle.ada_names.specs.Names.{Region, key, same_name, entity_of, declare, hide, hide_all}
 use Rattle.ada_names.specs.Naming.{is_new}
 use Rattle.ada_names.specs.Rules.{new_name, itself, within}
 use Rattle.ada_names.specs.NameCode.{Joins}
@@ -75,13 +75,13 @@ module _ (region local hidden : Region) (i : Identifier) (joins : Joins region l
   new_in_both a b = new_where (entity_of (key i) region) (joins (key i)
       ∙ neither (is_some (entity_of (key i) local)) (is_some (entity_of (key i) hidden)) (absent (entity_of (key i) local) a) (absent (entity_of (key i) hidden) b))
 
-  pub joins_more : is_new local i ≡ true → is_new hidden i ≡ true → Joins (declare_object region i) local (hide hidden i)
+  pub joins_more : is_new local i ≡ true → is_new hidden i ≡ true → Joins (hide region i) local (hide hidden i)
   joins_more a b name =
       let k = key i in
       let s = same_name name k in
       let l = is_some (entity_of name local) in
       let r = is_some (entity_of name hidden) in
-      is_some_declared name k (Object (length region)) region (absent (entity_of k region) (new_in_both a b))
+      is_some_declared name k Hidden region (absent (entity_of k region) (new_in_both a b))
       ∙ (ap (λ x. x || s) (joins name) ∙ (or_assoc l r s ∙ ap (λ x. l || x) (sym (is_some_declared name k Hidden hidden (absent (entity_of k hidden) b)))))
 
   pub declared_before : {f : Failure NameFault} → Refused (new_name local i) f → Refused (new_name region i) f

@@ -1,7 +1,10 @@
 pub mod Lookups
+pub mod Regions
+pub mod ScopeLaws
 pub mod Blame
 pub mod Steps
 pub mod TreeLaws
+pub mod StatementLaws
 pub mod DeclarationLaws
 pub mod HiddenNames
 pub mod UnitLaws

@@ -1,5 +1,5 @@
 -- Look-ups.
-use Rattle.std.proofs.Common.{◌≡◌, ℕ, List, [], ◌∷◌, ◌++◌, Bool, true, false, ◌||◌, cond, Option, Some, None, map, option_map, refl, ap, ◌∙◌, sym, Bor, is_some, if◌then◌else◌, true≢false}
+use Rattle.std.proofs.Common.{◌≡◌, ℕ, List, [], ◌∷◌, ◌++◌, Bool, true, false, cond, Option, Some, None, map, option_map, refl, ap, ◌∙◌, sym, Bor, is_some, if◌then◌else◌, true≢false}
 use Rattle.std.specs.Map.{lookup}
 use Rattle.std.proofs.lemmas.List.{map-append}
 use Rattle.indexmap.specs.IndexMap.{IndexMap, get, insert_entry}
@@ -7,7 +7,7 @@ use Rattle.indexmap.proofs.CallerLemmas.{insert_entry-new}
 use Rattle.std.specs.declared.vec.Vec.{Vec}
 use Rattle.std.specs.declared.alloc.Global.{Global}
 use Rattle.ada_names.specs.declared.entity.Entity.{Entity}
-use Rattle.ada_names.specs.Names.{Region, same_name, entity_of, declare, declared_in}
+use Rattle.ada_names.specs.Names.{same_name, entity_of, declare, declared_in}
 use Rattle.ada_names.specs.RegionView.{named}
 
 -- what an entry of the code's tables stands for

@@ -1,4 +1,4 @@
--- Expressions, names and statements: how they pass by their parts, and how they are refused.
+-- Expressions and names: how they pass by their parts, and how they are refused.
 use Rattle.std.proofs.Common.{◌≡◌, ℕ, ◌+◌, ◌<◌, length, Result, Ok, Err, true, false, ◌&&◌, List, [], ◌∷◌, ◌++◌, map, take, drop, Option, Some, None, is_some, refl, sym, ap, ◌∙◌, subst}
 use Rattle.std.specs.List.{list_all}
 use Rattle.std.proofs.Math.Bool.{and-true, and_assoc}
@@ -9,9 +9,6 @@ use Rattle.cov_base.specs.declared.position.Pos.{Pos}
 use Rattle.cov_base.specs.declared.failure.Failure.{Failure}
 use Rattle.ada_syntax.specs.Tree.{Expr, binary, relation, logical, named, parenthesized, unary, Name, simple, selected, attribute, applied}
 use Rattle.ada_syntax.specs.TreeView.{exprs_of, with_operands, joined, with_suffix, with_suffixes}
-use Rattle.ada_syntax.specs.StatementTree.{Statement, call, assignment}
-use Rattle.ada_syntax.specs.StatementView.{statements_of}
-use Rattle.ada_syntax.specs.declared.declaration.Initial.{Initial}
 use Rattle.ada_syntax.specs.declared.expr.LogicalOperator.{LogicalOperator}
 use Rattle.ada_syntax.specs.declared.expr.Operand.{Operand}
 use Rattle.ada_syntax.specs.declared.expr.RelationalOperator.{RelationalOperator}
@@ -24,8 +21,8 @@ use Rattle.ada_names.specs.declared.fault.NameFault.{NameFault}
 use Rattle.ada_names.specs.declared.entity.Entity.{Entity}
 use Rattle.ada_names.specs.declared.entity.Entity.TheVariants as entity
 use Rattle.ada_names.specs.Names.{key, Region, entity_of, visible, test_io, is_attribute}
-use Rattle.ada_names.specs.Naming.{name_known, expr_known, exprs_known, part_known, part_in, statement_known, statements_known}
-use Rattle.ada_names.specs.Rules.{name, expression, expressions, statement, sequence, holds, here, behind, itself}
+use Rattle.ada_names.specs.Naming.{name_known, expr_known, exprs_known, part_known, part_in}
+use Rattle.ada_names.specs.Rules.{name, expression, expressions, holds, here, behind, itself}
 use Rattle.ada_names.specs.NameCode.{SomeRefused, one_of, memory_refused, AllPass, operand_construct, is_package, Denotes}
 use Rattle.ada_names.specs.Answer.{Refused, Passes, breaks_a_rule, no_memory, unnamed}
 use Rattle.ada_names.proofs.Blame.{up, drop_item}
@@ -202,31 +199,3 @@ suffix_refused rs n ss i s {f} h e r =
     let whole : with_suffixes (with_suffix (with_suffixes n (take i ss)) s) (drop (i + 1) ss) ≡ with_suffixes n ss =
     ap (λ y. with_suffixes (with_suffixes n (take i ss)) y) (sym (drop_item ss i s h e)) ∙ all_suffixes n ss i in
     subst (λ m. Refused (name rs m) f) whole (in_suffixes rs (with_suffix (with_suffixes n (take i ss)) s) (drop (i + 1) ss) r)
-
--- statements
-pub call_passes : {A : Type 0} (rs : List Region) (p : Pos) (n : Name) (s : Statement) (r : Result A (Failure NameFault)) → call p n ≡ s →
-    Passes (name rs n) r → Passes (statement rs s) r
-call_passes rs p n s (Ok x) same h = ap (λ y. statement_known rs y) (sym same) ∙ h
-call_passes rs p n s (Err f) same h = subst (λ y. Refused (statement rs y) f) same (up here h)
-
-pub target_refused : (rs : List Region) (p : Pos) (n : Name) (i : Initial) (s : Statement) (f : Failure NameFault) → assignment p n i ≡ s →
-    Refused (name rs n) f → Refused (statement rs s) f
-target_refused rs p n i s f same r = subst (λ y. Refused (statement rs y) f) same (up here r)
-
-pub assignment_passes : {A : Type 0} (rs : List Region) (p : Pos) (n : Name) (i : Initial) (s : Statement) (r : Result A (Failure NameFault)) →
-    assignment p n i ≡ s → name_known rs n ≡ true → Passes (expression rs i.value) r → Passes (statement rs s) r
-assignment_passes rs p n i s (Ok x) same k h = ap (λ y. statement_known rs y) (sym same) ∙ (ap (λ b. b && expr_known rs i.value) k ∙ h)
-assignment_passes rs p n i s (Err f) same k h = subst (λ y. Refused (statement rs y) f) same (up (behind here) h)
-
-pub at_first : (rs : List Region) (ss : List Statement) (i : ℕ) (x : Statement) {f : Failure NameFault} → i < length ss → x ≡ get_or ss i x →
-    Refused (statement rs x) f → Refused (sequence rs (statements_of (drop i ss))) f
-at_first rs ss i x {f} h e r = subst (λ y. Refused (sequence rs (statements_of y)) f) (sym (drop_item ss i x h e)) (up here r)
-
-pub at_rest : (rs : List Region) (ss : List Statement) (i : ℕ) (x : Statement) {f : Failure NameFault} → i < length ss → x ≡ get_or ss i x →
-    Refused (sequence rs (statements_of (drop (i + 1) ss))) f → Refused (sequence rs (statements_of (drop i ss))) f
-at_rest rs ss i x {f} h e r = subst (λ y. Refused (sequence rs (statements_of y)) f) (sym (drop_item ss i x h e)) (up (behind here) r)
-
-pub known_more : (rs : List Region) (ss : List Statement) (i : ℕ) (x : Statement) → i < length ss → x ≡ get_or ss i x → statement_known rs x ≡ true →
-    statements_known rs (statements_of (drop (i + 1) ss)) ≡ statements_known rs (statements_of (drop i ss))
-known_more rs ss i x h e known =
-    sym (ap (λ y. statements_known rs (statements_of y)) (drop_item ss i x h e) ∙ ap (λ b. b && statements_known rs (statements_of (drop (i + 1) ss))) known)

@@ -13,8 +13,8 @@ use Rattle.ada_names.specs.declared.entity.Entity.TheVariants as entity
 use Rattle.ada_names.specs.declared.fault.NameFault.{NameFault}
 use Rattle.ada_names.specs.declared.library.Library.{Library}
 use Rattle.ada_names.specs.Names.{key, Region, declare}
-use Rattle.ada_names.specs.Library.{item_name, item_end_name, declarations_of_item, statements_of_item, given, seen, regions_in}
-use Rattle.ada_names.specs.Naming.{library_of, is_new, units_new, unit_named, units_named, clause_known, declarations_known, statements_known, body_regions, repeats, main_from, named}
+use Rattle.ada_names.specs.Library.{item_name, item_end_name, declarations_of_item, statements_of_item, given, seen}
+use Rattle.ada_names.specs.Naming.{library_of, is_new, units_new, unit_named, units_named, clause_known, declarations_known, statements_known, of_unit, of_body, repeats, main_from, named}
 use Rattle.ada_names.specs.Rules.{Construct, program, new_name, library_names, unit, units_from, with_clause, with_name, declarations, sequence, ending, closing, parts, holds, beginning, here, itself}
 use Rattle.ada_names.specs.NameCode.{SomeRefused, one_of, AllPass, body_parts}
 use Rattle.ada_names.specs.Answer.{Refused, Passes, breaks_a_rule, unnamed}
@@ -36,12 +36,12 @@ ending_passes own i e (Err f) same h = subst (λ o. SomeRefused (ending own o) f
 
 -- declarations, and statements that see them
 module _ (seen : Region) (item : LibraryItem) where
-  pub body_by_declarations : {f : Failure NameFault} → Refused (declarations (regions_in seen) [] (declarations_of_item item)) f → SomeRefused (body_parts seen item) f
+  pub body_by_declarations : {f : Failure NameFault} → Refused (declarations (of_unit seen) (declarations_of_item item)) f → SomeRefused (body_parts seen item) f
   body_by_declarations r = some_first r
 
-  pub body_passes : {A : Type 0} (r : Result A (Failure NameFault)) → declarations_known (regions_in seen) [] (declarations_of_item item) ≡ true →
-      Passes (sequence (body_regions seen item) (statements_of_item item)) r → AllPass (body_parts seen item) r
-  body_passes (Ok x) k h = ap (λ b. b && (statements_known (body_regions seen item) (statements_of_item item) && true)) k ∙ (and-true _ ∙ h)
+  pub body_passes : {A : Type 0} (r : Result A (Failure NameFault)) → declarations_known (of_unit seen) (declarations_of_item item) ≡ true →
+      Passes (sequence (of_body seen item) (statements_of_item item)) r → AllPass (body_parts seen item) r
+  body_passes (Ok x) k h = ap (λ b. b && (statements_known (of_body seen item) (statements_of_item item) && true)) k ∙ (and-true _ ∙ h)
   body_passes (Err f) k h = some_rest (some_first h)
 
 -- a unit by its parts
@@ -70,7 +70,7 @@ module _ (library : Library) (n : ℕ) (u : LibraryUnit) where
   unit_holds : list_all holds clauses ≡ true → list_all holds body ≡ true → list_all holds end_part ≡ true → holds (unit library n u) ≡ true
   unit_holds a b d =
       let first : list_all (clause_known library n) u.withs ≡ true = sym (list_all-map holds (with_clause library n) u.withs) ∙ a in
-      let both : (declarations_known (regions_in (seen library.region n u)) [] (declarations_of_item u.item) && statements_known (body_regions (seen library.region n u) u.item) (statements_of_item u.item)) ≡ true = sym (grouped _ _) ∙ b in
+      let both : (declarations_known (of_unit (seen library.region n u)) (declarations_of_item u.item) && statements_known (of_body (seen library.region n u) u.item) (statements_of_item u.item)) ≡ true = sym (grouped _ _) ∙ b in
       let last : repeats (item_name u.item) (item_end_name u.item) ≡ true = sym (ending_known (item_name u.item) (item_end_name u.item)) ∙ d in
       rw (first, last) (and-true _ ∙ both)
 

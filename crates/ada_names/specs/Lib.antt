@@ -5,4 +5,5 @@ pub mod Naming
 pub mod ScopeView
 pub mod Rules
 pub mod Answer
+pub mod LocalsCode
 pub mod NameCode

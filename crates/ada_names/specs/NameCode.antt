@@ -11,8 +11,8 @@ use Rattle.ada_names.specs.declared.fault.NameFault.{NameFault}
 use Rattle.ada_names.specs.declared.entity.Entity.{Entity}
 use Rattle.ada_names.specs.declared.entity.Entity.TheVariants as entity
 use Rattle.ada_names.specs.Names.{Region, entity_of}
-use Rattle.ada_names.specs.Library.{regions_in, declarations_of_item, statements_of_item}
-use Rattle.ada_names.specs.Naming.{name_known, standing, body_regions}
+use Rattle.ada_names.specs.Library.{declarations_of_item, statements_of_item}
+use Rattle.ada_names.specs.Naming.{name_known, standing, of_unit, of_body}
 use Rattle.ada_names.specs.Rules.{Construct, name, expression, declarations, sequence, holds, Among}
 use Rattle.ada_names.specs.Answer.{Refused}
 
@@ -52,4 +52,4 @@ Follows regions n p (Err f) = Refused (name regions n) f
 
 -- the declarations and the statements of a unit that sees this of the library
 abbrev pub body_parts : Region → LibraryItem → List Construct
-body_parts seen i = declarations (regions_in seen) [] (declarations_of_item i) ∷ sequence (body_regions seen i) (statements_of_item i) ∷ []
+body_parts seen i = declarations (of_unit seen) (declarations_of_item i) ∷ sequence (of_body seen i) (statements_of_item i) ∷ []

@@ -1,5 +1,5 @@
 -- Names, and what they denote: regions, the predefined names and those of Test_IO (Ada RM 2012, 2.3, 8.1 to 8.3, A.1).
-use Rattle.std.specs.Prelude.{ℕ, nat_eq, Bool, ◌||◌, List, [], ◌∷◌, ◌++◌, codes, length, Option, Some, None, option_map, is_some, find, if◌then◌else◌}
+use Rattle.std.specs.Prelude.{ℕ, nat_eq, ◌+◌, Bool, true, false, ◌||◌, List, [], ◌∷◌, ◌++◌, codes, Option, Some, None, option_map, is_some, find, if◌then◌else◌}
 use Rattle.std.specs.Borrow.{Bor}
 use Rattle.std.specs.Cmp.Lexicographic.{pointwise}
 use Rattle.std.specs.Map.{lookup}
@@ -52,17 +52,16 @@ hide_all region (i ∷ is) = hide_all (hide region i) is
 abbrev pub hiding : List Identifier → Region
 hiding is = hide_all [] is
 
--- an object of a subprogram: they are numbered as they are declared
-abbrev pub declare_object : Region → Identifier → Region
-declare_object region i = declare (key i) (entity.Object (length region)) region
-
-abbrev pub declare_objects : Region → List Identifier → Region
-declare_objects region [] = region
-declare_objects region (i ∷ is) = declare_objects (declare_object region i) is
+-- objects of a subprogram are known by their places among those that are visible, of which the outermost one has the place 0: these have
+-- the places from n on
+abbrev pub declare_objects : (n : ℕ) → Region → List Identifier → Region
+declare_objects n region [] = region
+declare_objects n region (i ∷ is) = declare_objects (n + 1) (declare (key i) (entity.Object n) region) is
 
 -- the predefined names, outside the library (RM A.1). Those of what is to come denote nothing yet.
 abbrev pub predefined : Region
-predefined = (codes "integer", entity.Integer) ∷ []
+predefined =
+    (codes "integer", entity.Integer) ∷ (codes "boolean", entity.Boolean) ∷ (codes "false", entity.Truth false) ∷ (codes "true", entity.Truth true) ∷ []
 
 -- the declarations of Test_IO
 abbrev pub test_io : Region

@@ -1,5 +1,5 @@
 -- The rules on names (Ada RM 2012, 8.3, 10.1): whether each name of the text denotes something visible.
-use Rattle.std.specs.Prelude.{ℕ, nat_eq, ◌+◌, Bool, true, false, not, ◌&&◌, ◌||◌, List, [], ◌∷◌, Option, Some, None, is_some, is_none, if◌then◌else◌}
+use Rattle.std.specs.Prelude.{ℕ, nat_eq, ◌+◌, Bool, true, false, not, ◌&&◌, ◌||◌, List, [], ◌∷◌, length, Option, Some, None, is_some, is_none, if◌then◌else◌}
 use Rattle.std.specs.List.{list_all}
 use Rattle.ada_syntax.specs.Tree as source
 use Rattle.ada_syntax.specs.StatementTree as source_statement
@@ -7,6 +7,8 @@ use Rattle.ada_syntax.specs.declared.declaration.Declaration.{Declaration}
 use Rattle.ada_syntax.specs.declared.declaration.DeclarationKind.{DeclarationKind}
 use Rattle.ada_syntax.specs.declared.declaration.DeclarationKind.TheVariants as declares
 use Rattle.ada_syntax.specs.declared.declaration.Initial.{Initial}
+use Rattle.ada_syntax.specs.declared.statement.LoopScheme.{LoopScheme}
+use Rattle.ada_syntax.specs.declared.statement.LoopScheme.TheVariants as scheme
 use Rattle.ada_syntax.specs.declared.name.Identifier.{Identifier}
 use Rattle.ada_syntax.specs.declared.unit.LibraryItem.{LibraryItem}
 use Rattle.ada_syntax.specs.declared.unit.LibraryItem.TheVariants as item
@@ -15,7 +17,7 @@ use Rattle.ada_syntax.specs.declared.unit.Unit.{Unit as LibraryUnit}
 use Rattle.ada_names.specs.declared.entity.Entity.{Entity}
 use Rattle.ada_names.specs.declared.entity.Entity.TheVariants as entity
 use Rattle.ada_names.specs.declared.library.Library.{Library}
-use Rattle.ada_names.specs.Names.{key, same_name, Region, entity_of, declare, visible, hiding, declare_object, declare_objects, test_io, is_attribute}
+use Rattle.ada_names.specs.Names.{key, same_name, Region, entity_of, declare, visible, hide, hiding, declare_objects, test_io, is_attribute}
 use Rattle.ada_names.specs.Library.{item_name, item_end_name, is_bare_procedure, declarations_of_item, statements_of_item, given, with_units, seen, regions_in, graph_of, leads_to}
 
 -- the library, and for each unit the numbers of those that it names in `with`
@@ -87,50 +89,110 @@ initial_known regions (Some i) = expr_known regions i.value
 -- names in a region, each after those before it
 abbrev pub all_new : Region → List Identifier → Bool
 all_new region [] = true
-all_new region (i ∷ is) = is_new region i && all_new (declare_object region i) is
+all_new region (i ∷ is) = is_new region i && all_new (hide region i) is
 
 -- what is visible inside a declaration of these names: they hide outer ones from its start (RM 8.3)
 abbrev pub inside : List Region → Region → List Identifier → List Region
 inside outer region is = hiding is ∷ region ∷ outer
 
--- a declaration, in a region that stands in these (RM 3.3.1). So far objects alone are declared.
+-- Where declarations and statements stand: the innermost region, those round it from the inside, and how many objects of the subprogram
+-- are visible.
+pub record Surroundings : Type 0 where
+  pub outer : List Region
+  pub region : Region
+  pub objects : ℕ
+
+-- what is visible in a declaration of these names, and in a statement
+abbrev pub inner : Surroundings → List Identifier → List Region
+inner k is = inside k.outer k.region is
+
+abbrev pub regions_of : Surroundings → List Region
+regions_of k = inner k []
+
+-- the surroundings of the declarations of a block (RM 5.6)
+abbrev pub of_block : Surroundings → Surroundings
+of_block k = record { outer = k.region ∷ k.outer; region = []; objects = k.objects }
+
+-- a declaration in a region that stands in these (RM 3.3.1). So far objects alone are declared.
 abbrev pub kind_known : List Region → Region → DeclarationKind → Bool
 kind_known outer region (declares.Object is c s i) =
     all_new region is && name_known (inside outer region is) s.mark && initial_known (inside outer region is) i
 kind_known outer region _ = true
 
-abbrev pub declaration_known : List Region → Region → Declaration → Bool
-declaration_known outer region d = kind_known outer region d.kind
+abbrev pub declaration_known : Surroundings → Declaration → Bool
+declaration_known k d = kind_known k.outer k.region d.kind
 
--- a region after a declaration, and after several
-abbrev pub after_kind : Region → DeclarationKind → Region
-after_kind region (declares.Object is c s i) = declare_objects region is
-after_kind region _ = region
+-- how many objects a declaration declares
+abbrev pub declared_by : DeclarationKind → ℕ
+declared_by (declares.Object is c s i) = length is
+declared_by _ = 0
 
-abbrev pub after : Region → Declaration → Region
-after region d = after_kind region d.kind
+-- a region after a declaration, where so many objects are visible
+abbrev pub after_kind : (objects : ℕ) → Region → DeclarationKind → Region
+after_kind n region (declares.Object is c s i) = declare_objects n region is
+after_kind n region _ = region
 
-abbrev pub after_all : Region → List Declaration → Region
-after_all region [] = region
-after_all region (d ∷ ds) = after_all (after region d) ds
+-- the surroundings behind a declaration, and behind several
+abbrev pub after : Surroundings → Declaration → Surroundings
+after k d = record { outer = k.outer; region = after_kind k.objects k.region d.kind; objects = k.objects + declared_by d.kind }
 
-abbrev pub declarations_known : List Region → Region → List Declaration → Bool
-declarations_known outer region [] = true
-declarations_known outer region (d ∷ ds) = declaration_known outer region d && declarations_known outer (after region d) ds
+abbrev pub after_all : Surroundings → List Declaration → Surroundings
+after_all k [] = k
+after_all k (d ∷ ds) = after_all (after k d) ds
 
--- a statement (RM 5.1)
-abbrev pub statement_known : List Region → source_statement.Statement → Bool
-statement_known regions (source_statement.call p n) = name_known regions n
-statement_known regions (source_statement.assignment p n i) = name_known regions n && expr_known regions i.value
-statement_known regions _ = true
+abbrev pub declarations_known : Surroundings → List Declaration → Bool
+declarations_known k [] = true
+declarations_known k (d ∷ ds) = declaration_known k d && declarations_known (after k d) ds
 
-abbrev pub statements_known : List Region → source_statement.Statements → Bool
-statements_known regions source_statement.no_statements = true
-statements_known regions (source_statement.then_also s ss) = statement_known regions s && statements_known regions ss
+-- the declarations of a block statement, if there are any
+abbrev pub declarations_in : Option (List Declaration) → List Declaration
+declarations_in None = []
+declarations_in (Some ds) = ds
 
--- what the statements of a unit see, which sees this of the library
-abbrev pub body_regions : Region → LibraryItem → List Region
-body_regions seen i = inside (regions_in seen) (after_all [] (declarations_of_item i)) []
+-- a condition, if there is one
+abbrev pub condition_known : List Region → Option source.Expr → Bool
+condition_known regions None = true
+condition_known regions (Some e) = expr_known regions e
+
+-- the condition of a loop; `for` comes later
+abbrev pub scheme_known : List Region → LoopScheme → Bool
+scheme_known regions scheme.Forever = true
+scheme_known regions (scheme.While e) = expr_known regions e
+scheme_known regions (scheme.For i d r) = true
+
+abbrev mutual
+  -- a statement (RM 5.1)
+  pub statement_known : Surroundings → source_statement.Statement → Bool
+  statement_known k (source_statement.call p n) = name_known (regions_of k) n
+  statement_known k (source_statement.assignment p n i) = name_known (regions_of k) n && expr_known (regions_of k) i.value
+  statement_known k (source_statement.conditional p e ss bs es) =
+      expr_known (regions_of k) e && statements_known k ss && branches_known k bs && statements_known k es
+  statement_known k (source_statement.repeat p s ss) = scheme_known (regions_of k) s && statements_known k ss
+  statement_known k (source_statement.exit p e) = condition_known (regions_of k) e
+  statement_known k (source_statement.block p ds h) =
+      declarations_known (of_block k) (declarations_in ds) && handled_known (after_all (of_block k) (declarations_in ds)) h
+  statement_known k _ = true
+
+  pub statements_known : Surroundings → source_statement.Statements → Bool
+  statements_known k source_statement.no_statements = true
+  statements_known k (source_statement.then_also s ss) = statement_known k s && statements_known k ss
+
+  -- `elsif` and what follows it (RM 5.3)
+  pub branches_known : Surroundings → source_statement.Branches → Bool
+  branches_known k source_statement.no_branches = true
+  branches_known k (source_statement.branch e ss bs) = expr_known (regions_of k) e && statements_known k ss && branches_known k bs
+
+  -- the statements of a block; handlers come later
+  pub handled_known : Surroundings → source_statement.Handled → Bool
+  handled_known k (source_statement.handled ss hs) = statements_known k ss
+
+-- the surroundings of the declarations of a unit, which sees this of the library
+abbrev pub of_unit : Region → Surroundings
+of_unit seen = record { outer = regions_in seen; region = []; objects = 0 }
+
+-- those of its statements
+abbrev pub of_body : Region → LibraryItem → Surroundings
+of_body seen i = after_all (of_unit seen) (declarations_of_item i)
 
 -- the name after `end` repeats the unit's name (RM 6.3)
 abbrev pub repeats : Identifier → Option Identifier → Bool
@@ -141,8 +203,8 @@ repeats name (Some i) = same_name (key i) (key name)
 abbrev pub unit_named : Library → ℕ → LibraryUnit → Bool
 unit_named library n u =
     list_all (clause_known library n) u.withs
-    && declarations_known (regions_in (seen library.region n u)) [] (declarations_of_item u.item)
-    && statements_known (body_regions (seen library.region n u) u.item) (statements_of_item u.item)
+    && declarations_known (of_unit (seen library.region n u)) (declarations_of_item u.item)
+    && statements_known (of_body (seen library.region n u) u.item) (statements_of_item u.item)
     && repeats (item_name u.item) (item_end_name u.item)
 
 abbrev pub units_named : Library → ℕ → List LibraryUnit → Bool

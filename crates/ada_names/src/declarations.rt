@@ -1,21 +1,22 @@
 //! The names of declarations (Ada RM 2012, 3.3.1, 8.3).
 
-ghost use Rattle.std.specs.Prelude.{◌≡◌, [], IfOk, IfErr, OnOk, true};
-ghost use Rattle.ada_names.specs.ScopeView.{regions_of};
-ghost use Rattle.ada_names.specs.Library.{regions_in};
+ghost use Rattle.std.specs.Prelude.{◌≡◌, ◌+◌, IfOk, IfErr, OnOk, true};
+ghost use Rattle.ada_names.specs.ScopeView.{regions_of, surroundings, enclosing};
 ghost use Rattle.ada_names.specs.Naming as spec;
 ghost use Rattle.ada_names.specs.Rules as rules;
 ghost use Rattle.ada_names.specs.NameCode.{AllPass};
+ghost use Rattle.ada_names.specs.LocalsCode.{IsOpen};
 ghost use Rattle.ada_names.specs.Answer.{Refused};
 
 use crate::expressions::{check_expr, check_name};
 use crate::fault::NameFault;
-use crate::objects::{declare_objects, hide_new};
-use crate::region::Region;
+use crate::locals::Locals;
+use crate::objects::hide_new;
+use crate::region::{Region, numbered};
 use crate::scope::Scope;
 use ada_syntax::{Declaration, DeclarationKind, Initial};
 use cov_base::Failure;
-use std::alloc::Global;
+use std::alloc::{AllocError, Global};
 
 /// The names of an initial value, if there is one.
 #[tactic(auto, using(crate::proofs::Blame::blames))]
@@ -32,51 +33,70 @@ fn check_initial(
     }
 }
 
-/// The names of a declaration, which is added to the region of those before it. `seen` is what its unit
-/// sees of the library.
+/// How many objects are visible with some more. 2^32 of them have no memory.
+fn with_more(objects: u32, more: usize) -> Result<u32, AllocError>
+    ensures { IfOk result (λ n. n ≡ objects + more) }
+{
+    let sum = more.checked_add(objects as usize).ok_or(AllocError)?;
+    numbered(sum)
+}
+
+/// The names of a declaration, which is added to the innermost region. `seen` is what its unit sees of
+/// the library, and `objects` how many objects of the subprogram are visible. The answer is how many
+/// are visible behind it.
 #[tactic(auto, using(crate::proofs::Blame::blames))]
 fn check_declaration(
     alloc: Global,
     seen: &Region,
-    local: &mut Region,
+    locals: &mut Locals,
+    objects: u32,
     declaration: &Declaration,
-) -> Result<(), Failure<NameFault>>
-    ensures known { OnOk result (spec.declaration_known (regions_in seen.now) local.old declaration.now ≡ true) }
-    ensures after { OnOk result (local.new ≡ spec.after local.old declaration.now) }
-    ensures refused { IfErr result (Refused (rules.declaration (regions_in seen.now) local.old declaration.now)) }
+) -> Result<u32, Failure<NameFault>>
+    requires { IsOpen locals.old }
+    ensures known { OnOk result (spec.declaration_known (surroundings seen.now locals.old objects) declaration.now ≡ true) }
+    ensures after { IfOk result (λ n. surroundings seen.now locals.new n ≡ spec.after (surroundings seen.now locals.old objects) declaration.now) }
+    ensures opened { OnOk result (IsOpen locals.new) }
+    ensures outer { OnOk result (enclosing locals.new ≡ enclosing locals.old) }
+    ensures refused { IfErr result (Refused (rules.declaration (surroundings seen.now locals.old objects) declaration.now)) }
 {
     match &declaration.kind {
         DeclarationKind::Object(names, _, indication, initial) => {
             let names = names.as_slice();
-            let hidden = hide_new(alloc, local, names)?;
+            let hidden = hide_new(alloc, locals, names)?;
             let scope = Scope {
                 hidden: &hidden,
-                local,
+                locals,
                 seen,
             };
             check_name(alloc, &scope, &indication.mark)?;
             check_initial(alloc, &scope, initial)?;
-            declare_objects(alloc, local, names)?;
-            Ok(())
+            locals.declare_objects(alloc, objects, names)?;
+            Ok(with_more(objects, names.len())?)
         }
-        _ => Ok(()),
+        _ => Ok(objects),
     }
 }
 
-/// The names of a unit's declarations, and the region that they make.
+/// The names of declarations, which are added to the innermost region. The answer is how many objects
+/// are visible behind them.
 #[tactic(auto, using(crate::proofs::Blame::blames))]
 pub fn check_declarations(
     alloc: Global,
     seen: &Region,
+    locals: &mut Locals,
+    objects: u32,
     declarations: &[Declaration],
-) -> Result<Region, Failure<NameFault>>
-    ensures known { OnOk result (spec.declarations_known (regions_in seen.now) [] declarations.now ≡ true) }
-    ensures after { IfOk result (λ local. local ≡ spec.after_all [] declarations.now) }
-    ensures refused { IfErr result (Refused (rules.declarations (regions_in seen.now) [] declarations.now)) }
+) -> Result<u32, Failure<NameFault>>
+    requires { IsOpen locals.old }
+    ensures known { OnOk result (spec.declarations_known (surroundings seen.now locals.old objects) declarations.now ≡ true) }
+    ensures after { IfOk result (λ n. surroundings seen.now locals.new n ≡ spec.after_all (surroundings seen.now locals.old objects) declarations.now) }
+    ensures opened { OnOk result (IsOpen locals.new) }
+    ensures outer { OnOk result (enclosing locals.new ≡ enclosing locals.old) }
+    ensures refused { IfErr result (Refused (rules.declarations (surroundings seen.now locals.old objects) declarations.now)) }
 {
-    let mut local = Region::new(alloc);
+    let mut visible = objects;
     for declaration in declarations {
-        check_declaration(alloc, seen, &mut local, declaration)?;
+        visible = check_declaration(alloc, seen, locals, visible, declaration)?;
     }
-    Ok(local)
+    Ok(visible)
 }

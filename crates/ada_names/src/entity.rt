@@ -13,7 +13,11 @@ pub enum Entity {
     Procedure(u32),
     /// The predefined type Integer.
     Integer,
-    /// An object, by its number among those of its subprogram.
+    /// The predefined type Boolean.
+    Boolean,
+    /// False or True, the values of Boolean.
+    Truth(bool),
+    /// An object, by its place among the objects of its subprogram that are visible, from the outermost.
     Object(u32),
     /// Nothing: the name's own declaration has begun, and hides what it denoted outside (RM 8.3).
     Hidden,

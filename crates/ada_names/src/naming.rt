@@ -16,8 +16,8 @@ use crate::declarations::check_declarations;
 use crate::entity::Entity;
 use crate::fault::{NameFault, unnamed};
 use crate::library::{Library, is_marked, leading, library_of, seen};
+use crate::locals::Locals;
 use crate::region::{Region, key, numbered};
-use crate::scope::Scope;
 use crate::statements::check_statements;
 use crate::units::{declarations_of, end_name, is_bare_procedure, item_name, statements_of};
 use ada_syntax::{Identifier, LibraryItem, Unit, WithClause};
@@ -130,14 +130,11 @@ fn check_ending(alloc: Global, item: &LibraryItem) -> Result<(), Failure<NameFau
 fn check_body(alloc: Global, seen: &Region, item: &LibraryItem) -> Result<(), Failure<NameFault>>
     ensures { AllPass (body_parts seen.now item.now) result }
 {
-    let local = check_declarations(alloc, seen, declarations_of(item))?;
-    let nothing = Region::new(alloc);
-    let scope = Scope {
-        hidden: &nothing,
-        local: &local,
-        seen,
-    };
-    check_statements(alloc, &scope, statements_of(item))
+    let mut locals = Locals::new(alloc);
+    locals.open(alloc)?;
+    let declarations = declarations_of(item);
+    let objects = check_declarations(alloc, seen, &mut locals, 0, declarations)?;
+    check_statements(alloc, seen, &mut locals, objects, statements_of(item))
 }
 
 /// A unit, by its number.

@@ -1,37 +1,41 @@
 //! Objects of a subprogram, in the region of its declarations, and their names inside their own
 //! declaration (Ada RM 2012, 3.3.1, 8.3).
 
-ghost use Rattle.std.specs.Prelude.{◌≡◌, IfOk, IfErr, OnOk, true};
-ghost use Rattle.ada_names.specs.Names.{declare_object, declare_objects, hide, hiding};
+ghost use Rattle.std.specs.Prelude.{◌≡◌, ◌+◌, IfOk, IfErr, OnOk, true};
+ghost use Rattle.ada_names.specs.Names.{declare_objects, hide, hiding};
 ghost use Rattle.ada_names.specs.Naming.{all_new};
+ghost use Rattle.ada_names.specs.ScopeView.{innermost};
 ghost use Rattle.ada_names.specs.Rules.{new_names};
 ghost use Rattle.ada_names.specs.NameCode.{SomeRefused};
 
 use crate::entity::Entity;
 use crate::fault::NameFault;
-use crate::region::{Region, check_new, key, numbered};
+use crate::locals::Locals;
+use crate::region::{Region, check_new, key};
 use ada_syntax::Identifier;
 use cov_base::Failure;
 use std::alloc::{AllocError, Global};
 
-/// Adds an object, which gets the next number.
-fn declare_object(alloc: Global, region: &mut Region, name: &Identifier) -> Result<(), AllocError>
-    ensures { OnOk result (region.new ≡ declare_object region.old name.now) }
+/// The place behind one. A place that is not below 2^32 has no memory.
+fn next(place: u32) -> Result<u32, AllocError>
+    ensures { IfOk result (λ n. n ≡ place + 1) }
 {
-    let number = numbered(region.len())?;
-    region.declare(key(alloc, name)?, Entity::Object(number))
+    place.checked_add(1).ok_or(AllocError)
 }
 
-/// Adds objects, which are numbered as they come.
+/// Adds objects, which have the places from `first` on.
 pub fn declare_objects(
     alloc: Global,
+    first: u32,
     region: &mut Region,
     names: &[Identifier],
 ) -> Result<(), AllocError>
-    ensures { OnOk result (region.new ≡ declare_objects region.old names.now) }
+    ensures { OnOk result (region.new ≡ declare_objects first region.old names.now) }
 {
+    let mut place = first;
     for name in names {
-        declare_object(alloc, region, name)?;
+        region.declare(key(alloc, name)?, Entity::Object(place))?;
+        place = next(place)?;
     }
     Ok(())
 }
@@ -59,16 +63,16 @@ pub fn hiding(alloc: Global, names: &[Identifier]) -> Result<Region, AllocError>
 #[tactic(auto, using(crate::proofs::Blame::blames))]
 pub fn hide_new(
     alloc: Global,
-    local: &Region,
+    locals: &Locals,
     names: &[Identifier],
 ) -> Result<Region, Failure<NameFault>>
-    ensures fresh { OnOk result (all_new local.now names.now ≡ true) }
+    ensures fresh { OnOk result (all_new (innermost locals.now) names.now ≡ true) }
     ensures hidden { IfOk result (λ hidden. hidden ≡ hiding names.now) }
-    ensures refused { IfErr result (SomeRefused (new_names local.now names.now)) }
+    ensures refused { IfErr result (SomeRefused (new_names (innermost locals.now) names.now)) }
 {
     let mut hidden = Region::new(alloc);
     for name in names {
-        check_new(alloc, local, name)?;
+        locals.check_new(alloc, name)?;
         check_new(alloc, &hidden, name)?;
         hide(alloc, &mut hidden, name)?;
     }

@@ -1,6 +1,6 @@
 //! Regions of declarations, and the tables of predefined names (Ada RM 2012, 8.1, A.1).
 
-ghost use Rattle.std.specs.Prelude.{◌≡◌, IfOk, OnOk, [], length};
+ghost use Rattle.std.specs.Prelude.{◌≡◌, IfOk, OnOk, []};
 ghost use Rattle.ada_names.specs.Names.{Region as Declarations, entity_of, declare, declared_in, key, predefined, test_io, is_attribute};
 ghost use Rattle.ada_names.specs.RegionView.{named};
 ghost use Rattle.ada_names.specs.Rules.{new_name};
@@ -38,13 +38,6 @@ impl Region {
         Region {
             table: IndexMap::new(alloc),
         }
-    }
-
-    /// How many declarations there are.
-    pub(crate) fn len(&self) -> usize
-        ensures { result ≡ length self.now }
-    {
-        self.table.len()
     }
 
     /// What a name denotes.
@@ -132,6 +125,11 @@ pub fn is_attribute(name: &[u8]) -> bool
     name == "first".as_bytes() || name == "last".as_bytes() || name == "length".as_bytes()
 }
 
-static PREDEFINED: [(&str, Entity); 1] = [("integer", Entity::Integer)];
+static PREDEFINED: [(&str, Entity); 4] = [
+    ("integer", Entity::Integer),
+    ("boolean", Entity::Boolean),
+    ("false", Entity::Truth(false)),
+    ("true", Entity::Truth(true)),
+];
 
 static TEST_IO: [(&str, Entity); 2] = [("get", Entity::Get), ("put", Entity::Put)];

@@ -6,16 +6,17 @@ ghost use Rattle.ada_names.specs.Names.{key, visible};
 ghost use Rattle.ada_names.specs.ScopeView.{regions_of};
 
 use crate::entity::Entity;
+use crate::locals::Locals;
 use crate::region::{Region, key, predefined};
 use ada_syntax::Identifier;
 use std::alloc::{AllocError, Global};
 
 /// What is visible at a place of a unit: names that their own declaration hides, the declarations so
-/// far, and what the unit sees of the library.
+/// far of the subprogram and of the blocks that are open, and what the unit sees of the library.
 #[derive(Clone, Copy)]
 pub struct Scope<'a> {
     pub hidden: &'a Region,
-    pub local: &'a Region,
+    pub locals: &'a Locals,
     pub seen: &'a Region,
 }
 
@@ -32,7 +33,7 @@ impl Scope<'_> {
     fn innermost(&self, name: &[u8]) -> Option<Entity>
         ensures { result ≡ spec.found name.now (regions_of self.now) }
     {
-        let inner = self.hidden.find(name).or_else(|| self.local.find(name));
+        let inner = self.hidden.find(name).or_else(|| self.locals.find(name));
         let outer = inner.or_else(|| self.seen.find(name));
         outer.or_else(|| predefined(name))
     }

@@ -35,7 +35,7 @@ const INITIAL_LINE: u32 = 5;
 
 const ACTUAL_LINE: u32 = 7;
 
-fn at(line: u32) -> Pos {
+pub(crate) fn at(line: u32) -> Pos {
     Pos {
         file: 0,
         line,
@@ -43,7 +43,7 @@ fn at(line: u32) -> Pos {
     }
 }
 
-fn identifier(alloc: Global, line: u32, text: &str) -> Result<Identifier, AllocError> {
+pub(crate) fn identifier(alloc: Global, line: u32, text: &str) -> Result<Identifier, AllocError> {
     Ok(Identifier {
         pos: at(line),
         text: Bytes::from(Vec::from_slice(alloc, text.as_bytes())?),
@@ -51,14 +51,14 @@ fn identifier(alloc: Global, line: u32, text: &str) -> Result<Identifier, AllocE
 }
 
 /// A list of one item.
-fn only<T: Drop>(alloc: Global, item: T) -> Result<Vec<T>, AllocError> {
+pub(crate) fn only<T: Drop>(alloc: Global, item: T) -> Result<Vec<T>, AllocError> {
     let mut items = Vec::new(alloc);
     items.push(item)?;
     Ok(items)
 }
 
 /// An identifier as a name.
-fn simple(alloc: Global, line: u32, text: &str) -> Result<Name, AllocError> {
+pub(crate) fn simple(alloc: Global, line: u32, text: &str) -> Result<Name, AllocError> {
     Ok(Name::new(identifier(alloc, line, text)?, Vec::new(alloc)))
 }
 
@@ -186,21 +186,22 @@ fn what_breaks_a_rule_is_refused_at_its_place(rt: HostRuntime) {
 }
 
 /// The objects of a text.
-fn objects(alloc: Global) -> Result<Region, AllocError> {
+fn objects(alloc: Global) -> Result<Locals, AllocError> {
     let names = names(alloc, &KEPT)?;
-    let mut region = Region::new(alloc);
-    declare_objects(alloc, &mut region, names.as_slice())?;
-    Ok(region)
+    let mut locals = Locals::new(alloc);
+    locals.open(alloc)?;
+    locals.declare_objects(alloc, 0, names.as_slice())?;
+    Ok(locals)
 }
 
 /// What an identifier denotes where these names are hidden by their own declaration.
 fn found(alloc: Global, hidden: &Region, text: &str) -> Result<Option<Entity>, AllocError> {
     let unit = unit(alloc, &KEPT)?;
     let seen = seen(alloc, &Region::new(alloc), 0, &unit)?;
-    let local = objects(alloc)?;
+    let locals = objects(alloc)?;
     let scope = Scope {
         hidden,
-        local: &local,
+        locals: &locals,
         seen: &seen,
     };
     scope.find(alloc, &identifier(alloc, ACTUAL_LINE, text)?)
@@ -219,8 +220,29 @@ fn is_hidden(alloc: Global) -> Result<bool, AllocError> {
     Ok(found(alloc, &hidden, "y")?.is_none())
 }
 
+/// What a name denotes in a region inside that of these objects, where it is declared again, and
+/// behind that region.
+fn inside_and_behind(alloc: Global) -> Result<(Option<Entity>, Option<Entity>), AllocError> {
+    let mut locals = objects(alloc)?;
+    locals.open(alloc)?;
+    let again = only(alloc, identifier(alloc, ACTUAL_LINE, "X")?)?;
+    locals.declare_objects(alloc, 2, again.as_slice())?;
+    let inside = locals.find("x".as_bytes());
+    locals.close();
+    Ok((inside, locals.find("x".as_bytes())))
+}
+
+/// Whether the inner one hides the outer one, and no longer than it is visible.
+fn is_hidden_inside(alloc: Global) -> bool {
+    matches!(
+        inside_and_behind(alloc),
+        Ok((Some(Entity::Object(2)), Some(Entity::Object(0))))
+    )
+}
+
 #[test]
 fn objects_are_numbered_and_hidden_in_their_declaration(rt: HostRuntime) {
     assert!(rt; is_numbered(rt.alloc()));
     assert!(rt; is_hidden(rt.alloc()).is_ok_and(|hidden| hidden));
+    assert!(rt; is_hidden_inside(rt.alloc()));
 }

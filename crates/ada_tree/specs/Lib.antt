@@ -3,4 +3,5 @@ pub mod ExprCode
 pub mod StmtCode
 pub mod Sizes
 pub mod View
+pub mod Objects
 pub mod SizeLaws

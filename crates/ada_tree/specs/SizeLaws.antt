@@ -1,16 +1,26 @@
--- A tree is larger than its parts.
+-- Trees are larger than their parts.
 use Rattle.std.specs.Prelude.{◌+◌, ◌≤◌, max, List, [], ◌∷◌, IsTrue}
 use Rattle.std.proofs.Common.{arith}
 use Rattle.std.proofs.lemmas.Bool.{false≢true}
 use denote.Param.Weighed.{most}
-use Rattle.ada_meaning.specs.Tree.{Expr}
-use Rattle.ada_tree.specs.Sizes.{expr_size}
-use Rattle.ada_tree.specs.View.{with_operand, with_operands, is_filled, has_operators, expr_at, expr_of}
+use Rattle.ada_meaning.specs.Tree.{Expr, Stmt, Stmts}
+use Rattle.ada_tree.specs.Sizes.{expr_size, test_size, stmt_size, stmts_size, branches_size, block_size}
+use Rattle.ada_tree.specs.View.{with_operand, with_operands, is_filled, has_operators, expr_at, expr_of, test_at, test_of, statements_of, branches_of, statement_at, statement_of, block_of}
 use Rattle.ada_tree.specs.declared.expr.Expr.TheInside.{Inside}
 use Rattle.ada_tree.specs.declared.expr.Expr.TheDeep.{deep-Expr, deep-ExprKind, deep-Operand}
 use Rattle.ada_tree.specs.declared.expr.Operand.{Operand}
 use Rattle.ada_tree.specs.declared.expr.ExprKind.{ExprKind}
 use Rattle.ada_tree.specs.declared.expr.ExprKind.TheVariants as kind
+use Rattle.ada_tree.specs.declared.expr.Test.TheInside.{Inside as InsideTest}
+use Rattle.ada_tree.specs.declared.expr.Test.TheDeep.{deep-Test, deep-TestKind}
+use Rattle.ada_tree.specs.declared.expr.TestKind.{TestKind}
+use Rattle.ada_tree.specs.declared.expr.TestKind.TheVariants as test
+use Rattle.ada_tree.specs.declared.statement.Branch.{Branch}
+use Rattle.ada_tree.specs.declared.statement.Statement.TheInside.{Inside as InsideStatement}
+use Rattle.ada_tree.specs.declared.statement.Block.TheInside.{Inside as InsideBlock}
+use Rattle.ada_tree.specs.declared.statement.Block.TheDeep.{deep-Statement, deep-StatementKind, deep-Branch, deep-Block}
+use Rattle.ada_tree.specs.declared.statement.StatementKind.{StatementKind}
+use Rattle.ada_tree.specs.declared.statement.StatementKind.TheVariants as statement
 
 operands_below : (a : Expr) (os : List Operand) → (expr_size a ≤ expr_size (with_operands a os)) × (most deep-Operand os ≤ expr_size (with_operands a os))
 operands_below a [] = (omega arith, omega arith)
@@ -30,3 +40,38 @@ expr_is_larger e f = omega (arith, of_kind e.kind f)
     of_kind (kind.Read o) h = omega arith
     of_kind (kind.Signed s a) h = omega arith
     of_kind (kind.Operations a os) h = omega (arith, operations_below a.value os.items h)
+    of_kind (kind.Relation r a b) h = omega arith
+    of_kind (kind.Complement a) h = omega arith
+
+pub test_is_larger : (t : InsideTest) → deep-Test t ≤ test_size (test_of t)
+test_is_larger t = omega (arith, of_kind t.kind)
+  where
+    of_kind : (k : TestKind) → deep-TestKind k ≤ test_size (test_at k)
+    of_kind (test.Condition at e) = omega arith
+    of_kind (test.Negation u) = omega arith
+
+statements_below : (ss : List Stmt) → most (λ s. stmt_size s + 1) ss ≤ stmts_size (statements_of ss) + 1
+statements_below [] = omega arith
+statements_below (s ∷ ss) = omega (arith, statements_below ss)
+
+branches_below : (bs : List Branch) (other : Stmts) → (most deep-Branch bs ≤ branches_size (branches_of bs other) + 1) × (stmts_size other ≤ branches_size (branches_of bs other))
+branches_below [] other = (omega arith, omega arith)
+branches_below (b ∷ bs) other = let h = branches_below bs other in (omega (arith, h.0, statements_below b.statements.items), omega (arith, h.1))
+
+pub block_is_larger : (b : InsideBlock) → deep-Block b ≤ block_size (block_of b)
+block_is_larger b = omega (arith, statements_below b.statements.items)
+
+pub statement_is_larger : (s : InsideStatement) → deep-Statement s ≤ stmt_size (statement_of s)
+statement_is_larger s = omega (arith, of_kind s.kind)
+  where
+    of_kind : (k : StatementKind) → deep-StatementKind k ≤ stmt_size (statement_at k)
+    of_kind (statement.Null l) = omega arith
+    of_kind (statement.Assignment l o v) = omega arith
+    of_kind (statement.Call l c actuals) = omega arith
+    of_kind (statement.If l bs ss) = let h = branches_below bs.items (statements_of ss.items) in omega (arith, h.0, h.1, statements_below ss.items)
+    of_kind (statement.Loop l ss) = omega (arith, statements_below ss.items)
+    of_kind (statement.While l d ss) = omega (arith, statements_below ss.items)
+    of_kind (statement.Exit l) = omega arith
+    of_kind (statement.ExitWhen l d) = omega arith
+    of_kind (statement.Return l) = omega arith
+    of_kind (statement.Block b) = omega arith

@@ -14,6 +14,8 @@ use Rattle.ada_tree.specs.declared.types.Sign.{Sign}
 use Rattle.ada_tree.specs.declared.types.Sign.TheVariants as sign
 use Rattle.ada_tree.specs.declared.types.Operator.{Operator}
 use Rattle.ada_tree.specs.declared.types.Operator.TheVariants as operator
+use Rattle.ada_tree.specs.declared.types.Relation.{Relation}
+use Rattle.ada_tree.specs.declared.types.Relation.TheVariants as relation
 use Rattle.ada_tree.specs.declared.expr.Object.{Object}
 use Rattle.ada_tree.specs.declared.expr.Object.TheVariants as object
 use Rattle.ada_tree.specs.declared.expr.Operand.{Operand}
@@ -22,6 +24,9 @@ use Rattle.ada_tree.specs.declared.expr.Callee.TheVariants as callee
 use Rattle.ada_tree.specs.declared.expr.Expr.TheInside.{Inside as InsideExpr}
 use Rattle.ada_tree.specs.declared.expr.ExprKind.{ExprKind}
 use Rattle.ada_tree.specs.declared.expr.ExprKind.TheVariants as expr
+use Rattle.ada_tree.specs.declared.expr.Test.TheInside.{Inside as InsideTest}
+use Rattle.ada_tree.specs.declared.expr.TestKind.{TestKind}
+use Rattle.ada_tree.specs.declared.expr.TestKind.TheVariants as test
 use Rattle.ada_tree.specs.declared.expr.Actual.{Actual}
 use Rattle.ada_tree.specs.declared.expr.Actual.TheVariants as actual
 use Rattle.ada_tree.specs.declared.statement.Label.{Label}
@@ -29,6 +34,7 @@ use Rattle.ada_tree.specs.declared.statement.NewValue.{NewValue}
 use Rattle.ada_tree.specs.declared.statement.NewValue.TheVariants as value
 use Rattle.ada_tree.specs.declared.statement.Declaration.{Declaration}
 use Rattle.ada_tree.specs.declared.statement.Declaration.TheVariants as declaration
+use Rattle.ada_tree.specs.declared.statement.Branch.{Branch}
 use Rattle.ada_tree.specs.declared.statement.Statement.TheInside.{Inside as InsideStatement}
 use Rattle.ada_tree.specs.declared.statement.StatementKind.{StatementKind}
 use Rattle.ada_tree.specs.declared.statement.StatementKind.TheVariants as kind
@@ -64,6 +70,14 @@ operator_of operator.Divide = type.division
 operator_of operator.Modulus = type.modulus
 operator_of operator.Remainder = type.remainder
 
+abbrev pub relation_of : Relation → type.Relation
+relation_of relation.Equal = type.equal
+relation_of relation.NotEqual = type.unequal
+relation_of relation.Less = type.less
+relation_of relation.LessOrEqual = type.at_most
+relation_of relation.Greater = type.greater
+relation_of relation.GreaterOrEqual = type.at_least
+
 abbrev pub object_of : Object → tree.Object
 object_of (object.Local d) = tree.local_object d
 
@@ -97,9 +111,18 @@ expr_at (expr.Constant e) = tree.constant (static_of e)
 expr_at (expr.Read o) = tree.read (object_of o) tree.whole
 expr_at (expr.Signed s e) = tree.signed (sign_of s) e.value
 expr_at (expr.Operations e os) = with_operands e.value os.items
+expr_at (expr.Relation r a b) = tree.relation (relation_of r) a.value b.value
+expr_at (expr.Complement e) = tree.complement e.value
 
 abbrev pub expr_of : InsideExpr → tree.Expr
 expr_of e = expr_at e.kind
+
+abbrev pub test_at : TestKind → tree.Test
+test_at (test.Condition at e) = tree.condition at e
+test_at (test.Negation t) = tree.negation t.value
+
+abbrev pub test_of : InsideTest → tree.Test
+test_of t = test_at t.kind
 
 -- an actual parameter, and those after it
 abbrev pub with_actual : Actual → tree.Actuals → tree.Actuals
@@ -120,21 +143,32 @@ abbrev pub declaration_of : Declaration → tree.Declaration
 declaration_of (declaration.Initialized l d v) = tree.initialized (label_of l) d (value_of v)
 declaration_of (declaration.WithoutValue d s) = tree.without_value d (subtype_of s)
 
-abbrev pub statement_at : StatementKind → tree.Stmt
-statement_at (kind.Null l) = tree.null_statement (label_of l)
-statement_at (kind.Assignment l o v) = tree.assignment (label_of l) (object_of o) tree.whole (value_of v)
-statement_at (kind.Call l c actuals) = tree.procedure_call (label_of l) (callee_of c) (actuals_of actuals)
-statement_at (kind.Return l) = tree.return_statement (label_of l)
-
-abbrev pub statement_of : InsideStatement → tree.Stmt
-statement_of s = statement_at s.kind
-
 abbrev pub statements_of : List tree.Stmt → tree.Stmts
 statements_of [] = tree.no_statement
 statements_of (s ∷ ss) = tree.and_statement s (statements_of ss)
 
+-- branches, and the statements of the else part
+abbrev pub branches_of : List Branch → tree.Stmts → tree.Branches
+branches_of [] other = tree.else_part other
+branches_of (b ∷ bs) other = tree.branch (label_of b.decision.label) b.decision.test (statements_of b.statements.items) (branches_of bs other)
+
+abbrev pub statement_at : StatementKind → tree.Stmt
+statement_at (kind.Null l) = tree.null_statement (label_of l)
+statement_at (kind.Assignment l o v) = tree.assignment (label_of l) (object_of o) tree.whole (value_of v)
+statement_at (kind.Call l c actuals) = tree.procedure_call (label_of l) (callee_of c) (actuals_of actuals)
+statement_at (kind.If l bs ss) = tree.if_statement (label_of l) (branches_of bs.items (statements_of ss.items))
+statement_at (kind.Loop l ss) = tree.bare_loop (label_of l) (statements_of ss.items)
+statement_at (kind.While l d ss) = tree.while_loop (label_of l) (label_of d.label) d.test (statements_of ss.items)
+statement_at (kind.Exit l) = tree.exit_statement (label_of l)
+statement_at (kind.ExitWhen l d) = tree.exit_when (label_of l) (label_of d.label) d.test
+statement_at (kind.Return l) = tree.return_statement (label_of l)
+statement_at (kind.Block b) = tree.block_statement b
+
+abbrev pub statement_of : InsideStatement → tree.Stmt
+statement_of s = statement_at s.kind
+
 abbrev pub block_of : InsideBlock → tree.Block
-block_of b = tree.block (map declaration_of b.declarations) (statements_of b.statements) tree.no_handler
+block_of b = tree.block (map declaration_of b.declarations) (statements_of b.statements.items) tree.no_handler
 
 abbrev pub subprogram_of : Subprogram → meaning.Subprogram
 subprogram_of s = record { parameters = []; body = s.body }

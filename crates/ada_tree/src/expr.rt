@@ -1,6 +1,7 @@
 //! Expressions and calls (Ada RM 2012, 4.4, 6.4).
 
-use crate::types::{Operator, Range, Sign, Static};
+use crate::types::{Operator, Range, Relation, Sign, Static};
+use cov_base::Pos;
 use std::alloc::{AllocError, Global};
 use std::marker::Model;
 
@@ -66,9 +67,9 @@ impl Model for Expr {
 impl Expr {
     ghost use Rattle.std.specs.Prelude.{◌≡◌, IfOk};
     ghost use Rattle.ada_meaning.specs.Tree as tree;
-    ghost use Rattle.ada_tree.specs.View.{static_of, object_of, sign_of, with_operands};
+    ghost use Rattle.ada_tree.specs.View.{static_of, object_of, sign_of, relation_of, with_operands};
 
-    /// A numeral.
+    /// A numeral, or an enumeration literal by its position number.
     pub fn literal(value: i32) -> Expr
         ensures { result ≡ tree.literal value }
     {
@@ -105,6 +106,32 @@ impl Expr {
         })
     }
 
+    /// A relation of two operands.
+    pub fn relation(
+        alloc: Global,
+        relation: Relation,
+        left: Expr,
+        right: Expr,
+    ) -> Result<Expr, AllocError>
+        ensures { IfOk result (λ e. e ≡ tree.relation (relation_of relation) left right) }
+    {
+        let left = Box::new(alloc, left)?;
+        let right = Box::new(alloc, right)?;
+        Ok(Expr {
+            kind: ExprKind::Relation(relation, left, right),
+        })
+    }
+
+    /// `not` of an operand.
+    pub fn complement(alloc: Global, operand: Expr) -> Result<Expr, AllocError>
+        ensures { IfOk result (λ e. e ≡ tree.complement operand) }
+    {
+        let operand = Box::new(alloc, operand)?;
+        Ok(Expr {
+            kind: ExprKind::Complement(operand),
+        })
+    }
+
     /// A first operand, and the operators and operands right of it, if there are any.
     pub fn operations(alloc: Global, first: Expr, others: Vec<Operand>) -> Result<Expr, AllocError>
         ensures { IfOk result (λ e. e ≡ with_operands first others.items) }
@@ -134,6 +161,10 @@ pub enum ExprKind {
     /// Operators with two operands, which group to the left (RM 4.5): the first operand, and at least
     /// one operator with what stands right of it. So a long chain nests no deeper than a short one.
     Operations(Box<Expr>, Vec<Operand>),
+    /// A relation of two operands (RM 4.5.2).
+    Relation(Relation, Box<Expr>, Box<Expr>),
+    /// `not` of what holds no short-circuit control form (RM 4.5.6).
+    Complement(Box<Expr>),
 }
 
 /// An operator and what stands right of it.
@@ -142,6 +173,68 @@ pub enum ExprKind {
 pub struct Operand {
     pub operator: Operator,
     pub operand: Expr,
+}
+
+/// The expression of a decision.
+#[derive(Debug, Drop)]
+#[cycle(test)]
+pub struct Test {
+    pub kind: TestKind,
+}
+
+impl Model for Test {
+    ghost use Rattle.ada_meaning.specs.Tree as tree;
+    ghost use Rattle.ada_tree.specs.ExprCode.{coded_test};
+
+    ghost Value = { tree.Test };
+
+    ghost coded = { coded_test };
+
+    ghost use Rattle.ada_tree.specs.View.{test_of};
+
+    ghost view = { test_of };
+
+    ghost use Rattle.ada_tree.specs.Sizes.{test_size};
+
+    ghost size = { test_size };
+
+    ghost use Rattle.ada_tree.specs.SizeLaws.{test_is_larger};
+
+    ghost size_decreases = { λ a h. test_is_larger a };
+}
+
+impl Test {
+    ghost use Rattle.std.specs.Prelude.{◌≡◌, IfOk};
+    ghost use Rattle.ada_meaning.specs.Tree as tree;
+
+    /// A condition, which begins at this place.
+    pub fn condition(pos: Pos, operand: Expr) -> Test
+        ensures { result ≡ tree.condition pos operand }
+    {
+        Test {
+            kind: TestKind::Condition(pos, operand),
+        }
+    }
+
+    /// `not` of a test.
+    pub fn negation(alloc: Global, operand: Test) -> Result<Test, AllocError>
+        ensures { IfOk result (λ t. t ≡ tree.negation operand) }
+    {
+        let operand = Box::new(alloc, operand)?;
+        Ok(Test {
+            kind: TestKind::Negation(operand),
+        })
+    }
+}
+
+/// The forms of a decision's expression.
+#[derive(Debug, Drop)]
+#[cycle(test)]
+pub enum TestKind {
+    /// A condition: an operand without `not` and parentheses, and the place of its first token.
+    Condition(Pos, Expr),
+    /// `not` of what holds a short-circuit control form, or of a condition.
+    Negation(Box<Test>),
 }
 
 /// An actual parameter (RM 6.4.1).

@@ -2,8 +2,8 @@
 //! obligations, copies of generics and code are made from. Contracts see it as the plain data of
 //! ada_meaning, which says what it means.
 //!
-//! It holds what straight-line programs over Integer objects need. What is to come gets variants of
-//! its own in the enums, and the plain data has them already.
+//! It holds what procedures over Integer and Boolean objects need, with decisions of one condition.
+//! What is to come gets variants of its own in the enums, and the plain data has them already.
 //!
 //! The contract that the layers above use: `program_of` of `specs/View.antt` is the program that a
 //! [`Program`] is, and statements are seen as ada_meaning's trees.
@@ -11,16 +11,19 @@
 
 mod expr;
 mod laws;
+mod objects;
 mod program;
 mod statement;
 #[cfg(test)]
 mod tests;
 mod types;
 
-pub use expr::{Actual, Callee, Expr, ExprKind, Object, Operand, Owner};
+pub use expr::{Actual, Callee, Expr, ExprKind, Object, Operand, Owner, Test, TestKind};
 pub use laws::{
     declarations_keep_their_parts, expressions_keep_their_parts, views_keep_their_parts,
 };
 pub use program::{Program, Subprogram, UnitEntry};
-pub use statement::{Block, Declaration, Label, NewValue, Statement, StatementKind};
-pub use types::{Operator, Range, Sign, Static, Subtype};
+pub use statement::{
+    Block, Branch, Decision, Declaration, Label, NewValue, Statement, StatementKind,
+};
+pub use types::{Operator, Range, Relation, Sign, Static, Subtype};

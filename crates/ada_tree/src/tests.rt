@@ -1,9 +1,12 @@
-//! A chain of operators.
+//! A chain of operators, and the objects of a block.
 
 use crate::{
-    Expr, ExprKind, Operand, Operator, Sign, declarations_keep_their_parts,
-    expressions_keep_their_parts, views_keep_their_parts,
+    Block, Declaration, Expr, ExprKind, Label, Operand, Operator, Range, Sign, Statement,
+    StatementKind, Subtype, declarations_keep_their_parts, expressions_keep_their_parts,
+    views_keep_their_parts,
 };
+use cov_base::{Pos, Seq};
+use std::alloc::{AllocError, Global};
 use std::test::Fail;
 
 #[test]
@@ -27,4 +30,43 @@ fn laws_are_called() {
     views_keep_their_parts();
     declarations_keep_their_parts();
     expressions_keep_their_parts();
+}
+
+/// A block with one object, and this statement in it.
+fn block(alloc: Global, kind: StatementKind) -> Result<Block, AllocError> {
+    let range = Range { first: 0, last: 9 };
+    let object = Declaration::WithoutValue(0, Subtype::Scalar(range));
+    Ok(Block {
+        declarations: Seq::from(vec![in alloc; object]?),
+        statements: vec![in alloc; Statement { kind }]?,
+    })
+}
+
+#[test]
+fn objects_of_inner_blocks_count(rt: HostRuntime) -> Result<(), Fail> {
+    let alloc = rt.alloc();
+    let pos = Pos {
+        file: 0,
+        line: 1,
+        col: 1,
+    };
+    let label = Label {
+        number: 0,
+        place: pos,
+    };
+    let inner = block(alloc, StatementKind::Return(label))?;
+    let inner = vec![in alloc;
+        Statement {
+            kind: StatementKind::Block(inner)
+        },
+    ]?;
+    let otherwise = block(alloc, StatementKind::Loop(label, inner))?;
+    let otherwise = vec![in alloc;
+        Statement {
+            kind: StatementKind::Block(otherwise)
+        },
+    ]?;
+    let outer = block(alloc, StatementKind::If(label, Vec::new(alloc), otherwise))?;
+    assert_eq!(rt; outer.objects(), 3);
+    Ok(())
 }

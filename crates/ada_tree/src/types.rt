@@ -40,3 +40,14 @@ pub enum Operator {
     Modulus,
     Remainder,
 }
+
+/// A relation of two values of a discrete type (RM 4.5.2).
+#[derive(Clone, Copy, Debug, PartialEq, Eq)]
+pub enum Relation {
+    Equal,
+    NotEqual,
+    Less,
+    LessOrEqual,
+    Greater,
+    GreaterOrEqual,
+}

@@ -1,35 +1,39 @@
 -- What is refused is not legal: a construct that passes its case has parts that pass theirs.
-use Rattle.std.proofs.Common.{◌≡◌, ℕ, ◌+◌, drop, Bool, true, false, ◌&&◌, List, [], ◌∷◌, Option, Some, None, option_map, is_some, refl, sym, ◌∙◌, if◌then◌else◌}
+use Rattle.std.proofs.Common.{◌≡◌, ℕ, ◌+◌, Bool, true, false, ◌&&◌, List, [], ◌∷◌, Option, Some, None, option_map, is_some, refl, sym, ◌∙◌, if◌then◌else◌}
 use Rattle.std.specs.List.{list_all}
 use Rattle.std.specs.Option.{option_and_then}
 use Rattle.std.specs.Str.{str_to_ascii_lowercase}
 use Rattle.std.proofs.lemmas.Bool.{false≢true}
 use Rattle.cov_base.specs.declared.position.Pos.{Pos}
 use Rattle.cov_base.specs.declared.failure.Failure.TheVariants.{Fault}
-use Rattle.ada_syntax.specs.Tree as source
 use Rattle.ada_syntax.specs.StatementTree as source_statement
 use Rattle.ada_syntax.specs.declared.declaration.Declaration.{Declaration}
 use Rattle.ada_syntax.specs.declared.declaration.DeclarationKind.{DeclarationKind}
 use Rattle.ada_syntax.specs.declared.declaration.DeclarationKind.TheVariants as declares
 use Rattle.ada_syntax.specs.declared.declaration.Initial.{Initial}
+use Rattle.ada_syntax.specs.declared.statement.LoopScheme.TheVariants as scheme
 use Rattle.ada_syntax.specs.declared.unit.Unit.{Unit as LibraryUnit}
-use Rattle.ada_names.specs.Names.{Region, key}
-use Rattle.ada_names.specs.Library.{declarations_of_item, statements_of_item}
-use Rattle.ada_names.specs.Naming.{library_of, named, main_from}
-use Rattle.ada_names.specs.Rules.{BreaksNames}
-use Rattle.ada_types.specs.declared.fault.CheckFault.{CheckFault}
-use Rattle.ada_types.specs.declared.denoted.Denoted.{Denoted}
-use Rattle.ada_types.specs.declared.kind.DeclaredObject.{DeclaredObject}
-use Rattle.ada_types.specs.declared.kind.ScalarSubtype.{ScalarSubtype}
-use Rattle.ada_types.specs.declared.statements.Target.{Target}
 use Rattle.ada_meaning.specs.Program.{Subprogram}
-use Rattle.ada_types.specs.Expressions as spec
-use Rattle.ada_types.specs.Typing as spec_typing
-use Rattle.ada_types.specs.Typing.{Context, Elaborated, inner, regions_of}
+use Rattle.ada_meaning.specs.Tree as tree
+use Rattle.ada_tree.specs.View as view
+use Rattle.ada_names.specs.Names.{Region}
+use Rattle.ada_names.specs.Library.{declarations_of_item, statements_of_item, statements_in}
+use Rattle.ada_names.specs.Naming.{library_of, named, main_from, declarations_in}
+use Rattle.ada_names.specs.Rules.{BreaksNames}
+use Rattle.ada_places.specs.declared.places.Places.{Places}
+use Rattle.ada_places.specs.Places.{all_places_of}
+use Rattle.ada_expressions.specs.declared.denoted.Denoted.{Denoted}
+use Rattle.ada_expressions.specs.declared.kind.ScalarSubtype.{ScalarSubtype}
+use Rattle.ada_expressions.specs.Expressions.{denoted, judged}
+use Rattle.ada_types.specs.declared.fault.CheckFault.{CheckFault}
+use Rattle.ada_types.specs.declared.statements.Target.{Target}
+use Rattle.ada_types.specs.Typing as spec
+use Rattle.ada_types.specs.Typing.{Context, Elaborated, Chosen, inner, regions_of, past, in_loop, of_block, statement_label, decision_label, tested_in, objects_in, objects_in_all, objects_in_branches}
 use Rattle.ada_types.specs.Legal.{typed, program_of_main, elaborated}
 use Rattle.ada_types.specs.Rules as rule
 use Rattle.ada_types.specs.Rules.{Construct, parts, holds, Among, here, Offends, itself, within}
 use Rattle.ada_types.specs.Checked.{Refuses, breaks_names, breaks_types, declares_too_much}
+use Rattle.ada_expressions.proofs.Laws as phrase
 
 and_left : (a b : Bool) → (a && b) ≡ true → a ≡ true
 and_left true b h = refl
@@ -52,20 +56,18 @@ mapped_there : {A B : Type 0} (f : A → B) (o : Option A) → is_some (option_m
 mapped_there f None h = h
 mapped_there f (Some x) h = refl
 
+one_there : {A B : Type 0} (f : A → Option B) (o : Option A) → is_some (option_and_then f o) ≡ true → (is_some o && true) ≡ true
+one_there f o h = and_true (is_some o) ∙ first_there f o h
+
 both_there : {A B C : Type 0} (f : A → B → C) (o : Option A) (p : Option B) → is_some (option_and_then (λ x. option_map (f x) p) o) ≡ true →
     (is_some o && (is_some p && true)) ≡ true
 both_there f None p h = h
 both_there f (Some x) p h = and_true (is_some p) ∙ mapped_there (f x) p h
 
-operands_there : {A B C : Type 0} (f : A → B → Option C) (o : Option A) (p : Option B) → is_some (option_and_then (λ x. option_and_then (f x) p) o) ≡ true →
-    (is_some o && (is_some p && true)) ≡ true
-operands_there f None p h = h
-operands_there f (Some x) p h = and_true (is_some p) ∙ first_there (f x) p h
-
-units_typed : (library : Region) (places : List Pos) (n : ℕ) (us : List LibraryUnit) → is_some (spec_typing.typed_units library places n us) ≡ true →
+units_typed : (library : Region) (places : Places) (n : ℕ) (us : List LibraryUnit) → is_some (spec.typed_units library places n us) ≡ true →
     list_all holds (rule.units_from library places n us) ≡ true
 units_typed library places n [] h = refl
-units_typed library places n (u ∷ us) h = by (spec_typing.typed_unit library places n u) (spec_typing.typed_units library places (n + 1) us)
+units_typed library places n (u ∷ us) h = by (spec.typed_unit library places n u) (spec.typed_units library places (n + 1) us)
     (list_all holds (rule.units_from library places (n + 1) us)) (units_typed library places (n + 1) us) h
   where
     by : {A : Type 0} (o : Option A) (p : Option (List A)) (b : Bool) → (is_some p ≡ true → b ≡ true) →
@@ -73,88 +75,112 @@ units_typed library places n (u ∷ us) h = by (spec_typing.typed_unit library p
     by None p b rest h = h
     by (Some x) p b rest h = rest (mapped_there (λ ss. x ∷ ss) p h)
 
-unit_parts : (b : Bool) (o : Option Elaborated) (ss : source_statement.Statements) → is_some (if b then option_and_then (spec_typing.typed_body ss) o else None) ≡ true →
+unit_parts : (b : Bool) (o : Option Elaborated) (ss : source_statement.Statements) → is_some (if b then option_and_then (spec.typed_body ss) o else None) ≡ true →
     (is_some o && list_all holds (rule.sequence_behind o ss)) ≡ true
 unit_parts false o ss h = absurd (false≢true h)
 unit_parts true None ss h = h
-unit_parts true (Some x) ss h = and_true (is_some (spec_typing.typed_statements x.context ss))
-    ∙ mapped_there (spec_typing.procedure_of x.declarations) (spec_typing.typed_statements x.context ss) h
+unit_parts true (Some x) ss h = and_true (is_some (spec.typed_statements x.context ss))
+    ∙ mapped_there (spec.procedure_of x.declarations) (spec.typed_statements x.context ss) h
 
 declarations_parts : (o : Option Elaborated) (ds : List Declaration) →
-    is_some (option_and_then (λ x. option_map (spec_typing.with_earlier x) (spec_typing.typed_declarations x.context ds)) o) ≡ true →
+    is_some (option_and_then (λ x. option_map (spec.with_earlier x) (spec.typed_declarations x.context ds)) o) ≡ true →
     (is_some o && list_all holds (rule.declarations_behind o ds)) ≡ true
 declarations_parts None ds h = h
-declarations_parts (Some x) ds h = and_true (is_some (spec_typing.typed_declarations x.context ds))
-    ∙ mapped_there (spec_typing.with_earlier x) (spec_typing.typed_declarations x.context ds) h
+declarations_parts (Some x) ds h = and_true (is_some (spec.typed_declarations x.context ds))
+    ∙ mapped_there (spec.with_earlier x) (spec.typed_declarations x.context ds) h
 
-kind_parts : (k : Context) (d : Declaration) (x : DeclarationKind) → is_some (spec_typing.typed_kind k d x) ≡ true → list_all holds (rule.parts_of_kind k x) ≡ true
-kind_parts k d (declares.Object is c s i) h = by (spec_typing.indicated (inner k is) k.objects s) i h
+kind_parts : (k : Context) (p : Pos) (x : DeclarationKind) → is_some (spec.typed_kind k p x) ≡ true → list_all holds (rule.parts_of_kind k x) ≡ true
+kind_parts k p (declares.Object is c s i) h = by (spec.indicated (inner k is) k.objects s) i h
   where
-    by : (o : Option ScalarSubtype) (i : Option Initial) → is_some
-        (option_and_then (λ t. spec_typing.declared_as k d is (record { constancy = c; subtype = t }) i) o) ≡ true →
+    by : (o : Option ScalarSubtype) (i : Option Initial) → is_some (option_and_then (λ t. spec.declared_as k p is c t i) o) ≡ true →
         (is_some o && list_all holds (rule.value_behind (inner k is) k.objects o i)) ≡ true
     by None i h = h
     by (Some t) None h = refl
-    by (Some t) (Some j) h = and_true (is_some (spec_typing.new_value (inner k is) k.objects t j))
-        ∙ first_there (spec_typing.declared_set k d is (record { constancy = c; subtype = t })) (spec_typing.new_value (inner k is) k.objects t j) h
-kind_parts k d (declares.Type n t) h = refl
-kind_parts k d (declares.Subtype n s) h = refl
-kind_parts k d (declares.Exception is) h = refl
-kind_parts k d (declares.Pragma p) h = refl
+    by (Some t) (Some j) h = and_true (is_some (spec.new_value (inner k is) k.objects t j))
+        ∙ first_there (spec.declared_set k p is c t) (spec.new_value (inner k is) k.objects t j) h
+kind_parts k p (declares.Type n t) h = refl
+kind_parts k p (declares.Subtype n s) h = refl
+kind_parts k p (declares.Exception is) h = refl
+kind_parts k p (declares.Pragma a) h = refl
 
 assignment_parts : (k : Context) (p : Pos) (o : Option Denoted) (i : Initial) →
-    is_some (option_and_then (λ t. option_map (spec_typing.assigned (spec_typing.label_at k.places p) t) (spec_typing.new_value (regions_of k) k.objects t.subtype i))
-    (option_and_then (spec_typing.target_of k.objects) o)) ≡ true →
-    (is_some o && list_all holds (rule.value_assigned k (option_and_then (spec_typing.target_of k.objects) o) i)) ≡ true
+    is_some (option_and_then (λ t. option_map (spec.assigned (statement_label k p) t) (spec.new_value (regions_of k) k.objects t.subtype i))
+    (option_and_then (spec.target_of k.objects) o)) ≡ true →
+    (is_some o && list_all holds (rule.value_assigned k (option_and_then (spec.target_of k.objects) o) i)) ≡ true
 assignment_parts k p None i h = h
-assignment_parts k p (Some d) i h = by (spec_typing.target_of k.objects d) h
+assignment_parts k p (Some d) i h = by (spec.target_of k.objects d) h
   where
-    by : (t : Option Target) → is_some (option_and_then (λ t. option_map (spec_typing.assigned (spec_typing.label_at k.places p) t)
-        (spec_typing.new_value (regions_of k) k.objects t.subtype i)) t) ≡ true → list_all holds (rule.value_assigned k t i) ≡ true
+    by : (t : Option Target) → is_some (option_and_then (λ t. option_map (spec.assigned (statement_label k p) t)
+        (spec.new_value (regions_of k) k.objects t.subtype i)) t) ≡ true → list_all holds (rule.value_assigned k t i) ≡ true
     by None h = absurd (false≢true h)
-    by (Some t) h = and_true (is_some (spec_typing.new_value (regions_of k) k.objects t.subtype i))
-        ∙ mapped_there (spec_typing.assigned (spec_typing.label_at k.places p) t) (spec_typing.new_value (regions_of k) k.objects t.subtype i) h
+    by (Some t) h = and_true (is_some (spec.new_value (regions_of k) k.objects t.subtype i))
+        ∙ mapped_there (spec.assigned (statement_label k p) t) (spec.new_value (regions_of k) k.objects t.subtype i) h
 
-call_parts : (regions : List Region) (objects : List DeclaredObject) (o : Option Denoted) (es : source.Exprs) →
-    is_some (option_and_then (λ d. option_and_then (spec.call_of d (spec.count_of es)) (spec.typed_actuals regions objects (spec.parameters_of d) es)) o) ≡ true →
-    (is_some o && (is_some (spec.typed_actuals regions objects (rule.parameters_behind o) es) && true)) ≡ true
-call_parts regions objects None es h = h
-call_parts regions objects (Some d) es h = and_true (is_some (spec.typed_actuals regions objects (spec.parameters_of d) es))
-    ∙ first_there (spec.call_of d (spec.count_of es)) (spec.typed_actuals regions objects (spec.parameters_of d) es) h
+-- an if statement, and what follows `elsif`
+conditional_parts : {A B : Type 0} (l : tree.Label) (f : A → B → Chosen) (test : Option A) (first : Option B) (others : Option (List Chosen)) (other : Option (List tree.Stmt)) →
+    is_some (spec.conditional l (option_and_then (λ t. option_map (f t) first) test) others other) ≡ true →
+    (is_some test && (is_some first && (is_some others && (is_some other && true)))) ≡ true
+conditional_parts l f None first others other h = h
+conditional_parts l f (Some t) None others other h = h
+conditional_parts l f (Some t) (Some ss) None other h = h
+conditional_parts l f (Some t) (Some ss) (Some cs) None h = h
+conditional_parts l f (Some t) (Some ss) (Some cs) (Some es) h = refl
 
-one_there : {A B : Type 0} (f : A → Option B) (o : Option A) → is_some (option_and_then f o) ≡ true → (is_some o && true) ≡ true
-one_there f o h = and_true (is_some o) ∙ first_there f o h
+branch_parts : {A B C : Type 0} (f : A → B → C) (test : Option A) (first : Option B) (others : Option (List C)) →
+    is_some (option_and_then (λ c. option_map (λ cs. c ∷ cs) others) (option_and_then (λ t. option_map (f t) first) test)) ≡ true →
+    (is_some test && (is_some first && (is_some others && true))) ≡ true
+branch_parts f None first others h = h
+branch_parts f (Some t) None others h = h
+branch_parts f (Some t) (Some ss) None h = h
+branch_parts f (Some t) (Some ss) (Some cs) h = refl
+
+-- a block
+handled_there : (k : Context) (h : source_statement.Handled) → is_some (spec.typed_handled k h) ≡ true → is_some (spec.typed_statements k (statements_in h)) ≡ true
+handled_there k (source_statement.handled ss source_statement.no_handlers) there = there
+handled_there k (source_statement.handled ss (source_statement.handler cs xs hs)) there = absurd (false≢true there)
+
+block_parts : (o : Option Elaborated) (g : source_statement.Handled) →
+    is_some (option_and_then (λ x. option_map (λ ss. tree.block_statement (spec.block_of x.declarations ss)) (spec.typed_handled x.context g)) o) ≡ true →
+    (is_some o && list_all holds (rule.sequence_behind o (statements_in g))) ≡ true
+block_parts None g h = h
+block_parts (Some x) g h = and_true (is_some (spec.typed_statements x.context (statements_in g)))
+    ∙ handled_there x.context g (mapped_there (λ ss. tree.block_statement (spec.block_of x.declarations ss)) (spec.typed_handled x.context g) h)
+
+pass_statement : (k : Context) (s : source_statement.Statement) → is_some (spec.typed_statement k s) ≡ true → list_all holds (rule.parts_of_statement k s) ≡ true
+pass_statement k (source_statement.call p n) h = one_there (spec.called (statement_label k p)) (denoted (regions_of k) k.objects n) h
+pass_statement k (source_statement.assignment p n i) h = assignment_parts k p (denoted (regions_of k) k.objects n) i h
+pass_statement k (source_statement.conditional p e ss bs es) h = conditional_parts (statement_label k p) (spec.chosen (decision_label k e)) (tested_in k e)
+    (spec.typed_statements k ss) (spec.typed_branches (past k (objects_in_all ss)) bs) (spec.typed_statements (past k (objects_in_all ss + objects_in_branches bs)) es) h
+pass_statement k (source_statement.repeat p scheme.Forever ss) h = and_true (is_some (spec.typed_statements (in_loop k) ss))
+    ∙ mapped_there (λ xs. tree.bare_loop (statement_label k p) (view.statements_of xs)) (spec.typed_statements (in_loop k) ss) h
+pass_statement k (source_statement.repeat p (scheme.While e) ss) h =
+    both_there (λ t xs. tree.while_loop (statement_label k p) (decision_label k e) t (view.statements_of xs)) (tested_in k e) (spec.typed_statements (in_loop k) ss) h
+pass_statement k (source_statement.repeat p (scheme.For i d r) ss) h = absurd (false≢true h)
+pass_statement k (source_statement.exit p None) h = refl
+pass_statement k (source_statement.exit p (Some e)) h = one_there (λ t. spec.exits k.looping (tree.exit_when (statement_label k p) (decision_label k e) t)) (tested_in k e) h
+pass_statement k (source_statement.block p ds g) h = block_parts (spec.typed_declarations (of_block k) (declarations_in ds)) g h
+pass_statement k (source_statement.null p) h = refl
+pass_statement k (source_statement.exemption p a) h = refl
+pass_statement k (source_statement.case_of p e xs) h = refl
+pass_statement k (source_statement.returns p e) h = refl
+pass_statement k (source_statement.raise p n) h = refl
 
 pass : (c : Construct) → holds c ≡ true → list_all holds (parts c) ≡ true
-pass (rule.program us) h = units_typed (library_of us).region (spec_typing.places_of us) 0 us h
-pass (rule.unit library places n u) h = unit_parts (spec_typing.is_plain_item u.item)
-    (spec_typing.typed_declarations (spec_typing.context_of library places n u) (declarations_of_item u.item)) (statements_of_item u.item) h
+pass (rule.program us) h = units_typed (library_of us).region (all_places_of us) 0 us h
+pass (rule.unit library places n u) h = unit_parts (spec.is_plain_item u.item)
+    (spec.typed_declarations (spec.context_of library places n u) (declarations_of_item u.item)) (statements_of_item u.item) h
 pass (rule.declarations k []) h = refl
-pass (rule.declarations k (d ∷ ds)) h = declarations_parts (spec_typing.typed_declaration k d) ds h
-pass (rule.declaration k d) h = kind_parts k d d.kind h
-pass (rule.indication regions objects s) h = one_there (spec_typing.unconstrained s.constraint) (spec.denoted regions objects s.mark) h
-pass (rule.value regions objects s i) h = one_there (spec_typing.value_for s i.others) (spec.judged regions objects i.value) h
+pass (rule.declarations k (d ∷ ds)) h = declarations_parts (spec.typed_declaration k d) ds h
+pass (rule.declaration k d) h = kind_parts k d.pos d.kind h
+pass (rule.indication regions objects s) h = one_there (spec.unconstrained s.constraint) (denoted regions objects s.mark) h
+pass (rule.value regions objects s i) h = one_there (spec.value_for s i.others) (judged regions objects i.value) h
 pass (rule.sequence k source_statement.no_statements) h = refl
-pass (rule.sequence k (source_statement.then_also s ss)) h = both_there (λ x xs. x ∷ xs) (spec_typing.typed_statement k s) (spec_typing.typed_statements k ss) h
-pass (rule.statement k (source_statement.call p n)) h = one_there (spec_typing.called (spec_typing.label_at k.places p)) (spec.denoted (regions_of k) k.objects n) h
-pass (rule.statement k (source_statement.assignment p n i)) h = assignment_parts k p (spec.denoted (regions_of k) k.objects n) i h
-pass (rule.statement k _) h = refl
-pass (rule.name regions objects (source.simple i)) h = refl
-pass (rule.name regions objects (source.selected n i)) h = one_there _ (spec.denoted regions objects n) h
-pass (rule.name regions objects (source.attribute n i)) h = one_there (spec.attribute_of (key i)) (spec.denoted regions objects n) h
-pass (rule.name regions objects (source.applied n es)) h = call_parts regions objects (spec.denoted regions objects n) es h
-pass (rule.arguments regions objects qs source.no_exprs) h = refl
-pass (rule.arguments regions objects qs (source.also e es)) h = both_there spec.with_front (spec.typed_actual regions objects (spec.first_parameter qs) e)
-    (spec.typed_actuals regions objects (drop 1 qs) es) h
-pass (rule.argument regions objects q e) h = one_there (spec.actual_for objects q) (spec.judged regions objects e) h
-pass (rule.expression regions objects (source.numeral p n)) h = refl
-pass (rule.expression regions objects (source.named p n)) h = one_there (spec.value_of objects) (spec.denoted regions objects n) h
-pass (rule.expression regions objects (source.parenthesized p e)) h = and_true (is_some (spec.judged regions objects e))
-    ∙ mapped_there spec.enclosed (spec.judged regions objects e) h
-pass (rule.expression regions objects (source.unary p op e)) h = one_there (spec.signed_of op) (spec.judged regions objects e) h
-pass (rule.expression regions objects (source.binary p a op b)) h = operands_there (spec.operation_of op) (spec.judged regions objects a) (spec.judged regions objects b) h
-pass (rule.expression regions objects (source.relation p a op b)) h = refl
-pass (rule.expression regions objects (source.logical p a op b)) h = refl
+pass (rule.sequence k (source_statement.then_also s ss)) h = both_there (λ x xs. x ∷ xs) (spec.typed_statement k s) (spec.typed_statements (past k (objects_in s)) ss) h
+pass (rule.statement k s) h = pass_statement k s h
+pass (rule.branches k source_statement.no_branches) h = refl
+pass (rule.branches k (source_statement.branch e ss bs)) h = branch_parts (spec.chosen (decision_label k e)) (tested_in k e) (spec.typed_statements k ss)
+    (spec.typed_branches (past k (objects_in_all ss)) bs) h
+pass (rule.phrase x) h = refl
 
 among_passes : (d : Construct) (cs : List Construct) → Among d cs → list_all holds cs ≡ true → holds d ≡ true
 among_passes d [] a h = elim a [ ]
@@ -172,6 +198,7 @@ part_fails c d a h = by (holds c) refl
 offends_fails : {c : Construct} {p : Pos} → Offends c p → holds c ≡ false
 offends_fails (itself all h) = h
 offends_fails {c} (within {d = d} a o) = part_fails c d a (offends_fails o)
+offends_fails (rule.in_phrase o) = phrase.offends_fails o
 
 none_where : {X : Type 0} (o : Option X) → is_some o ≡ false → o ≡ None
 none_where None h = refl
@@ -181,7 +208,7 @@ untyped : (units : List LibraryUnit) (o : Option ℕ) → typed units ≡ None �
 untyped units None h = refl
 untyped units (Some m) h = rw h refl
 
-too_large : (units : List LibraryUnit) (o : Option ℕ) (ss : List Subprogram) (p : Pos) → typed units ≡ Some ss → spec_typing.too_many_words units ss ≡ Some p →
+too_large : (units : List LibraryUnit) (o : Option ℕ) (ss : List Subprogram) (p : Pos) → typed units ≡ Some ss → spec.too_many_words units ss ≡ Some p →
     option_and_then (program_of_main units) o ≡ None
 too_large units None ss p all h = refl
 too_large units (Some m) ss p all h = rw (all, h) refl

@@ -1,10 +1,9 @@
-pub mod Chains
 pub mod Steps
-pub mod Order
 pub mod Blame
-pub mod ExpressionLaws
+pub mod ContextLaws
 pub mod DeclarationLaws
 pub mod StatementLaws
-pub mod UnitLaws
+pub mod BodyLaws
 pub mod Programs
 pub mod Laws
+pub mod UnitLaws

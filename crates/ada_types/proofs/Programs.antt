@@ -8,7 +8,7 @@ use Rattle.ada_names.specs.declared.fault.NameFault.{NameFault}
 use Rattle.ada_names.specs.Naming.{named, main_from}
 use Rattle.ada_names.specs.Rules as names
 use Rattle.ada_names.specs.Answer as naming
-use Rattle.ada_types.specs.declared.fault.TypeFault.{TypeFault}
+use Rattle.ada_expressions.specs.declared.fault.TypeFault.{TypeFault}
 use Rattle.ada_types.specs.Typing.{too_many_words, block_words, word_limit}
 use Rattle.ada_types.specs.Legal.{typed, program_with, typed_program}
 use Rattle.ada_types.specs.Rules.{program}

@@ -2,12 +2,10 @@
 use Rattle.std.specs.Prelude.{◌≡◌, Option, Some, Result, Ok, Err}
 use Rattle.cov_base.specs.declared.position.Pos.{Pos}
 use Rattle.cov_base.specs.declared.failure.Failure.{Failure}
-use Rattle.cov_base.specs.declared.failure.Failure.TheVariants.{Fault, WantOfMemory}
-use Rattle.ada_types.specs.declared.fault.TypeFault.{TypeFault}
+use Rattle.cov_base.specs.declared.failure.Failure.TheVariants.{WantOfMemory}
+use Rattle.ada_expressions.specs.declared.fault.TypeFault.{TypeFault}
+use Rattle.ada_expressions.specs.Answer.{mistyped}
 use Rattle.ada_types.specs.Rules.{Construct, Offends}
-
-abbrev pub mistyped : Pos → Failure TypeFault
-mistyped p = Fault (record { pos = p })
 
 -- the refusal of a construct
 pub data Refused : Construct → Failure TypeFault → Type 0 where

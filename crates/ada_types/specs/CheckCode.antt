@@ -2,7 +2,7 @@
 use Rattle.cov_base.specs.declared.failure.Failure.{Failure}
 use Rattle.cov_base.specs.declared.failure.Failure.TheVariants.{Fault, WantOfMemory}
 use Rattle.ada_names.specs.declared.fault.NameFault.{NameFault}
-use Rattle.ada_types.specs.declared.fault.TypeFault.{TypeFault}
+use Rattle.ada_expressions.specs.declared.fault.TypeFault.{TypeFault}
 use Rattle.ada_types.specs.declared.fault.CheckFault.{CheckFault}
 use Rattle.ada_types.specs.declared.fault.CheckFault.TheVariants as whole
 

@@ -5,11 +5,12 @@ use Rattle.std.specs.Str.{str_to_ascii_lowercase}
 use Rattle.ada_syntax.specs.declared.unit.Unit.{Unit as LibraryUnit}
 use Rattle.ada_meaning.specs.Program.{Subprogram, Program}
 use Rattle.ada_names.specs.Naming.{library_of, main_from, named}
-use Rattle.ada_types.specs.Typing.{typed_units, places_of, too_many_words}
+use Rattle.ada_places.specs.Places.{all_places_of}
+use Rattle.ada_types.specs.Typing.{typed_units, too_many_words}
 
 -- the subprograms of units that keep the rules on types
 abbrev pub typed : List LibraryUnit → Option (List Subprogram)
-typed units = typed_units (library_of units).region (places_of units) 0 units
+typed units = typed_units (library_of units).region (all_places_of units) 0 units
 
 -- a program without packages
 abbrev pub program_with : ℕ → List Subprogram → Program

@@ -1,10 +1,7 @@
-pub mod Kinds
-pub mod Expressions
 pub mod Typing
-pub mod Order
 pub mod Rules
 pub mod Answer
 pub mod Legal
 pub mod Checked
-pub mod TypingCode
 pub mod CheckCode
+pub mod TypingCode

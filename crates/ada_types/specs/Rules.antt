@@ -1,5 +1,5 @@
 -- Where a refusal by the rules on types stands (Ada RM 2012, 3 to 6).
-use Rattle.std.specs.Prelude.{◌≡◌, ℕ, ◌+◌, Bool, false, true, List, [], ◌∷◌, drop, Option, Some, None, is_some}
+use Rattle.std.specs.Prelude.{◌≡◌, ℕ, ◌+◌, Bool, false, true, List, [], ◌∷◌, ◌++◌, Option, Some, None, is_some}
 use Rattle.std.specs.List.{list_all}
 use Rattle.cov_base.specs.declared.position.Pos.{Pos}
 use Rattle.ada_syntax.specs.Tree as source
@@ -11,23 +11,28 @@ use Rattle.ada_syntax.specs.declared.declaration.DeclarationKind.{DeclarationKin
 use Rattle.ada_syntax.specs.declared.declaration.DeclarationKind.TheVariants as declares
 use Rattle.ada_syntax.specs.declared.declaration.Initial.{Initial}
 use Rattle.ada_syntax.specs.declared.declaration.SubtypeIndication.{SubtypeIndication}
+use Rattle.ada_syntax.specs.declared.statement.LoopScheme.{LoopScheme}
+use Rattle.ada_syntax.specs.declared.statement.LoopScheme.TheVariants as scheme
 use Rattle.ada_syntax.specs.declared.unit.Unit.{Unit as LibraryUnit}
 use Rattle.ada_names.specs.Names.{Region}
 use Rattle.ada_names.specs.Library.{declarations_of_item, statements_of_item}
 use Rattle.ada_names.specs.Naming.{library_of}
-use Rattle.ada_types.specs.declared.denoted.Denoted.{Denoted}
-use Rattle.ada_types.specs.declared.kind.DeclaredObject.{DeclaredObject}
-use Rattle.ada_types.specs.declared.kind.Parameter.{Parameter}
-use Rattle.ada_types.specs.declared.kind.ScalarSubtype.{ScalarSubtype}
+use Rattle.ada_names.specs.Naming.{declarations_in}
+use Rattle.ada_names.specs.Library.{statements_in}
+use Rattle.ada_places.specs.declared.places.Places.{Places}
+use Rattle.ada_places.specs.Places.{all_places_of}
+use Rattle.ada_expressions.specs.declared.kind.DeclaredObject.{DeclaredObject}
+use Rattle.ada_expressions.specs.declared.kind.ScalarSubtype.{ScalarSubtype}
+use Rattle.ada_expressions.specs.Phrases.{Phrase, name, expression, decision}
+use Rattle.ada_expressions.specs.Phrases.{first_token as phrase_pos, holds as phrase_holds, Offends as PhraseOffends}
 use Rattle.ada_types.specs.declared.statements.Target.{Target}
-use Rattle.ada_types.specs.Expressions.{parameters_of, first_parameter, denoted, judged, typed_actual, typed_actuals}
-use Rattle.ada_types.specs.Typing.{Context, inner, regions_of, indicated, new_value, Elaborated, typed_declaration, typed_declarations, target_in, typed_statement, typed_statements, context_of, typed_unit, typed_units, places_of}
+use Rattle.ada_types.specs.Typing.{Context, inner, regions_of, past, in_loop, of_block, indicated, new_value, Elaborated, typed_declaration, typed_declarations, target_in, objects_in, objects_in_all, objects_in_branches, typed_statement, typed_statements, typed_branches, context_of, typed_unit, typed_units}
 
 -- the parts of a text that a rule on types speaks of, with the regions that are visible there and the objects that are declared
 pub data Construct : Type 0 where
   program : List LibraryUnit → Construct
-  -- a unit by its number, in a library; with the places of all statement obligations
-  unit : Region → List Pos → ℕ → LibraryUnit → Construct
+  -- a unit by its number, in a library; with the places of all obligations
+  unit : Region → Places → ℕ → LibraryUnit → Construct
   declarations : Context → List Declaration → Construct
   declaration : Context → Declaration → Construct
   indication : List Region → List DeclaredObject → SubtypeIndication → Construct
@@ -35,11 +40,10 @@ pub data Construct : Type 0 where
   value : List Region → List DeclaredObject → ScalarSubtype → Initial → Construct
   sequence : Context → source_statement.Statements → Construct
   statement : Context → source_statement.Statement → Construct
-  name : List Region → List DeclaredObject → source.Name → Construct
-  arguments : List Region → List DeclaredObject → List Parameter → source.Exprs → Construct
-  -- an actual against its parameter, if there is one
-  argument : List Region → List DeclaredObject → Option Parameter → source.Expr → Construct
-  expression : List Region → List DeclaredObject → source.Expr → Construct
+  -- `elsif` and what follows it
+  branches : Context → source_statement.Branches → Construct
+  -- a part inside a declaration or a statement
+  phrase : Phrase → Construct
 
 -- where a file begins
 abbrev pub beginning : Pos
@@ -53,9 +57,9 @@ abbrev pub first_of_statements : source_statement.Statements → Pos
 first_of_statements source_statement.no_statements = beginning
 first_of_statements (source_statement.then_also s ss) = statement_pos s
 
-abbrev pub first_of_exprs : source.Exprs → Pos
-first_of_exprs source.no_exprs = beginning
-first_of_exprs (source.also e es) = expr_pos e
+abbrev pub first_of_branches : source_statement.Branches → Pos
+first_of_branches source_statement.no_branches = beginning
+first_of_branches (source_statement.branch e ss bs) = expr_pos e
 
 -- of `(others => ..)` the parenthesis
 abbrev pub first_of_value : List Pos → source.Expr → Pos
@@ -72,13 +76,11 @@ first_token (indication regions objects s) = name_pos s.mark
 first_token (value regions objects s i) = first_of_value i.others i.value
 first_token (sequence k ss) = first_of_statements ss
 first_token (statement k s) = statement_pos s
-first_token (name regions objects n) = name_pos n
-first_token (arguments regions objects qs es) = first_of_exprs es
-first_token (argument regions objects q e) = expr_pos e
-first_token (expression regions objects e) = expr_pos e
+first_token (branches k bs) = first_of_branches bs
+first_token (phrase x) = phrase_pos x
 
 -- the constructs that stand directly in one; what is typed by what stands before it is none where that is not typed
-abbrev pub units_from : Region → List Pos → ℕ → List LibraryUnit → List Construct
+abbrev pub units_from : Region → Places → ℕ → List LibraryUnit → List Construct
 units_from library places n [] = []
 units_from library places n (u ∷ us) = unit library places n u ∷ units_from library places (n + 1) us
 
@@ -104,65 +106,61 @@ abbrev pub value_assigned : Context → Option Target → Initial → List Const
 value_assigned k None i = []
 value_assigned k (Some t) i = value (regions_of k) k.objects t.subtype i ∷ []
 
-abbrev pub parts_of_statement : Context → source_statement.Statement → List Construct
-parts_of_statement k (source_statement.call p n) = name (regions_of k) k.objects n ∷ []
-parts_of_statement k (source_statement.assignment p n i) = name (regions_of k) k.objects n ∷ value_assigned k (target_in k n) i
-parts_of_statement k _ = []
+abbrev pub decision_in : Context → source.Expr → Construct
+decision_in k e = phrase (decision (regions_of k) k.objects e)
 
-abbrev pub parts_of_statements : Context → source_statement.Statements → List Construct
-parts_of_statements k source_statement.no_statements = []
-parts_of_statements k (source_statement.then_also s ss) = statement k s ∷ sequence k ss ∷ []
+abbrev pub parts_of_scheme : Context → LoopScheme → List Construct
+parts_of_scheme k scheme.Forever = []
+parts_of_scheme k (scheme.While e) = decision_in k e ∷ []
+parts_of_scheme k (scheme.For i d r) = []
 
-abbrev pub parameters_behind : Option Denoted → List Parameter
-parameters_behind None = []
-parameters_behind (Some d) = parameters_of d
-
-abbrev pub parts_of_name : List Region → List DeclaredObject → source.Name → List Construct
-parts_of_name regions objects (source.simple i) = []
-parts_of_name regions objects (source.selected n i) = name regions objects n ∷ []
-parts_of_name regions objects (source.attribute n i) = name regions objects n ∷ []
-parts_of_name regions objects (source.applied n es) =
-    name regions objects n ∷ arguments regions objects (parameters_behind (denoted regions objects n)) es ∷ []
-
-abbrev pub parts_of_arguments : List Region → List DeclaredObject → List Parameter → source.Exprs → List Construct
-parts_of_arguments regions objects qs source.no_exprs = []
-parts_of_arguments regions objects qs (source.also e es) =
-    argument regions objects (first_parameter qs) e ∷ arguments regions objects (drop 1 qs) es ∷ []
-
-abbrev pub parts_of_expr : List Region → List DeclaredObject → source.Expr → List Construct
-parts_of_expr regions objects (source.numeral p x) = []
-parts_of_expr regions objects (source.named p n) = name regions objects n ∷ []
-parts_of_expr regions objects (source.parenthesized p e) = expression regions objects e ∷ []
-parts_of_expr regions objects (source.unary p op e) = expression regions objects e ∷ []
-parts_of_expr regions objects (source.binary p a op b) = expression regions objects a ∷ expression regions objects b ∷ []
-parts_of_expr regions objects (source.relation p a op b) = []
-parts_of_expr regions objects (source.logical p a op b) = []
+abbrev pub parts_of_exit : Context → Option source.Expr → List Construct
+parts_of_exit k None = []
+parts_of_exit k (Some e) = decision_in k e ∷ []
 
 abbrev pub sequence_behind : Option Elaborated → source_statement.Statements → List Construct
 sequence_behind None ss = []
 sequence_behind (Some x) ss = sequence x.context ss ∷ []
 
+abbrev pub parts_of_block : Context → List Declaration → source_statement.Statements → List Construct
+parts_of_block k ds ss = declarations k ds ∷ sequence_behind (typed_declarations k ds) ss
+
+abbrev pub parts_of_statement : Context → source_statement.Statement → List Construct
+parts_of_statement k (source_statement.call p n) = phrase (name (regions_of k) k.objects n) ∷ []
+parts_of_statement k (source_statement.assignment p n i) = phrase (name (regions_of k) k.objects n) ∷ value_assigned k (target_in k n) i
+parts_of_statement k (source_statement.conditional p e ss bs es) =
+    decision_in k e ∷ sequence k ss ∷ branches (past k (objects_in_all ss)) bs ∷ sequence (past k (objects_in_all ss + objects_in_branches bs)) es ∷ []
+parts_of_statement k (source_statement.repeat p s ss) = parts_of_scheme k s ++ sequence (in_loop k) ss ∷ []
+parts_of_statement k (source_statement.exit p e) = parts_of_exit k e
+parts_of_statement k (source_statement.block p ds h) = parts_of_block (of_block k) (declarations_in ds) (statements_in h)
+parts_of_statement k _ = []
+
+abbrev pub parts_of_statements : Context → source_statement.Statements → List Construct
+parts_of_statements k source_statement.no_statements = []
+parts_of_statements k (source_statement.then_also s ss) = statement k s ∷ sequence (past k (objects_in s)) ss ∷ []
+
+abbrev pub parts_of_branches : Context → source_statement.Branches → List Construct
+parts_of_branches k source_statement.no_branches = []
+parts_of_branches k (source_statement.branch e ss bs) = decision_in k e ∷ sequence k ss ∷ branches (past k (objects_in_all ss)) bs ∷ []
+
 abbrev pub parts_of_unit : Context → LibraryUnit → List Construct
-parts_of_unit k u =
-    declarations k (declarations_of_item u.item) ∷ sequence_behind (typed_declarations k (declarations_of_item u.item)) (statements_of_item u.item)
+parts_of_unit k u = parts_of_block k (declarations_of_item u.item) (statements_of_item u.item)
 
 abbrev pub parts : Construct → List Construct
-parts (program units) = units_from (library_of units).region (places_of units) 0 units
+parts (program units) = units_from (library_of units).region (all_places_of units) 0 units
 parts (unit library places n u) = parts_of_unit (context_of library places n u) u
 parts (declarations k ds) = parts_of_declarations k ds
 parts (declaration k d) = parts_of_kind k d.kind
-parts (indication regions objects s) = name regions objects s.mark ∷ []
-parts (value regions objects s i) = expression regions objects i.value ∷ []
+parts (indication regions objects s) = phrase (name regions objects s.mark) ∷ []
+parts (value regions objects s i) = phrase (expression regions objects i.value) ∷ []
 parts (sequence k ss) = parts_of_statements k ss
 parts (statement k s) = parts_of_statement k s
-parts (name regions objects n) = parts_of_name regions objects n
-parts (arguments regions objects qs es) = parts_of_arguments regions objects qs es
-parts (argument regions objects q e) = expression regions objects e ∷ []
-parts (expression regions objects e) = parts_of_expr regions objects e
+parts (branches k bs) = parts_of_branches k bs
+parts (phrase x) = []
 
 -- whether a construct passes its case of the rules
 abbrev pub holds : Construct → Bool
-holds (program units) = is_some (typed_units (library_of units).region (places_of units) 0 units)
+holds (program units) = is_some (typed_units (library_of units).region (all_places_of units) 0 units)
 holds (unit library places n u) = is_some (typed_unit library places n u)
 holds (declarations k ds) = is_some (typed_declarations k ds)
 holds (declaration k d) = is_some (typed_declaration k d)
@@ -170,10 +168,8 @@ holds (indication regions objects s) = is_some (indicated regions objects s)
 holds (value regions objects s i) = is_some (new_value regions objects s i)
 holds (sequence k ss) = is_some (typed_statements k ss)
 holds (statement k s) = is_some (typed_statement k s)
-holds (name regions objects n) = is_some (denoted regions objects n)
-holds (arguments regions objects qs es) = is_some (typed_actuals regions objects qs es)
-holds (argument regions objects q e) = is_some (typed_actual regions objects q e)
-holds (expression regions objects e) = is_some (judged regions objects e)
+holds (branches k bs) = is_some (typed_branches k bs)
+holds (phrase x) = phrase_holds x
 
 -- one of a list
 pub data Among (c : Construct) : List Construct → Type 0 where
@@ -184,6 +180,7 @@ pub data Among (c : Construct) : List Construct → Type 0 where
 pub data Offends : Construct → Pos → Type 0 where
   itself : {c : Construct} → list_all holds (parts c) ≡ true → holds c ≡ false → Offends c (first_token c)
   within : {c d : Construct} {p : Pos} → Among d (parts c) → Offends d p → Offends c p
+  in_phrase : {x : Phrase} {p : Pos} → PhraseOffends x p → Offends (phrase x) p
 
 -- units break a rule on types here
 abbrev pub BreaksTypes : List LibraryUnit → Pos → Type 0

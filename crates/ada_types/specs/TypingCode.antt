@@ -1,76 +1,108 @@
--- How the code goes through names, expressions, declarations and units.
-use Rattle.std.specs.Prelude.{◌≡◌, ℕ, nat_eq, true, List, [], ◌∷◌, ◌++◌, map, length, Option, Some, None, option_map, Result, Ok, Err, if◌then◌else◌}
+-- How the code goes through declarations, statements and units.
+use Rattle.std.specs.Prelude.{◌≡◌, ℕ, ◌+◌, nat_eq, true, List, [], ◌∷◌, ◌++◌, map, length, Option, Some, None, option_map, Result, Ok, Err, if◌then◌else◌}
 use Rattle.std.specs.List.{list_all}
 use Rattle.std.specs.Option.{option_and_then}
 use Rattle.std.specs.declared.vec.Vec.{Vec}
 use Rattle.std.specs.declared.alloc.Global.{Global}
-use Rattle.cov_base.specs.declared.position.Pos.{Pos}
 use Rattle.cov_base.specs.declared.failure.Failure.{Failure}
 use Rattle.cov_base.specs.declared.failure.Failure.TheVariants.{WantOfMemory}
-use Rattle.ada_syntax.specs.Tree.{Expr, Name, name_pos}
-use Rattle.ada_syntax.specs.TreeView as source
+use Rattle.ada_syntax.specs.Tree as source
+use Rattle.ada_syntax.specs.StatementTree as source_statement
 use Rattle.ada_syntax.specs.declared.declaration.Declaration.{Declaration as SourceDeclaration}
 use Rattle.ada_syntax.specs.declared.declaration.Initial.{Initial}
-use Rattle.ada_syntax.specs.declared.expr.Operand.{Operand}
 use Rattle.ada_syntax.specs.declared.name.Identifier.{Identifier}
-use Rattle.ada_syntax.specs.declared.name.Suffix.{Suffix}
 use Rattle.ada_syntax.specs.declared.unit.Unit.{Unit as LibraryUnit}
 use Rattle.ada_meaning.specs.Tree as tree
 use Rattle.ada_meaning.specs.Program as meaning
 use Rattle.ada_tree.specs.declared.program.Subprogram.{Subprogram}
+use Rattle.ada_tree.specs.declared.statement.Branch.{Branch}
+use Rattle.ada_tree.specs.declared.statement.Decision.{Decision}
 use Rattle.ada_tree.specs.declared.statement.Declaration.{Declaration}
-use Rattle.ada_tree.specs.View.{with_operands, declaration_of, subprogram_of}
+use Rattle.ada_tree.specs.View.{declaration_of, label_of, subprogram_of}
 use Rattle.ada_names.specs.Names.{Region}
 use Rattle.ada_names.specs.Library.{regions_in}
-use Rattle.ada_types.specs.declared.fault.TypeFault.{TypeFault}
-use Rattle.ada_types.specs.declared.declarations.Declared.{Declared}
-use Rattle.ada_types.specs.declared.denoted.Denoted.{Denoted}
-use Rattle.ada_types.specs.declared.judged.Judged.{Judged}
-use Rattle.ada_types.specs.declared.judged.Chain.{Chain}
-use Rattle.ada_types.specs.declared.kind.DeclaredObject.{DeclaredObject}
-use Rattle.ada_types.specs.Kinds.{is_variable}
-use Rattle.ada_types.specs.Expressions.{denoted, judged}
-use Rattle.ada_types.specs.Typing.{Context, Elaborated, without_values, new_value, typed_declaration, typed_units}
-use Rattle.ada_types.specs.Rules.{Construct, declaration, value_behind, units_from, holds, Among}
+use Rattle.ada_names.specs.Naming.{declared_by}
+use Rattle.ada_names.specs.ScopeView.{innermost, enclosing}
+use Rattle.ada_places.specs.declared.places.Places.{Places}
+use Rattle.ada_expressions.specs.declared.fault.TypeFault.{TypeFault}
+use Rattle.ada_expressions.specs.declared.kind.DeclaredObject.{DeclaredObject}
+use Rattle.ada_expressions.specs.Kinds.{is_variable}
+use Rattle.ada_types.specs.declared.context.Around.{Around}
+use Rattle.ada_types.specs.declared.context.Declared.{Declared}
+use Rattle.ada_types.specs.declared.context.Looping.{Looping as InLoop}
+use Rattle.ada_types.specs.declared.context.Looping.TheVariants as in_loop
+use Rattle.ada_types.specs.Typing.{Context, Looping, outside_loops, inside_loop, Chosen, chosen, block_of, decision_label, tested_in, declared_by_all, without_values, objects_of, new_value, typed_declaration, typed_declarations, typed_statements, typed_units}
+use Rattle.ada_types.specs.Rules.{Construct, declaration, declarations, sequence, decision_in, value_behind, units_from, holds, Among}
 use Rattle.ada_types.specs.Answer.{Refused}
-
--- operations so far, as one expression
-abbrev pub judged_chain : Chain → Judged
-judged_chain c = record { expr = with_operands c.first c.others.items; kind = c.kind; object = c.object }
-
--- operations were read up to these operands, and are this so far
-pub record Chained (regions : List Region) (objects : List DeclaredObject) (whole : Expr) (p : Pos) (x : Judged) (rest : List Operand) : Type 0 where
-  pub front : Expr
-  pub same : source.with_operands p front rest ≡ whole
-  pub means : judged regions objects front ≡ Some x
-
--- a name was read up to these parts, and denotes this so far
-pub record Through (regions : List Region) (objects : List DeclaredObject) (whole : Name) (p : Pos) (d : Denoted) (rest : List Suffix) : Type 0 where
-  pub front : Name
-  pub same : source.with_suffixes front rest ≡ whole
-  pub means : denoted regions objects front ≡ Some d
-  pub begins : name_pos front ≡ p
 
 -- one of these constructs is refused
 pub data SomeRefused (cs : List Construct) : Failure TypeFault → Type 0 where
   one_of : {c : Construct} {f : Failure TypeFault} → Among c cs → Refused c f → SomeRefused cs f
   memory_refused : SomeRefused cs WantOfMemory
 
+abbrev pub looping_of : InLoop → Looping
+looping_of in_loop.Outside = outside_loops
+looping_of in_loop.Inside = inside_loop
+
+-- where these regions stand one in the other, the innermost first
+abbrev pub context_with : List Region → List DeclaredObject → (next : ℕ) → Looping → Places → Context
+context_with regions objects n l places =
+    record { outer = enclosing regions; region = innermost regions; objects = objects; next = n; looping = l; places = places }
+
+-- the regions that are visible: of the subprogram, and what the unit sees of the library
+abbrev pub visible_regions : Around → Declared → List Region
+visible_regions a d = d.locals ++ regions_in a.seen.now
+
+-- what is typed next is typed in
+abbrev pub context : Around → Declared → Context
+context a d = context_with (visible_regions a d) d.objects.items d.next (looping_of a.looping) a.places.now
+
+-- at the declarations of a body or a block
+abbrev pub opened : Around → Declared → Context
+opened a d = record {
+  outer = visible_regions a d;
+  region = [];
+  objects = d.objects.items;
+  next = d.next;
+  looping = looping_of a.looping;
+  places = a.places.now;
+}
+
+-- Behind a part that declares so many objects in blocks of its own: these are no longer visible, and their numbers are taken.
+pub record Passed (n : ℕ) (old new : Declared) : Type 0 where
+  pub locals : new.locals ≡ old.locals
+  pub objects : new.objects.items ≡ old.objects.items
+  pub next : new.next ≡ old.next + n
+
+pub record Kept {A : Type 0} (typed : Option A) (x : A) (n : ℕ) (old new : Declared) : Type 0 where
+  pub form : typed ≡ Some x
+  pub passed : Passed n old new
+
+-- the typed form of a construct that declares so many objects in blocks of its own, or a refusal
+abbrev pub Types : {A B : Type 0} → (A → B) → Option B → (n : ℕ) → Construct → (old : Declared) → (new : Declared) → Result A (Failure TypeFault) → Type 0
+Types view typed n c old new (Ok x) = Kept typed (view x) n old new
+Types view typed n c old new (Err f) = Refused c f
+
+-- the same of what is made of these constructs
+abbrev pub TypesParts : {A B : Type 0} → (A → B) → Option B → (n : ℕ) → List Construct → (old : Declared) → (new : Declared) → Result A (Failure TypeFault) → Type 0
+TypesParts view typed n cs old new (Ok x) = Kept typed (view x) n old new
+TypesParts view typed n cs old new (Err f) = SomeRefused cs f
+
 abbrev pub declarations_view : Vec Declaration Global → List tree.Declaration
 declarations_view ds = map declaration_of ds.items
 
--- objects that are declared together: without initial values, the first with this number
-abbrev pub bare : ℕ → List Identifier → DeclaredObject → Option (List tree.Declaration)
-bare n is o = if is_variable o.constancy then Some (without_values n o.subtype.range is) else None
+-- objects that are declared together, of which this is the first: without initial values
+abbrev pub bare : List Identifier → DeclaredObject → Option (List tree.Declaration)
+bare is o = if is_variable o.constancy then Some (without_values o.number o.subtype.range is) else None
 
 -- with an initial value
-abbrev pub set_to : tree.Label → ℕ → List Identifier → tree.NewValue → Option (List tree.Declaration)
-set_to l n is v = if nat_eq (length is) 1 then Some (tree.initialized l n v ∷ []) else None
+abbrev pub set_to : tree.Label → List Identifier → DeclaredObject → tree.NewValue → Option (List tree.Declaration)
+set_to l is o v = if nat_eq (length is) 1 then Some (tree.initialized l o.number v ∷ []) else None
 
 -- or as the declaration says
 abbrev pub declared_objects : List Region → List DeclaredObject → tree.Label → List Identifier → DeclaredObject → Option Initial → Option (List tree.Declaration)
-declared_objects regions objects l is o None = bare (length objects) is o
-declared_objects regions objects l is o (Some i) = option_and_then (set_to l (length objects) is) (new_value regions objects o.subtype i)
+declared_objects regions objects l is o None = bare is o
+declared_objects regions objects l is o (Some i) = option_and_then (set_to l is o) (new_value regions objects o.subtype i)
 
 pub record DeclaresAs (regions : List Region) (objects : List DeclaredObject) (l : tree.Label) (is : List Identifier) (o : DeclaredObject) (i : Option Initial) (typed : Option (List tree.Declaration)) : Type 0 where
   pub parts : list_all holds (value_behind regions objects (Some o.subtype) i) ≡ true
@@ -81,33 +113,65 @@ abbrev pub Declares : List Region → List DeclaredObject → tree.Label → Lis
 Declares regions objects l is o i (Ok x) = DeclaresAs regions objects l is o i (option_map declarations_view x)
 Declares regions objects l is o i (Err f) = SomeRefused (value_behind regions objects (Some o.subtype) i) f
 
--- what is typed next is typed in, in a unit that sees this of the library
-abbrev pub context : Region → List Pos → Declared → Context
-context seen places d = record { outer = regions_in seen; region = d.region; objects = d.objects.items; places = places }
+-- the objects that are declared together, of which this is the first
+abbrev pub objects_from : List Identifier → DeclaredObject → List DeclaredObject
+objects_from is o = objects_of o.number is o.constancy o.subtype
 
--- before the first declaration
-abbrev pub start : Region → List Pos → Context
-start seen places = record { outer = regions_in seen; region = []; objects = []; places = places }
-
--- what declarations came to
-abbrev pub elaborated : Region → List Pos → Declared → Elaborated
-elaborated seen places d = record { declarations = declarations_view d.declarations; context = context seen places d }
+-- so many objects were declared, in the innermost region
+pub record Grown (n : ℕ) (old new : Declared) : Type 0 where
+  pub locals : new.locals ≡ innermost new.locals ∷ enclosing old.locals
+  pub more : List DeclaredObject
+  pub objects : new.objects.items ≡ old.objects.items ++ more
+  pub next : new.next ≡ old.next + n
 
 -- a declaration was added
-pub record Added (seen : Region) (places : List Pos) (d : SourceDeclaration) (old new : Declared) : Type 0 where
-  pub which : Elaborated
-  pub typed : typed_declaration (context seen places old) d ≡ Some which
-  pub declarations : declarations_view new.declarations ≡ declarations_view old.declarations ++ which.declarations
-  pub after : context seen places new ≡ which.context
+pub record Added (a : Around) (d : SourceDeclaration) (old new : Declared) (ds : List tree.Declaration) : Type 0 where
+  pub form : typed_declaration (context a old) d ≡ Some (record { declarations = ds; context = context a new })
+  pub grown : Grown (declared_by d.kind) old new
 
-abbrev pub Adds : {A : Type 0} → Region → List Pos → SourceDeclaration → Declared → Declared → Result A (Failure TypeFault) → Type 0
-Adds seen places d old new (Ok x) = Added seen places d old new
-Adds seen places d old new (Err f) = Refused (declaration (context seen places old) d) f
+abbrev pub Adds : Around → SourceDeclaration → Declared → Declared → Result (Vec Declaration Global) (Failure TypeFault) → Type 0
+Adds a d old new (Ok ds) = Added a d old new (declarations_view ds)
+Adds a d old new (Err f) = Refused (declaration (context a old) d) f
+
+-- declarations were added
+pub record AddedAll (a : Around) (ds : List SourceDeclaration) (old new : Declared) (xs : List tree.Declaration) : Type 0 where
+  pub form : typed_declarations (context a old) ds ≡ Some (record { declarations = xs; context = context a new })
+  pub grown : Grown (declared_by_all ds) old new
+
+abbrev pub AddsAll : Around → List SourceDeclaration → Declared → Declared → Result (Vec Declaration Global) (Failure TypeFault) → Type 0
+AddsAll a ds old new (Ok xs) = AddedAll a ds old new (declarations_view xs)
+AddsAll a ds old new (Err f) = Refused (declarations (context a old) ds) f
+
+-- declarations and the statements behind them, as a body
+abbrev pub typed_parts : Context → List SourceDeclaration → source_statement.Statements → Option tree.Block
+typed_parts k ds ss = option_and_then (λ x. option_map (block_of x.declarations) (typed_statements x.context ss)) (typed_declarations k ds)
+
+-- a decision and its label, or its refusal
+pub record Decided (k : Context) (e : source.Expr) (d : Decision) : Type 0 where
+  pub test : tested_in k e ≡ Some d.test
+  pub label : label_of d.label ≡ decision_label k e
+
+abbrev pub Decides : Context → source.Expr → Result Decision (Failure TypeFault) → Type 0
+Decides k e (Ok d) = Decided k e d
+Decides k e (Err f) = Refused (decision_in k e) f
+
+-- a branch of an if statement
+abbrev pub chosen_of : Branch → Chosen
+chosen_of b = chosen (label_of b.decision.label) b.decision.test b.statements.items
+
+abbrev pub chosen_view : Vec Branch Global → List Chosen
+chosen_view bs = map chosen_of bs.items
+
+abbrev pub chosen_in : Context → source.Expr → source_statement.Statements → Option Chosen
+chosen_in k e ss = option_and_then (λ t. option_map (chosen (decision_label k e) t) (typed_statements k ss)) (tested_in k e)
+
+abbrev pub parts_of_branch : Context → source.Expr → source_statement.Statements → List Construct
+parts_of_branch k e ss = decision_in k e ∷ sequence k ss ∷ []
 
 abbrev pub subprograms_view : Vec Subprogram Global → List meaning.Subprogram
 subprograms_view ss = map subprogram_of ss.items
 
 -- units of a library and their typed forms, or a refusal of one
-abbrev pub ShowsUnits : Region → List Pos → List LibraryUnit → Result (Vec Subprogram Global) (Failure TypeFault) → Type 0
+abbrev pub ShowsUnits : Region → Places → List LibraryUnit → Result (Vec Subprogram Global) (Failure TypeFault) → Type 0
 ShowsUnits library places units (Ok ss) = typed_units library places 0 units ≡ Some (subprograms_view ss)
 ShowsUnits library places units (Err f) = SomeRefused (units_from library places 0 units) f

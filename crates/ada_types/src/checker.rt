@@ -13,8 +13,9 @@ ghost use Rattle.ada_types.specs.Legal.{elaborated, typed};
 ghost use Rattle.ada_types.specs.Checked.{Refuses, entry_of};
 ghost use Rattle.ada_types.specs.CheckCode.{naming_of, typing_of};
 
-use crate::fault::{CheckFault, LimitFault, TypeFault};
+use crate::fault::{CheckFault, LimitFault};
 use crate::units::typed_program;
+use ada_expressions::TypeFault;
 use ada_names::{Library, NameFault, Named, broken_names_are_not_named, check_names};
 use ada_syntax::{Unit, node_count};
 use ada_tree::{Program, Subprogram, UnitEntry};
@@ -73,13 +74,14 @@ fn subprograms(
 }
 
 /// The most words that a subprogram may declare.
-const WORD_LIMIT: usize = 2048;
+const WORD_LIMIT: u32 = 2048;
 
-/// Whether a subprogram declares no more words than it may: each object has one.
+/// Whether a subprogram declares no more words than it may, with those of its blocks: each object has
+/// one.
 fn is_within_words(subprogram: &Subprogram) -> bool
     ensures { result ≡ nat_le (spec.block_words (subprogram_of subprogram.now).body) spec.word_limit }
 {
-    subprogram.body.declarations.len() <= WORD_LIMIT
+    subprogram.body.objects() <= WORD_LIMIT
 }
 
 /// The place of the first unit whose subprogram declares too many words.

@@ -1,21 +1,21 @@
 //! Declarations of objects (Ada RM 2012, 3.3.1).
 
-ghost use Rattle.std.specs.Prelude.{◌≡◌, ℕ, [], ◌++◌, map, option_map, IfOk, OnOk};
-ghost use Rattle.ada_tree.specs.View.{declaration_of, label_of, value_of, range_of};
-ghost use Rattle.ada_names.specs.Names as regions;
-ghost use Rattle.ada_names.specs.ScopeView.{regions_of};
+ghost use Rattle.std.specs.Prelude.{◌≡◌, [], ◌+◌, ◌++◌, map, length, option_map, IfOk, OnOk};
+ghost use Rattle.ada_tree.specs.View.{declaration_of, label_of, value_of};
+ghost use Rattle.ada_names.specs.ScopeView.{regions_of, with_objects};
+ghost use Rattle.ada_names.specs.LocalsCode.{IsOpen};
 ghost use Rattle.ada_types.specs.Typing as spec;
 ghost use Rattle.ada_types.specs.Rules as rules;
 ghost use Rattle.ada_types.specs.Answer.{Shows};
-ghost use Rattle.ada_types.specs.TypingCode.{Adds, Declares, bare, set_to, declarations_view, start, elaborated};
+ghost use Rattle.ada_types.specs.TypingCode.{Adds, AddsAll, Declares, bare, set_to, declarations_view, objects_from};
 
-use crate::denoted::Denoted;
-use crate::expressions::{denoted, judged};
-use crate::fault::{TypeFault, mistyped};
-use crate::judged::Judged;
-use crate::kind::{DeclaredObject, ScalarSubtype, fits, is_variable, subtype_of_entity};
-use crate::places::{Places, label_at};
-use ada_names::{Region, Scope, declare_objects, hiding, numbered};
+use crate::context::{Around, Declared};
+use ada_expressions::expressions::{denoted, judged};
+use ada_expressions::{
+    DeclaredObject, Denoted, Judged, ScalarSubtype, TypeFault, fits, is_variable, mistyped,
+    subtype_of_entity,
+};
+use ada_names::{Scope, hiding, numbered};
 use ada_syntax::{Bounds, Declaration, DeclarationKind, Identifier, Initial, SubtypeIndication};
 use ada_tree::{Label, NewValue, Range, Subtype};
 use cov_base::{Failure, Pos};
@@ -105,14 +105,14 @@ pub fn new_value(
 #[tactic(auto, using(crate::proofs::Steps::viewed))]
 fn without_values(
     alloc: Global,
-    first: usize,
+    first: u32,
     range: Range,
     names: &[Identifier],
 ) -> Result<Vec<ada_tree::Declaration>, AllocError>
     ensures { IfOk result (λ v. map declaration_of v.items ≡ spec.without_values first range names.now) }
 {
     let mut declarations = Vec::new(alloc);
-    let mut next = first;
+    let mut next = first as usize;
     for _name in names {
         let number = numbered(next)?;
         declarations.push(ada_tree::Declaration::WithoutValue(number, Subtype::Scalar(range)))?;
@@ -121,17 +121,16 @@ fn without_values(
     Ok(declarations)
 }
 
-/// Objects without initial values: variables alone.
+/// Objects without initial values, of which this is the first: variables alone.
 fn declared_bare(
     alloc: Global,
-    first: usize,
     names: &[Identifier],
     object: DeclaredObject,
 ) -> Result<Option<Vec<ada_tree::Declaration>>, AllocError>
-    ensures { IfOk result (λ o. bare first names.now object ≡ option_map declarations_view o) }
+    ensures { IfOk result (λ o. bare names.now object ≡ option_map declarations_view o) }
 {
     if is_variable(object.constancy) {
-        let declarations = without_values(alloc, first, object.subtype.range, names)?;
+        let declarations = without_values(alloc, object.number, object.subtype.range, names)?;
         Ok(Some(declarations))
     } else {
         Ok(None)
@@ -142,24 +141,23 @@ fn declared_bare(
 fn declared_set(
     alloc: Global,
     label: Label,
-    number: usize,
     names: &[Identifier],
+    object: DeclaredObject,
     value: NewValue,
 ) -> Result<Option<Vec<ada_tree::Declaration>>, AllocError>
-    ensures { IfOk result (λ o. set_to (label_of label) number names.now (value_of value) ≡ option_map declarations_view o) }
+    ensures { IfOk result (λ o. set_to (label_of label) names.now object (value_of value) ≡ option_map declarations_view o) }
 {
     if names.len() == 1 {
-        let number = numbered(number)?;
         let mut declarations = Vec::new(alloc);
-        declarations.push(ada_tree::Declaration::Initialized(label, number, value))?;
+        declarations.push(ada_tree::Declaration::Initialized(label, object.number, value))?;
         Ok(Some(declarations))
     } else {
         Ok(None)
     }
 }
 
-/// The typed form of objects that are declared together, by the label of their declaration. They are
-/// numbered behind these objects.
+/// The typed form of objects that are declared together, by the label of their declaration. This is
+/// the first of them; these are visible before it.
 #[tactic(auto, using(crate::proofs::Blame::blames))]
 fn typed_objects(
     alloc: Global,
@@ -173,66 +171,67 @@ fn typed_objects(
     ensures { Declares (regions_of scope.now) objects.now (label_of label) names.now object initial.now result }
 {
     match initial {
-        None => Ok(declared_bare(alloc, objects.len(), names, object)?),
+        None => Ok(declared_bare(alloc, names, object)?),
         Some(initial) => {
             let value = new_value(alloc, scope, objects, object.subtype, initial)?;
-            Ok(declared_set(alloc, label, objects.len(), names, value)?)
+            Ok(declared_set(alloc, label, names, object, value)?)
         }
     }
 }
 
-/// What a subprogram declares so far: its region, its objects by their numbers, and the typed forms of
-/// the declarations.
-#[derive(Drop)]
-pub struct Declared {
-    pub region: Region,
-    pub objects: Vec<DeclaredObject>,
-    pub declarations: Vec<ada_tree::Declaration>,
-}
-
-/// Adds an object for each name.
+/// Adds an object for each name, of which this is the first.
 #[tactic(auto, using(crate::proofs::Steps::appended))]
 fn push_objects(
     names: &[Identifier],
-    object: DeclaredObject,
+    first: DeclaredObject,
     objects: &mut Vec<DeclaredObject>,
 ) -> Result<(), AllocError>
-    ensures { OnOk result (objects.new.items ≡ objects.old.items ++ spec.objects_of names.now object) }
+    ensures { OnOk result (objects.new.items ≡ objects.old.items ++ objects_from names.now first) }
 {
+    let mut next = first.number as usize;
     for _name in names {
-        objects.push(object)?;
+        let number = numbered(next)?;
+        objects.push(DeclaredObject { number, ..first })?;
+        next += 1;
     }
     Ok(())
 }
 
-/// Adds objects that are declared together.
+/// The number behind so many objects.
+fn number_behind(first: u32, names: &[Identifier]) -> Result<u32, AllocError>
+    ensures { IfOk result (λ n. n ≡ first + length names.now) }
+{
+    numbered(first as usize + names.len())
+}
+
+/// Adds objects that are declared together, of which this is the first.
 fn add_objects(
     alloc: Global,
     names: &[Identifier],
-    object: DeclaredObject,
-    mut typed: Vec<ada_tree::Declaration>,
+    first: DeclaredObject,
     declared: &mut Declared,
 ) -> Result<(), AllocError>
-    ensures region { OnOk result (declared.new.region ≡ regions.declare_objects declared.old.region names.now) }
-    ensures objects { OnOk result (declared.new.objects.items ≡ declared.old.objects.items ++ spec.objects_of names.now object) }
-    ensures declarations { OnOk result (declared.new.declarations.items ≡ declared.old.declarations.items ++ typed.items) }
+    ensures locals { OnOk result (declared.new.locals ≡ with_objects (length declared.old.objects.items) names.now declared.old.locals) }
+    ensures objects { OnOk result (declared.new.objects.items ≡ declared.old.objects.items ++ objects_from names.now first) }
+    ensures next { OnOk result (declared.new.next ≡ declared.old.next + length names.now) }
 {
-    declare_objects(alloc, &mut declared.region, names)?;
-    push_objects(names, object, &mut declared.objects)?;
-    declared.declarations.append(&mut typed)?;
+    let place = numbered(declared.objects.len())?;
+    declared.locals.declare_objects(alloc, place, names)?;
+    push_objects(names, first, &mut declared.objects)?;
+    declared.next = number_behind(declared.next, names)?;
     Ok(())
 }
 
-/// Adds a declaration, in a unit that sees this of the library.
+/// Adds a declaration.
 #[tactic(auto, using(crate::proofs::Blame::blames))]
 fn declare(
     alloc: Global,
-    seen: &Region,
-    places: &Places,
+    around: &Around<'_>,
     declaration: &Declaration,
     declared: &mut Declared,
-) -> Result<(), Failure<TypeFault>>
-    ensures { Adds seen.now places.now declaration.now declared.old declared.new result }
+) -> Result<Vec<ada_tree::Declaration>, Failure<TypeFault>>
+    requires { IsOpen declared.old.locals }
+    ensures { Adds around.now declaration.now declared.old declared.new result }
 {
     let DeclarationKind::Object(names, constancy, indication, initial) = &declaration.kind else {
         return Err(mistyped(declaration.pos));
@@ -241,40 +240,39 @@ fn declare(
     let hidden = hiding(alloc, names)?;
     let scope = Scope {
         hidden: &hidden,
-        local: &declared.region,
-        seen,
+        locals: &declared.locals,
+        seen: around.seen,
     };
     let objects = declared.objects.as_slice();
     let subtype = indicated(alloc, &scope, objects, indication)?;
     let object = DeclaredObject {
+        number: declared.next,
         constancy: *constancy,
         subtype,
     };
-    let label = label_at(places, declaration.pos);
+    let label = around.statement_label(declaration.pos);
     let Some(typed) = typed_objects(alloc, &scope, objects, label, names, object, initial)? else {
         return Err(mistyped(declaration.pos));
     };
-    add_objects(alloc, names, object, typed, declared)?;
-    Ok(())
+    add_objects(alloc, names, object, declared)?;
+    Ok(typed)
 }
 
-/// The declarations of a subprogram, in a unit that sees this of the library.
+/// Adds declarations, in the region that was opened last.
 #[tactic(auto, using(crate::proofs::Blame::blames))]
 pub fn typed_declarations(
     alloc: Global,
-    seen: &Region,
-    places: &Places,
+    around: &Around<'_>,
+    declared: &mut Declared,
     declarations: &[Declaration],
-) -> Result<Declared, Failure<TypeFault>>
-    ensures { Shows (elaborated seen.now places.now) (spec.typed_declarations (start seen.now places.now) declarations.now) (rules.declarations (start seen.now places.now) declarations.now) result }
+) -> Result<Vec<ada_tree::Declaration>, Failure<TypeFault>>
+    requires { IsOpen declared.old.locals }
+    ensures { AddsAll around.now declarations.now declared.old declared.new result }
 {
-    let mut declared = Declared {
-        region: Region::new(alloc),
-        objects: Vec::new(alloc),
-        declarations: Vec::new(alloc),
-    };
+    let mut typed = Vec::new(alloc);
     for declaration in declarations {
-        declare(alloc, seen, places, declaration, &mut declared)?;
+        let mut one = declare(alloc, around, declaration, declared)?;
+        typed.append(&mut one)?;
     }
-    Ok(declared)
+    Ok(typed)
 }

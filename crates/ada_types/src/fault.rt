@@ -1,18 +1,9 @@
 //! Why units are no legal program, and where.
 
-ghost use Rattle.std.specs.Prelude.{◌≡◌};
-ghost use Rattle.ada_types.specs.Answer.{mistyped};
-
+use ada_expressions::TypeFault;
 use ada_names::NameFault;
-use cov_base::{Failure, Pos};
+use cov_base::Pos;
 use thiserror::Error;
-
-/// A rule on types is broken.
-#[derive(Clone, Copy, Debug, PartialEq, Eq, Error)]
-#[error("types do not fit")]
-pub struct TypeFault {
-    pub pos: Pos,
-}
 
 /// A counted limit is passed.
 #[derive(Clone, Copy, Debug, PartialEq, Eq, Error)]
@@ -31,11 +22,4 @@ pub enum CheckFault {
     Typing(TypeFault),
     #[error("{0}")]
     Limit(LimitFault),
-}
-
-/// A refusal by the rules on types.
-pub fn mistyped(pos: Pos) -> Failure<TypeFault>
-    ensures { result ≡ mistyped pos }
-{
-    Failure::Fault(TypeFault { pos })
 }

@@ -3,26 +3,23 @@
 //!
 //! `specs/Legal.antt` says what legal is, as a function that gives the typed program, and
 //! `specs/Rules.antt` where a refusal stands: at the first token of a construct that fails its case
-//! while its parts pass theirs. So far it is the language of straight-line programs over Integer
-//! objects.
+//! while its parts pass theirs. So far it is the language of procedures over Integer and Boolean
+//! objects, with if statements, loops and blocks, and decisions of one condition.
 //!
 //! The contract that the layers above use: [`check`] answers that program, or the first step that
 //! fails with such a place, and then, by [`refused_is_illegal`], there is no program.
 #![tactic(auto)]
 
-mod actual;
+mod bodies;
 mod checker;
+mod context;
 mod declarations;
-mod denoted;
-mod expressions;
 mod fault;
-mod judged;
-mod kind;
-mod places;
 mod statements;
 #[cfg(test)]
 mod tests;
 mod units;
 
+pub use ada_expressions::TypeFault;
 pub use checker::{check, refused_is_illegal};
-pub use fault::{CheckFault, LimitFault, TypeFault};
+pub use fault::{CheckFault, LimitFault};

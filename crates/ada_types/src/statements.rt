@@ -1,36 +1,98 @@
-//! Statements (Ada RM 2012, 5, 6.4).
+//! Statements without statements inside them (Ada RM 2012, 5.1, 5.2, 5.7, 6.4, 6.5).
 
 ghost use Rattle.std.specs.Prelude.{◌≡◌};
 ghost use Rattle.ada_syntax.specs.StatementTree as source;
-ghost use Rattle.ada_syntax.specs.StatementView.{statements_of};
 ghost use Rattle.ada_meaning.specs.Tree as tree;
-ghost use Rattle.ada_tree.specs.View.{actuals_of, callee_of, label_of, value_of};
-ghost use Rattle.ada_types.specs.declared.denoted.Denoted.TheVariants as denotes;
+ghost use Rattle.ada_tree.specs.View.{actuals_of, callee_of, label_of, statement_at, value_of};
+ghost use Rattle.ada_expressions.specs.declared.denoted.Denoted.TheVariants as denotes;
+ghost use Rattle.ada_expressions.specs.Expressions as names;
+ghost use Rattle.ada_expressions.specs.Phrases as phrases;
 ghost use Rattle.ada_types.specs.Typing as spec;
 ghost use Rattle.ada_types.specs.Rules as rules;
 ghost use Rattle.ada_types.specs.Answer.{Shows};
-ghost use Rattle.ada_types.specs.TypingCode.{context};
+ghost use Rattle.ada_types.specs.TypingCode.{Decides, context, looping_of};
 
-use crate::declarations::{Declared, new_value};
-use crate::denoted::Denoted;
-use crate::expressions::denoted;
-use crate::fault::{TypeFault, mistyped};
-use crate::kind::{
-    DeclaredObject, ScalarSubtype, callee_of_entity, is_variable, parameters_of_entity,
+use crate::context::{Around, Declared, Looping};
+use crate::declarations::new_value;
+use ada_expressions::expressions::{denoted, tested};
+use ada_expressions::{
+    DeclaredObject, Denoted, ScalarSubtype, TypeFault, callee_of_entity, is_variable, mistyped,
+    parameters_of_entity,
 };
-use crate::places::{Places, label_at};
 use ada_names::{Entity, Region, Scope};
-use ada_syntax::{Initial, Name, Statement, StatementKind};
-use ada_tree::{Actual, Callee, Label, NewValue, Object};
+use ada_syntax::{Expr, Initial, Name};
+use ada_tree::{Actual, Callee, Decision, Label, NewValue, Object, StatementKind};
 use cov_base::{Failure, Pos, Seq};
 use std::alloc::Global;
+
+/// What a name in a statement denotes.
+#[tactic(auto, using(crate::proofs::Blame::blames))]
+fn denoted_in(
+    alloc: Global,
+    around: &Around<'_>,
+    declared: &Declared,
+    name: &Name,
+) -> Result<Denoted, Failure<TypeFault>>
+    ensures { Shows (λ x. x) (names.denoted (spec.regions_of (context around.now declared.now)) declared.now.objects.items name.now) (rules.phrase (phrases.name (spec.regions_of (context around.now declared.now)) declared.now.objects.items name.now)) result }
+{
+    let nothing = Region::new(alloc);
+    let scope = Scope {
+        hidden: &nothing,
+        locals: &declared.locals,
+        seen: around.seen,
+    };
+    denoted(alloc, &scope, declared.objects.as_slice(), name)
+}
+
+/// What a target of this subtype is set to (RM 5.2).
+#[tactic(auto, using(crate::proofs::Blame::blames))]
+fn new_value_in(
+    alloc: Global,
+    around: &Around<'_>,
+    declared: &Declared,
+    subtype: ScalarSubtype,
+    initial: &Initial,
+) -> Result<NewValue, Failure<TypeFault>>
+    ensures { Shows value_of (spec.new_value (spec.regions_of (context around.now declared.now)) declared.now.objects.items subtype initial.now) (rules.value (spec.regions_of (context around.now declared.now)) declared.now.objects.items subtype initial.now) result }
+{
+    let nothing = Region::new(alloc);
+    let scope = Scope {
+        hidden: &nothing,
+        locals: &declared.locals,
+        seen: around.seen,
+    };
+    new_value(alloc, &scope, declared.objects.as_slice(), subtype, initial)
+}
+
+/// A decision (RM 5.3, 5.5, 5.7).
+#[tactic(auto, using(crate::proofs::Blame::blames))]
+pub fn decision(
+    alloc: Global,
+    around: &Around<'_>,
+    declared: &Declared,
+    condition: &Expr,
+) -> Result<Decision, Failure<TypeFault>>
+    ensures { Decides (context around.now declared.now) condition.now result }
+{
+    let nothing = Region::new(alloc);
+    let scope = Scope {
+        hidden: &nothing,
+        locals: &declared.locals,
+        seen: around.seen,
+    };
+    let test = tested(alloc, &scope, declared.objects.as_slice(), condition)?;
+    Ok(Decision {
+        label: around.decision_label(condition.pos()),
+        test,
+    })
+}
 
 /// A call with these actuals.
 fn call_statement(label: Label, callee: Callee, actuals: Seq<Actual>) -> ada_tree::Statement
     ensures { result ≡ tree.procedure_call (label_of label) (callee_of callee) (actuals_of actuals) }
 {
     ada_tree::Statement {
-        kind: ada_tree::StatementKind::Call(label, callee, actuals),
+        kind: StatementKind::Call(label, callee, actuals),
     }
 }
 
@@ -59,24 +121,17 @@ fn called(alloc: Global, label: Label, denoted: Denoted) -> Option<ada_tree::Sta
 
 /// A name as a statement: a call of a procedure.
 #[tactic(auto, using(crate::proofs::Blame::blames))]
-fn typed_call(
+pub fn typed_call(
     alloc: Global,
-    seen: &Region,
-    places: &Places,
+    around: &Around<'_>,
     declared: &Declared,
     pos: Pos,
     name: &Name,
 ) -> Result<ada_tree::Statement, Failure<TypeFault>>
-    ensures { Shows (λ x. x) (spec.typed_statement (context seen.now places.now declared.now) (source.call pos name.now)) (rules.statement (context seen.now places.now declared.now) (source.call pos name.now)) result }
+    ensures { Shows (λ x. x) (spec.typed_statement (context around.now declared.now) (source.call pos name.now)) (rules.statement (context around.now declared.now) (source.call pos name.now)) result }
 {
-    let nothing = Region::new(alloc);
-    let scope = Scope {
-        hidden: &nothing,
-        local: &declared.region,
-        seen,
-    };
-    let denoted = denoted(alloc, &scope, declared.objects.as_slice(), name)?;
-    called(alloc, label_at(places, pos), denoted).ok_or(mistyped(pos))
+    let denoted = denoted_in(alloc, around, declared, name)?;
+    called(alloc, around.statement_label(pos), denoted).ok_or(mistyped(pos))
 }
 
 /// The target of an assignment: a variable, by its number (RM 5.2).
@@ -86,13 +141,13 @@ pub struct Target {
     pub subtype: ScalarSubtype,
 }
 
-/// An object with this number as a target.
-fn variable_of(number: u32, object: DeclaredObject) -> Option<Target>
-    ensures { result ≡ spec.variable_of number object }
+/// An object as a target.
+fn variable_of(object: DeclaredObject) -> Option<Target>
+    ensures { result ≡ spec.variable_of object }
 {
     if is_variable(object.constancy) {
         Some(Target {
-            number,
+            number: object.number,
             subtype: object.subtype,
         })
     } else {
@@ -105,9 +160,9 @@ fn target_of_entity(objects: &[DeclaredObject], entity: Entity) -> Option<Target
     ensures { result ≡ spec.target_of objects.now (denotes.Entity entity) }
 {
     match entity {
-        Entity::Object(number) => objects
-            .get(number as usize)
-            .and_then(|object| variable_of(number, *object)),
+        Entity::Object(place) => objects
+            .get(place as usize)
+            .and_then(|object| variable_of(*object)),
         _ => None,
     }
 }
@@ -127,83 +182,75 @@ fn assigned(label: Label, target: Target, value: NewValue) -> ada_tree::Statemen
     ensures { result ≡ spec.assigned (label_of label) target (value_of value) }
 {
     ada_tree::Statement {
-        kind: ada_tree::StatementKind::Assignment(label, Object::Local(target.number), value),
+        kind: StatementKind::Assignment(label, Object::Local(target.number), value),
     }
 }
 
 /// An assignment (RM 5.2).
 #[tactic(auto, using(crate::proofs::Blame::blames))]
-fn typed_assignment(
+pub fn typed_assignment(
     alloc: Global,
-    seen: &Region,
-    places: &Places,
+    around: &Around<'_>,
     declared: &Declared,
     pos: Pos,
     name: &Name,
     initial: &Initial,
 ) -> Result<ada_tree::Statement, Failure<TypeFault>>
-    ensures { Shows (λ x. x) (spec.typed_statement (context seen.now places.now declared.now) (source.assignment pos name.now initial.now)) (rules.statement (context seen.now places.now declared.now) (source.assignment pos name.now initial.now)) result }
+    ensures { Shows (λ x. x) (spec.typed_statement (context around.now declared.now) (source.assignment pos name.now initial.now)) (rules.statement (context around.now declared.now) (source.assignment pos name.now initial.now)) result }
 {
-    let nothing = Region::new(alloc);
-    let scope = Scope {
-        hidden: &nothing,
-        local: &declared.region,
-        seen,
-    };
-    let objects = declared.objects.as_slice();
-    let denoted = denoted(alloc, &scope, objects, name)?;
-    let Some(target) = target_of(objects, &denoted) else {
+    let denoted = denoted_in(alloc, around, declared, name)?;
+    let Some(target) = target_of(declared.objects.as_slice(), &denoted) else {
         return Err(mistyped(pos));
     };
-    let value = new_value(alloc, &scope, objects, target.subtype, initial)?;
-    Ok(assigned(label_at(places, pos), target, value))
+    let value = new_value_in(alloc, around, declared, target.subtype, initial)?;
+    Ok(assigned(around.statement_label(pos), target, value))
 }
 
-/// A statement of a body, where all statement obligations of the program stand at these places.
+/// An exit statement of this form, where there is a loop round it (RM 5.7).
+fn exits(looping: Looping, kind: StatementKind) -> Option<ada_tree::Statement>
+    ensures { result ≡ spec.exits (looping_of looping) (statement_at kind) }
+{
+    match looping {
+        Looping::Inside => Some(ada_tree::Statement { kind }),
+        Looping::Outside => None,
+    }
+}
+
+/// `exit` and `exit when` (RM 5.7).
 #[tactic(auto, using(crate::proofs::Blame::blames))]
-fn typed_statement(
+pub fn typed_exit(
     alloc: Global,
-    seen: &Region,
-    places: &Places,
+    around: &Around<'_>,
     declared: &Declared,
-    statement: &Statement,
+    pos: Pos,
+    condition: &Option<Expr>,
 ) -> Result<ada_tree::Statement, Failure<TypeFault>>
-    ensures { Shows (λ x. x) (spec.typed_statement (context seen.now places.now declared.now) statement.now) (rules.statement (context seen.now places.now declared.now) statement.now) result }
+    ensures { Shows (λ x. x) (spec.typed_statement (context around.now declared.now) (source.exit pos condition.now)) (rules.statement (context around.now declared.now) (source.exit pos condition.now)) result }
 {
-    let pos = statement.pos;
-    match &statement.kind {
-        StatementKind::Null => Ok(ada_tree::Statement {
-            kind: ada_tree::StatementKind::Null(label_at(places, pos)),
-        }),
-        StatementKind::Assignment(name, initial) => {
-            typed_assignment(alloc, seen, places, declared, pos, name, initial)
+    let label = around.statement_label(pos);
+    match condition {
+        None => exits(around.looping, StatementKind::Exit(label)).ok_or(mistyped(pos)),
+        Some(condition) => {
+            let decision = decision(alloc, around, declared, condition)?;
+            exits(around.looping, StatementKind::ExitWhen(label, decision)).ok_or(mistyped(pos))
         }
-        StatementKind::Call(name) => typed_call(alloc, seen, places, declared, pos, name),
-        StatementKind::Return(value) => match value {
-            None => Ok(ada_tree::Statement {
-                kind: ada_tree::StatementKind::Return(label_at(places, pos)),
-            }),
-            Some(_) => Err(mistyped(pos)),
-        },
-        _ => Err(mistyped(pos)),
     }
 }
 
-/// The statements of a body.
+/// `return` of a procedure, without a value (RM 6.5).
 #[tactic(auto, using(crate::proofs::Blame::blames))]
-pub fn typed_statements(
-    alloc: Global,
-    seen: &Region,
-    places: &Places,
+pub fn typed_return(
+    around: &Around<'_>,
     declared: &Declared,
-    statements: &[Statement],
-) -> Result<Vec<ada_tree::Statement>, Failure<TypeFault>>
-    ensures { Shows (λ v. v.items) (spec.typed_statements (context seen.now places.now declared.now) (statements_of statements.now)) (rules.sequence (context seen.now places.now declared.now) (statements_of statements.now)) result }
+    pos: Pos,
+    value: &Option<Expr>,
+) -> Result<ada_tree::Statement, Failure<TypeFault>>
+    ensures { Shows (λ x. x) (spec.typed_statement (context around.now declared.now) (source.returns pos value.now)) (rules.statement (context around.now declared.now) (source.returns pos value.now)) result }
 {
-    let mut typed = Vec::new(alloc);
-    for statement in statements {
-        let statement = typed_statement(alloc, seen, places, declared, statement)?;
-        typed.push(statement)?;
+    match value {
+        None => Ok(ada_tree::Statement {
+            kind: StatementKind::Return(around.statement_label(pos)),
+        }),
+        Some(_) => Err(mistyped(pos)),
     }
-    Ok(typed)
 }

@@ -1,8 +1,6 @@
 //! Library units (Ada RM 2012, 6.3, 10.1).
 
-ghost use Rattle.std.specs.Prelude.{◌≡◌, map};
-ghost use Rattle.ada_syntax.specs.StatementTree.{Statements, handled};
-ghost use Rattle.ada_syntax.specs.StatementView.{handlers_of};
+ghost use Rattle.std.specs.Prelude.{◌≡◌};
 ghost use Rattle.ada_tree.specs.View.{subprogram_of};
 ghost use Rattle.ada_names.specs.Naming.{library_of};
 ghost use Rattle.ada_types.specs.Legal.{typed};
@@ -11,16 +9,16 @@ ghost use Rattle.ada_types.specs.Rules as rules;
 ghost use Rattle.ada_types.specs.Answer.{Shows};
 ghost use Rattle.ada_types.specs.TypingCode.{ShowsUnits, subprograms_view};
 
-use crate::declarations::typed_declarations;
-use crate::fault::{TypeFault, mistyped};
-use crate::places::{Places, places_of};
-use crate::statements::typed_statements;
+use crate::bodies::{has_no_handlers, typed_body};
+use crate::context::{Around, Declared, Looping};
+use ada_expressions::{TypeFault, mistyped};
 use ada_names::{
-    Library, Region, declarations_of, is_bare_procedure, numbered, seen, statements_of,
+    Library, Locals, Region, declarations_of, is_bare_procedure, numbered, seen, statements_of,
 };
-use ada_syntax::{HandledStatements, Handler, LibraryItem, Unit};
-use ada_tree::{Block, Subprogram};
-use cov_base::{Failure, Seq};
+use ada_places::{Places, places_of};
+use ada_syntax::{LibraryItem, Unit};
+use ada_tree::Subprogram;
+use cov_base::Failure;
 use std::alloc::Global;
 
 /// Whether a unit is a procedure without parameters and handlers.
@@ -32,23 +30,6 @@ fn is_plain(item: &LibraryItem) -> bool
             is_bare_procedure(body) && has_no_handlers(&body.statements)
         }
         _ => false,
-    }
-}
-
-/// Whether a body has no handlers.
-fn has_no_handlers(statements: &HandledStatements) -> bool
-    ensures { result ≡ spec.has_no_handlers statements.now }
-{
-    is_without(statements.handlers.as_slice())
-}
-
-/// Whether there is no handler.
-fn is_without(handlers: &[Handler]) -> bool
-    ensures { (statements : Statements) → result ≡ spec.has_no_handlers (handled statements (handlers_of handlers.now)) }
-{
-    match handlers {
-        [] => true,
-        [..] => false,
     }
 }
 
@@ -64,20 +45,26 @@ fn typed_unit(
     ensures { Shows subprogram_of (spec.typed_unit library.now places.now number unit.now) (rules.unit library.now places.now number unit.now) result }
 {
     let seen = seen(alloc, library, number, unit)?;
-    let declared = typed_declarations(alloc, &seen, places, declarations_of(&unit.item))?;
-    let statements = typed_statements(alloc, &seen, places, &declared, statements_of(&unit.item))?;
+    let around = Around {
+        seen: &seen,
+        places,
+        looping: Looping::Outside,
+    };
+    let mut declared = Declared {
+        locals: Locals::new(alloc),
+        objects: Vec::new(alloc),
+        next: 0,
+    };
+    let declarations = declarations_of(&unit.item);
+    let statements = statements_of(&unit.item);
+    let body = typed_body(alloc, &around, &mut declared, declarations, statements)?;
     if !is_plain(&unit.item) {
         return Err(mistyped(unit.pos));
     }
-    Ok(Subprogram {
-        body: Block {
-            declarations: Seq::from(declared.declarations),
-            statements: Seq::from(statements),
-        },
-    })
+    Ok(Subprogram { body })
 }
 
-/// All units, of which all statement obligations stand at these places.
+/// All units, of which all obligations stand at these places.
 #[tactic(auto, using(crate::proofs::Blame::blames))]
 fn typed_units(
     alloc: Global,

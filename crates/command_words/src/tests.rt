@@ -21,7 +21,10 @@ const UNCOVERED: &str = r#"Coverage { level: Stmt, annotate: Report, object: "O"
 const COVERED: &str =
     r#"Coverage { level: Stmt, annotate: Report, object: "O", traces: ["T", "U"] }"#;
 
-static LINES: [Line; 62] = [
+const DECIDED: &str =
+    r#"Coverage { level: Decision, annotate: Report, object: "O", traces: ["T"] }"#;
+
+static LINES: [Line; 64] = [
     ("gnatcov compile --main=M -o O S", COMPILED),
     ("gnatcov compile --main M -oO S", COMPILED),
     ("gnatcov compile S -o=O --main=M", COMPILED),
@@ -87,7 +90,15 @@ static LINES: [Line; 62] = [
         COVERED,
     ),
     (
-        "gnatcov coverage --level=stmt+decision --annotate=report --object=O",
+        "gnatcov coverage --level=stmt+decision --annotate=report --object=O T",
+        DECIDED,
+    ),
+    (
+        "gnatcov coverage --level=stmt+mcdc --annotate=report --object=O",
+        "usage",
+    ),
+    (
+        "gnatcov coverage --level=stmt+uc_mcdc --annotate=report --object=O",
         "usage",
     ),
     (

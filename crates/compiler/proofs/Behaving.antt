@@ -23,7 +23,7 @@ use Rattle.rv_machine.specs.Objects.{object_run}
 use Rattle.kernel_ir.specs.Limits.{IsWithin}
 use Rattle.lower.specs.Lowered.{kernel_of}
 use Rattle.lower.specs.Same.{Observed, Same}
-use Rattle.lower.specs.StraightLine.{IsStraightLine}
+use Rattle.lower.specs.Structured.{IsStructured}
 use Rattle.lower.proofs.Follows.{same_law}
 use Rattle.rv_semantics.specs.Run.{Run}
 use Rattle.transcript.specs.Facts.{Facts}
@@ -109,7 +109,7 @@ timely site k input (Raises y w) (kernel.Exits v) x same is time budget enough =
 timely site k input (Raises y w) (kernel.Returns v) x same is time budget enough = absurd same
 timely site k input (Raises y w) (kernel.Cut v) x same is time budget enough = absurd same
 
-module _ (p : Program) (plain : IsStraightLine p) (within : IsWithin (kernel_of p)) (site : Site) (impl : Implements site (kernel_of p)) where
+module _ (p : Program) (plain : IsStructured p) (within : IsWithin (kernel_of p)) (site : Site) (impl : Implements site (kernel_of p)) where
   runs_are_faithful : (budget : ℕ) (input : List ℤ) → IsInput input → (number : ℕ) → (run_on site (kernel_of p) input budget).outcome ≡ Ended number
       → (x : Execution) × Ends p input x × ShowsExecution site.facts (run_on site (kernel_of p) input budget) x
   runs_are_faithful budget input is number outcome =
@@ -134,7 +134,7 @@ moved : (facts : Facts) (o : Object) (run : Run) (budget : ℕ) (input : List �
 moved facts o run budget input x is same s = subst (λ f. ShowsExecution f (object_run o budget input) x) is (subst (λ r. ShowsExecution facts r x) (sym same) s)
 
 -- an object whose machine is the kernel's image behaves as the program
-pub behaves : (p : Program) → IsStraightLine p → IsWithin (kernel_of p) → (o : Object) (site : Site) → Implements site (kernel_of p) → site.facts ≡ facts_of o
+pub behaves : (p : Program) → IsStructured p → IsWithin (kernel_of p) → (o : Object) (site : Site) → Implements site (kernel_of p) → site.facts ≡ facts_of o
     → ((budget : ℕ) (input : List ℤ) → object_run o budget input ≡ run_on site (kernel_of p) input budget) → Behaves p o
 behaves p plain within o site impl facts same = record {
   no_trap = λ budget input is pc why e. impl.no_trap input is budget pc why (ap (λ r. r.outcome) (sym (same budget input)) ∙ e);
@@ -144,7 +144,7 @@ behaves p plain within o site impl facts same = record {
 }
 
 -- and its runs end in time
-pub ends_in_time : (p : Program) → IsStraightLine p → IsWithin (kernel_of p) → (o : Object) (site : Site) → Implements site (kernel_of p) → site.facts ≡ facts_of o
+pub ends_in_time : (p : Program) → IsStructured p → IsWithin (kernel_of p) → (o : Object) (site : Site) → Implements site (kernel_of p) → site.facts ≡ facts_of o
     → ((budget : ℕ) (input : List ℤ) → object_run o budget input ≡ run_on site (kernel_of p) input budget) → EndsInTime p o
 ends_in_time p plain within o site impl facts same = record {
   in_time = λ input is x ends budget enough.

@@ -5,13 +5,12 @@ use Rattle.std.specs.Str.{is_utf8}
 use Rattle.std.proofs.lemmas.Bool.Decides.{nat_tests}
 use Rattle.std.proofs.lemmas.List.{length-map}
 use Rattle.std.proofs.lemmas.List.Elements.{All-from_recursion, recursion_from_All}
-use Rattle.ada_meaning.specs.Collected.{decisions_of}
 use Rattle.ada_meaning.specs.Program.{Program}
 use Rattle.ada_syntax.specs.Nodes.{capped, unit_nodes}
 use Rattle.ada_syntax.specs.declared.unit.Unit.{Unit as LibraryUnit}
 use Rattle.ada_types.specs.Checked.{entry_of}
 use Rattle.ada_types.specs.Legal.{elaborated}
-use Rattle.ada_types.specs.Typing.{places_of}
+use Rattle.ada_places.specs.Places.{places_of, decision_places, condition_places}
 use Rattle.compiler.proofs.Legal.{compilable_law, made_of, passes_law, behaves_law, in_time_law}
 use Rattle.compiler.proofs.MarksOf.{marks_law}
 use Rattle.compiler.proofs.Placing.{text_bound}
@@ -20,10 +19,10 @@ use Rattle.compiler.specs.Compiled.{IsCompiled}
 use Rattle.compiler.specs.Made.{IsCompilable}
 use Rattle.compiler.specs.Source.{entry_of_file, IsObjectOf, IsCheap}
 use Rattle.cov_base.specs.declared.obligations.SourceFile.{SourceFile}
+use Rattle.cov_base.specs.declared.position.Pos.{Pos}
 use Rattle.generic_expand.specs.Expanded.{node_limit, first_past}
-use Rattle.legal_programs.proofs.Numbered.{undecided_law as no_decision_law}
-use Rattle.legal_programs.proofs.Programs.{nodes_law}
-use Rattle.legal_programs.specs.Rising.{StatementsRise}
+use Rattle.legal_programs.proofs.PlainPrograms.{nodes_law}
+use Rattle.legal_programs.specs.Rising.{StatementsRise, DecisionsRise}
 use Rattle.object_format.specs.Counts.{FileFits}
 use Rattle.object_format.specs.Fields.{are_files}
 use Rattle.object_format.specs.File.{closed_object}
@@ -74,13 +73,18 @@ entries_are_files files can =
     (counted (length (map entry_of_file files)) (omega (arith, long, can.some)) (omega (arith, long, can.few)))
     (names_are_utf8 files (recursion_from_All HasPlainName files can.names))
 
-compiled_of : (files : List SourceFile) (units : List LibraryUnit) (p : Program) (o : Object) → CanBeNamed files → AreInFiles (length files) (places_of units) → IsBuiltOf files p o → IsCompiled units p o
-compiled_of files units p o can within built = record {
+entered : (files : List SourceFile) (p : Program) (o : Object) (places : List Pos) → IsBuiltOf files p o → AreInFiles (length files) places → AreInFiles (length o.files) places
+entered files p o places built within = subst (λ n. AreInFiles n places) (sym (ap length built.sources ∙ length-map files entry_of_file)) within
+
+compiled_of : (files : List SourceFile) (main : List ℕ) (p : Program) (o : Object) (legal : AreLegal files main p) → CanBeNamed files → IsBuiltOf files p o → IsCompiled legal.units p o
+compiled_of files main p o legal can built = record {
   holds = built.holds;
   obligations = built.obligations;
   files = ap are_files built.sources ∙ entries_are_files files can;
   names = subst (λ fs. All FileFits fs) (sym built.sources) (All-from_recursion FileFits (map entry_of_file files) (names_fit files (recursion_from_All HasPlainName files can.names)));
-  places = subst (λ n. AreInFiles n (places_of units)) (sym (ap length built.sources ∙ length-map files entry_of_file)) within;
+  places = entered files p o (places_of legal.units) built legal.within;
+  decisions = entered files p o (decision_places legal.units) built legal.decisions_within;
+  conditions = entered files p o (condition_places legal.units) built legal.conditions_within;
 }
 
 -- the closing digest enters none of this
@@ -105,29 +109,29 @@ module _ (files : List SourceFile) (main : List ℕ) (p : Program) (o : Object) 
   few = few_units legal.units legal.small
 
   compiled : IsCompiled legal.units p o
-  compiled = compiled_of files legal.units p o can legal.within built
+  compiled = compiled_of files main p o legal can built
 
   -- it can be written
   pub written_law : HasObject o
-  written_law = (passes_law legal.units main p o legal.elaborated legal.rising few compiled).0
+  written_law = (passes_law legal.units main p o legal.elaborated legal.rising legal.decisions_rising few compiled).0
 
   -- what is read back of it is the sources' object
   object_law : IsObject o → IsObjectOf files main p o
   object_law is = record {
     legal = record { units = legal.units; parsed = legal.parsed; elaborated = legal.elaborated; few = legal.small };
     checked = is;
-    plain = (passes_law legal.units main p o legal.elaborated legal.rising few compiled).1;
+    plain = (passes_law legal.units main p o legal.elaborated legal.rising legal.decisions_rising few compiled).1;
     sources = built.sources;
     obligations = built.obligations;
-    marks = marks_law p o (compilable_law legal.units main p legal.elaborated legal.rising few) (made_of legal.units main p o legal.elaborated legal.rising compiled);
-    behaves = behaves_law legal.units main p o legal.elaborated legal.rising few compiled;
+    marks = marks_law p o (compilable_law legal.units main p legal.elaborated legal.rising legal.decisions_rising few) (made_of legal.units main p o legal.elaborated legal.rising legal.decisions_rising compiled);
+    behaves = behaves_law legal.units main p o legal.elaborated legal.rising legal.decisions_rising few compiled;
   }
 
   cheap_law : IsCheap files main p o
   cheap_law = record {
     legal = record { units = legal.units; parsed = legal.parsed; elaborated = legal.elaborated; few = legal.small };
-    in_time = in_time_law legal.units main p o legal.elaborated legal.rising few compiled;
-    small = text_bound p o (sum_by unit_nodes legal.units) (compilable_law legal.units main p legal.elaborated legal.rising few).straight built.holds (nodes_law legal.units main p legal.elaborated);
+    in_time = in_time_law legal.units main p o legal.elaborated legal.rising legal.decisions_rising few compiled;
+    small = text_bound p o (sum_by unit_nodes legal.units) (compilable_law legal.units main p legal.elaborated legal.rising legal.decisions_rising few).structured built.holds (nodes_law legal.units main p legal.elaborated);
   }
 
 pub closed_law : (files : List SourceFile) (main : List ℕ) (p : Program) (o : Object) → CanBeNamed files → AreLegal files main p → IsBuiltOf files p o → IsObject (closed_object o)
@@ -143,19 +147,20 @@ made_law files main p o made can legal built is checked =
     subst (λ x. IsObjectOf files main p x × IsCheap files main p x) (sym is) (closed_law files main p o can legal built (subst (λ x. IsObject x) is checked))
 
 -- what has been read and checked
-pub legal_of : (files : List SourceFile) (units read : List LibraryUnit) (main : List ℕ) (p : Program) → HaveUnits files units → StatementsRise units → AreInFiles (length files) (places_of units)
+pub legal_of : (files : List SourceFile) (units read : List LibraryUnit) (main : List ℕ) (p : Program) → HaveUnits files units → StatementsRise units → DecisionsRise units
+    → AreInFiles (length files) (places_of units) → AreInFiles (length files) (decision_places units) → AreInFiles (length files) (condition_places units)
     → read ≡ units → elaborated read main ≡ Some p → first_past 0 (map entry_of read) ≡ None → AreLegal files main p
-legal_of files units read main p parsed rises within are legal small = record {
+legal_of files units read main p parsed rises decisions_rise within decisions conditions are legal small = record {
   units = units;
   parsed = parsed;
   rising = rises;
+  decisions_rising = decisions_rise;
   within = within;
+  decisions_within = decisions;
+  conditions_within = conditions;
   elaborated = ap (λ us. elaborated us main) (sym are) ∙ legal;
   small = ap (λ us. first_past 0 (map entry_of us)) (sym are) ∙ small;
 }
 
 pub able_law : (files : List SourceFile) (main : List ℕ) (p : Program) → AreLegal files main p → IsCompilable p
-able_law files main p legal = compilable_law legal.units main p legal.elaborated legal.rising (few_units legal.units legal.small)
-
-pub undecided_law : (files : List SourceFile) (main : List ℕ) (p : Program) → AreLegal files main p → decisions_of p.subprograms ≡ []
-undecided_law files main p legal = no_decision_law legal.units main p legal.elaborated
+able_law files main p legal = compilable_law legal.units main p legal.elaborated legal.rising legal.decisions_rising (few_units legal.units legal.small)

@@ -1,5 +1,5 @@
 -- The object that holds the linked pieces of a program's kernel behaves as the program.
-use Rattle.std.proofs.Common.{◌≡◌, ℕ, ◌+◌, ◌≤◌, ℤ, List, [], length, find, option_map, refl, ap, ◌∙◌, ◌==◌}
+use Rattle.std.proofs.Common.{◌≡◌, ℕ, ℤ, List, [], find, option_map, refl, ap, ◌∙◌, ◌==◌}
 use Rattle.std.specs.Option.{option_and_then}
 use Rattle.ada_meaning.specs.Program.{Program}
 use Rattle.assembler.specs.Laws.{ArePlaced}
@@ -7,7 +7,11 @@ use Rattle.assembler.specs.Placed.{address_of, labels}
 use Rattle.compiler.specs.Behaves.{Behaves, EndsInTime}
 use Rattle.compiler.specs.Held.{HoldsImage}
 use Rattle.compiler.proofs.Behaving.{behaves, ends_in_time}
+use Rattle.ada_meaning.specs.Collected.{decisions_of}
+use Rattle.compiler.proofs.DecisionEntries.{object_graphs}
 use Rattle.compiler.proofs.Kept.{rows_kept, conditions_kept}
+use Rattle.compiler.proofs.Placing.{numbers_law}
+use Rattle.compiler.specs.Made.{IsCompilable, IsMadeOf}
 use Rattle.decision_map.specs.Roles as map
 use Rattle.kernel_code.proofs.Implements.{code_implements}
 use Rattle.kernel_code.proofs.PieceLaws.{pieces_are_marked}
@@ -25,10 +29,9 @@ use Rattle.line_table.specs.declared.rows.Row.{Row as Line}
 use Rattle.linker.proofs.RoleMarks.{roles_are_found}
 use Rattle.linker.proofs.RowMarks.{rows_are_found}
 use Rattle.linker.specs.Linked.{linked}
-use Rattle.lower.proofs.Fits.{well_formed_law, within_law}
+use Rattle.lower.proofs.Fits.{well_formed_law}
+use Rattle.lower.proofs.Small.{within_law}
 use Rattle.lower.specs.Lowered.{kernel_of}
-use Rattle.lower.specs.Sizes.{all_nodes}
-use Rattle.lower.specs.StraightLine.{IsStraightLine}
 use Rattle.object_facts.proofs.Fair.{fair}
 use Rattle.object_facts.specs.Object.{facts_of, row_of, condition_of}
 use Rattle.object_format.specs.Checked.{IsSound}
@@ -56,14 +59,15 @@ abbrev site_in : Object → Kernel → Site
 site_in o k = site_of (object_image o) (facts_of o) (kernel_pieces k)
 
 -- what stands at the site of an object that holds the image implements the kernel
-implements : (p : Program) (o : Object) → IsStraightLine p → all_nodes p.subprograms + length p.subprograms ≤ 4096 → IsSound o → HoldsImage (kernel_of p) o
-    → Implements (site_in o (kernel_of p)) (kernel_of p)
-implements p o plain few sound holds =
+implements : (p : Program) (o : Object) → IsCompilable p → IsMadeOf p o → IsSound o → Implements (site_in o (kernel_of p)) (kernel_of p)
+implements p o able made sound =
     let k = kernel_of p in
     let pieces = kernel_pieces k in
     let graph = (facts_of o).graph in
-    let formed = well_formed_law p plain graph in
-    let within = within_law p plain few in
+    let hs = decisions_of p.subprograms in
+    let formed = well_formed_law p able.structured graph (object_graphs o hs (ap (λ ob. ob.decisions) made.obligations) able.tests (numbers_law p able)) in
+    let within = within_law p able.structured able.few in
+    let holds = made.holds in
     let placeable = pieces_can_be_placed graph k formed within in
     let placed : ArePlaced (object_image o) pieces = record { text = holds.text; items = holds.items; in_reach = placeable.in_reach; in_time = placeable.in_time } in
     code_implements code_follows_law (site_in o k) k
@@ -76,11 +80,10 @@ same_run p o holds budget input =
     ∙ ap (λ at. runs (object_image o) budget (start (object_image o) (address_of (labels (kernel_pieces (kernel_of p))) 0 0) at o.init) input) holds.init_at
     ∙ ap (λ words. runs (object_image o) budget (start (object_image o) (address_of (labels (kernel_pieces (kernel_of p))) 0 0) data_start words) input) holds.init
 
-pub image_behaves : (p : Program) (o : Object) → IsStraightLine p → all_nodes p.subprograms + length p.subprograms ≤ 4096 → IsSound o → HoldsImage (kernel_of p) o → Behaves p o
-image_behaves p o plain few sound holds =
-    behaves p plain (within_law p plain few) o (site_in o (kernel_of p)) (implements p o plain few sound holds) refl (same_run p o holds)
+pub image_behaves : (p : Program) (o : Object) → IsCompilable p → IsMadeOf p o → IsSound o → Behaves p o
+image_behaves p o able made sound =
+    behaves p able.structured (within_law p able.structured able.few) o (site_in o (kernel_of p)) (implements p o able made sound) refl (same_run p o made.holds)
 
-pub image_ends_in_time : (p : Program) (o : Object) → IsStraightLine p → all_nodes p.subprograms + length p.subprograms ≤ 4096 → IsSound o → HoldsImage (kernel_of p) o
-    → EndsInTime p o
-image_ends_in_time p o plain few sound holds =
-    ends_in_time p plain (within_law p plain few) o (site_in o (kernel_of p)) (implements p o plain few sound holds) refl (same_run p o holds)
+pub image_ends_in_time : (p : Program) (o : Object) → IsCompilable p → IsMadeOf p o → IsSound o → EndsInTime p o
+image_ends_in_time p o able made sound =
+    ends_in_time p able.structured (within_law p able.structured able.few) o (site_in o (kernel_of p)) (implements p o able made sound) refl (same_run p o made.holds)

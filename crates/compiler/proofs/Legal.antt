@@ -1,57 +1,67 @@
 -- Legal units whose statements rise, within the limit on nodes, can be compiled, and their object passes the checks and behaves.
-use Rattle.std.proofs.Common.{◌≡◌, ◌≤◌, ℕ, length, true, List, [], sum_by, Some, sym, ap, ◌∙◌, arith}
+use Rattle.std.proofs.Common.{◌≡◌, ◌≤◌, ℕ, ◌<◌, length, map, true, List, [], sum_by, Some, sym, ap, subst, ◌∙◌, arith}
+use Rattle.std.proofs.lemmas.List.{length-map}
+use Rattle.ada_meaning.specs.Collected.{decisions_of}
 use Rattle.ada_meaning.specs.Program.{Program}
 use Rattle.ada_syntax.specs.Nodes.{capped, unit_nodes}
 use Rattle.ada_syntax.specs.declared.unit.Unit.{Unit as LibraryUnit}
 use Rattle.ada_types.specs.Legal.{elaborated}
-use Rattle.ada_types.specs.Typing.{places_of}
+use Rattle.ada_places.specs.Places.{places_of, decision_places, condition_places}
 use Rattle.compiler.proofs.Images.{image_behaves, image_ends_in_time}
 use Rattle.compiler.proofs.Sound.{made_law}
-use Rattle.compiler.proofs.Statements.{places_are_statements}
+use Rattle.compiler.proofs.Statements.{places_are_statements, decisions_stand}
 use Rattle.compiler.specs.Behaves.{Behaves, EndsInTime}
 use Rattle.compiler.specs.Compiled.{IsCompiled}
 use Rattle.compiler.specs.Made.{IsCompilable, IsMadeOf}
-use Rattle.legal_programs.proofs.Counted.{limit_law}
-use Rattle.legal_programs.proofs.Numbered.{numbered_law, stay_law, obligations_law}
-use Rattle.legal_programs.proofs.Programs.{straight_line_law, places_law}
-use Rattle.legal_programs.specs.Listed.{obligations_at}
-use Rattle.legal_programs.specs.Rising.{StatementsRise}
-use Rattle.object_format.specs.Fields.{are_statements}
+use Rattle.legal_programs.proofs.ListedLaws.{places_law, conditions_law, tests_law, held_law}
+use Rattle.legal_programs.proofs.Numbered.{numbered_law, stay_law, decisions_stay_law, decision_places_law, obligations_law}
+use Rattle.legal_programs.proofs.PlainPrograms.{structured_law, limit_law}
+use Rattle.decision_meaning.specs.Pair.{Everywhere}
+use Rattle.legal_programs.specs.Listed.{entry_at, obligations_at}
+use Rattle.legal_programs.specs.Rising.{StatementsRise, DecisionsRise}
+use Rattle.object_format.specs.Fields.{are_statements, are_decisions}
 use Rattle.object_format.specs.Read.{HasObject, is_plain}
 use Rattle.object_format.specs.declared.object.Object.{Object}
 
-pub compilable_law : (units : List LibraryUnit) (main : List ℕ) (p : Program) → elaborated units main ≡ Some p → StatementsRise units
+pub compilable_law : (units : List LibraryUnit) (main : List ℕ) (p : Program) → elaborated units main ≡ Some p → StatementsRise units → DecisionsRise units
     → sum_by (λ u. capped (unit_nodes u)) units ≤ 4096 → IsCompilable p
-compilable_law units main p legal rises few = record {
-  straight = straight_line_law units main p legal;
-  numbered = numbered_law units main p legal rises;
+compilable_law units main p legal rises decisions_rise few = record {
+  structured = structured_law units main p legal;
+  numbered = numbered_law units main p legal rises decisions_rise;
   in_order = stay_law units main p legal rises;
+  decisions_in_order = decisions_stay_law units main p legal decisions_rise;
+  tests = tests_law units main p legal;
   few = limit_law units main p 4096 legal (omega arith) few;
 }
 
-pub made_of : (units : List LibraryUnit) (main : List ℕ) (p : Program) (o : Object) → elaborated units main ≡ Some p → StatementsRise units → IsCompiled units p o → IsMadeOf p o
-made_of units main p o legal rises compiled =
-    let listed : o.obligations ≡ obligations_at (places_of units) [] = compiled.obligations ∙ obligations_law units main p legal rises [] in
+pub made_of : (units : List LibraryUnit) (main : List ℕ) (p : Program) (o : Object) → elaborated units main ≡ Some p → StatementsRise units → DecisionsRise units → IsCompiled units p o → IsMadeOf p o
+made_of units main p o legal rises decisions_rise compiled =
+    let hs = decisions_of p.subprograms in
+    let listed : o.obligations ≡ obligations_at (places_of units) hs [] = compiled.obligations ∙ obligations_law units main p legal [] rises decisions_rise in
     record {
       holds = compiled.holds;
-      obligations = listed ∙ ap (λ ps. obligations_at ps []) (sym (places_law units main p legal));
+      obligations = listed ∙ ap (λ ps. obligations_at ps hs []) (sym (places_law units main p legal));
       files = compiled.files;
       names = compiled.names;
       statements = ap (λ ob. are_statements (length o.files) ob.statements) listed ∙ places_are_statements (length o.files) (places_of units) rises compiled.places;
+      decisions = ap (λ ob. are_decisions (length o.files) (length ob.statements) ob.decisions) listed
+          ∙ decisions_stand (length o.files) (length (map entry_at (places_of units))) hs (decision_places units) (condition_places units) (decision_places_law units main p legal)
+          (conditions_law units main p legal) (tests_law units main p legal)
+          (subst (λ n. Everywhere (λ h. h.statement < n) hs) (sym (length-map (places_of units) entry_at)) (held_law units main p legal)) decisions_rise compiled.decisions compiled.conditions;
     }
 
-pub passes_law : (units : List LibraryUnit) (main : List ℕ) (p : Program) (o : Object) → elaborated units main ≡ Some p → StatementsRise units
+pub passes_law : (units : List LibraryUnit) (main : List ℕ) (p : Program) (o : Object) → elaborated units main ≡ Some p → StatementsRise units → DecisionsRise units
     → sum_by (λ u. capped (unit_nodes u)) units ≤ 4096 → IsCompiled units p o → HasObject o × (is_plain o ≡ true)
-passes_law units main p o legal rises few compiled = made_law p o (compilable_law units main p legal rises few) (made_of units main p o legal rises compiled)
+passes_law units main p o legal rises decisions_rise few compiled = made_law p o (compilable_law units main p legal rises decisions_rise few) (made_of units main p o legal rises decisions_rise compiled)
 
-pub behaves_law : (units : List LibraryUnit) (main : List ℕ) (p : Program) (o : Object) → elaborated units main ≡ Some p → StatementsRise units
+pub behaves_law : (units : List LibraryUnit) (main : List ℕ) (p : Program) (o : Object) → elaborated units main ≡ Some p → StatementsRise units → DecisionsRise units
     → sum_by (λ u. capped (unit_nodes u)) units ≤ 4096 → IsCompiled units p o → Behaves p o
-behaves_law units main p o legal rises few compiled =
-    let able = compilable_law units main p legal rises few in
-    image_behaves p o able.straight able.few (passes_law units main p o legal rises few compiled).0.sound compiled.holds
+behaves_law units main p o legal rises decisions_rise few compiled =
+    let able = compilable_law units main p legal rises decisions_rise few in
+    image_behaves p o able (made_of units main p o legal rises decisions_rise compiled) (passes_law units main p o legal rises decisions_rise few compiled).0.sound
 
-pub in_time_law : (units : List LibraryUnit) (main : List ℕ) (p : Program) (o : Object) → elaborated units main ≡ Some p → StatementsRise units
+pub in_time_law : (units : List LibraryUnit) (main : List ℕ) (p : Program) (o : Object) → elaborated units main ≡ Some p → StatementsRise units → DecisionsRise units
     → sum_by (λ u. capped (unit_nodes u)) units ≤ 4096 → IsCompiled units p o → EndsInTime p o
-in_time_law units main p o legal rises few compiled =
-    let able = compilable_law units main p legal rises few in
-    image_ends_in_time p o able.straight able.few (passes_law units main p o legal rises few compiled).0.sound compiled.holds
+in_time_law units main p o legal rises decisions_rise few compiled =
+    let able = compilable_law units main p legal rises decisions_rise few in
+    image_ends_in_time p o able (made_of units main p o legal rises decisions_rise compiled) (passes_law units main p o legal rises decisions_rise few compiled).0.sound

@@ -2,6 +2,8 @@ pub mod Kept
 pub mod Behaving
 pub mod Images
 pub mod RowStarts
+pub mod Conditions
+pub mod DecisionEntries
 pub mod Roles
 pub mod Placing
 pub mod Statements

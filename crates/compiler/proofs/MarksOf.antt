@@ -1,17 +1,23 @@
--- Each statement of a made object has its row, and no branch is that of a condition, since there is none.
-use Rattle.std.proofs.Common.{◌≡◌, ℕ, zero, suc, ◌+◌, ◌≤◌, ◌<◌, List, [], ◌∷◌, length, map, slice_get, Some, refl, sym, ap, ◌∙◌, subst, arith, ◌⊎◌, inl, inr}
-use Rattle.ada_meaning.specs.Collected.{labels_of}
-use Rattle.ada_meaning.specs.Obligations.{numbers}
+-- Each statement of a made object has its row, and each condition its branch.
+use Rattle.std.proofs.Common.{◌≡◌, ℕ, zero, suc, ◌+◌, ◌≤◌, ◌<◌, ◌==◌, cond, Bool, true, false, List, [], ◌∷◌, filter, length, map, slice_get, Some, refl, sym, ap, ◌∙◌, subst, arith, ◌⊎◌, inl, inr}
+use Rattle.std.proofs.lemmas.Bool.Decides.{nat_tests}
+use Rattle.ada_meaning.specs.Collected.{Decision, labels_of, decisions_of}
+use Rattle.ada_meaning.specs.Obligations.{numbers, decision_entry}
 use Rattle.ada_meaning.specs.Program.{Program}
-use Rattle.compiler.proofs.Roles.{no_branch}
+use Rattle.compiler.proofs.Conditions.{condition_of_decision}
+use Rattle.compiler.proofs.DecisionEntries.{one_condition, count_there}
 use Rattle.compiler.proofs.RowStarts.{start_at}
-use Rattle.compiler.proofs.Sound.{starts_law, others_law, entries_long}
+use Rattle.compiler.proofs.Sound.{starts_law, found_law, entries_long}
 use Rattle.compiler.specs.Made.{IsCompilable, IsMadeOf}
-use Rattle.compiler.specs.Source.{IsRowOf, IsCondition, HasItsMarks}
-use Rattle.cov_base.specs.declared.obligations.DecEntry.{DecEntry}
-use Rattle.decision_meaning.specs.Pair.{Somewhere}
+use Rattle.compiler.specs.Source.{IsRowOf, IsRoleOf, IsCondition, HasItsMarks}
+use Rattle.decision_meaning.specs.Pair.{Everywhere, Somewhere}
+use Rattle.legal_programs.specs.Listed.{HasOneCondition}
+use Rattle.line_table.specs.declared.roles.Role.{Role}
 use Rattle.line_table.specs.declared.rows.Row.{Row}
 use Rattle.object_format.specs.declared.object.Object.{Object}
+use Rattle.object_format.specs.Fields.{condition_count}
+use Rattle.object_format.specs.RoleCheck.{is_condition, conditions_of}
+use Rattle.object_format.specs.RoleCheck.{condition_of as numbers_of}
 use Rattle.object_format.specs.RowCheck.{start_of}
 
 -- the two numbers of a start
@@ -53,16 +59,71 @@ numbers_start s i from (suc count) low high is = by_order (order from s) (λ les
     by_order (inr (inl less)) later = inr (later less)
     by_order (inr (inr more)) later = absurd (omega (arith, more, low))
 
-none_there : (n : ℕ) (d : DecEntry) → slice_get {X = DecEntry} [] n ≡ Some d → ⊥
-none_there n d there = let x : ⊥ = cc there in x
+-- conditions
 
-no_condition : (decisions : List DecEntry) → decisions ≡ [] → (d c : ℕ) → IsCondition decisions d c → ⊥
-no_condition decisions none d c is = none_there d is.0 (ap (λ ds. slice_get ds d) (sym none) ∙ is.1)
+abbrev IsCase : (decision condition instance : ℕ) → (ℕ × ℕ) × ℕ → Type 0
+IsCase d c i found = (found.0.0 ≡ d) × (found.1 ≡ c) × (found.0.1 ≡ i)
+
+kind_is : (n : ℕ) (b : Bool) → (n == 2) ≡ b → n ≡ 2 → b ≡ true
+kind_is n true test is = refl
+kind_is n false test is = grind (arith, nat_tests)
+
+kind_was : (n : ℕ) → (n == 2) ≡ true → n ≡ 2
+kind_was n test = grind (arith, nat_tests)
+
+role_case : (d c i : ℕ) (roles : List Role) → Somewhere (IsRoleOf d c i) roles → Somewhere (IsCase d c i) (conditions_of roles)
+role_case d c i [] there = absurd there
+role_case d c i (role ∷ roles) there = by_test (is_condition role) refl there (role_case d c i roles)
+  where
+    by_test : (b : Bool) → is_condition role ≡ b → Somewhere (IsRoleOf d c i) (role ∷ roles)
+        → (Somewhere (IsRoleOf d c i) roles → Somewhere (IsCase d c i) (conditions_of roles))
+        → Somewhere (IsCase d c i) (map numbers_of (cond b (role ∷ filter is_condition roles) (filter is_condition roles)))
+    by_test true test (inl is) rest = inl (is.1, is.2, is.3)
+    by_test true test (inr later) rest = inr (rest later)
+    by_test false test (inl is) rest = absurd (let x : ⊥ = cc (kind_is role.kind.0 false test is.0) in x)
+    by_test false test (inr later) rest = rest later
+
+case_role : (d c i : ℕ) (roles : List Role) → Somewhere (IsCase d c i) (conditions_of roles) → Somewhere (IsRoleOf d c i) roles
+case_role d c i [] there = absurd there
+case_role d c i (role ∷ roles) there = by_test (is_condition role) refl there (case_role d c i roles)
+  where
+    by_test : (b : Bool) → is_condition role ≡ b → Somewhere (IsCase d c i) (map numbers_of (cond b (role ∷ filter is_condition roles) (filter is_condition roles)))
+        → (Somewhere (IsCase d c i) (conditions_of roles) → Somewhere (IsRoleOf d c i) roles) → Somewhere (IsRoleOf d c i) (role ∷ roles)
+    by_test true test (inl is) rest = inl (kind_was role.kind.0 test, is.0, is.1, is.2)
+    by_test true test (inr later) rest = inr (rest later)
+    by_test false test later rest = inr (rest later)
+
+case_numbers : (d c i from count : ℕ) → Somewhere (IsCase d c i) (map condition_of_decision (numbers from count)) → (d < from + count) × (c ≡ 0) × (i ≡ 0)
+case_numbers d c i from zero here = absurd here
+case_numbers d c i from (suc count) (inl is) = (omega (arith, is.0), sym is.1, sym is.2)
+case_numbers d c i from (suc count) (inr later) = let there = case_numbers d c i (suc from) count later in (omega (arith, there.0), there.1, there.2)
+
+numbers_case : (d from count : ℕ) → from ≤ d → d < from + count → Somewhere (IsCase d 0 0) (map condition_of_decision (numbers from count))
+numbers_case d from zero low high = absurd (omega (arith, low, high))
+numbers_case d from (suc count) low high = by_order (order from d) (λ less. numbers_case d (suc from) count (omega (arith, less)) (omega (arith, high)))
+  where
+    by_order : (from ≡ d) ⊎ ((from < d) ⊎ (d < from)) → (from < d → Somewhere (IsCase d 0 0) (map condition_of_decision (numbers (suc from) count)))
+        → Somewhere (IsCase d 0 0) (map condition_of_decision (numbers from (suc count)))
+    by_order (inl same) later = inl (same, refl, refl)
+    by_order (inr (inl less)) later = inr (later less)
+    by_order (inr (inr more)) later = absurd (omega (arith, more, low))
+
+-- a decision that is there has its one condition, and no other
+condition_there : (hs : List Decision) (d c : ℕ) → Everywhere (λ h. HasOneCondition h.test) hs → IsCondition (map decision_entry hs) d c → (d < length hs) × (c ≡ 0)
+condition_there hs d c one (x, there, below) = count_there hs d c one (subst (λ n. c < n) (sym (ap condition_count there)) below)
+
+there_condition : (hs : List Decision) (d : ℕ) → Everywhere (λ h. HasOneCondition h.test) hs → d < length hs → IsCondition (map decision_entry hs) d 0
+there_condition [] d one below = absurd (omega (arith, below))
+there_condition (h ∷ hs) zero one below = (decision_entry h, refl, omega (arith, one_condition h one.0))
+there_condition (h ∷ hs) (suc d) one below = there_condition hs d one.1 (omega (arith, below))
 
 pub marks_law : (p : Program) (o : Object) → IsCompilable p → IsMadeOf p o → HasItsMarks o
 marks_law p o able made =
     let n = length (labels_of p.subprograms) in
+    let hs = decisions_of p.subprograms in
     let starts = starts_law p o able made in
+    let found = found_law p o able made in
+    let entries : o.obligations.decisions ≡ map decision_entry hs = ap (λ ob. ob.decisions) made.obligations in
     let long : length o.obligations.statements ≡ n = ap (λ ob. length ob.statements) made.obligations ∙ entries_long p in
     record {
       rows = λ s i. (
@@ -70,7 +131,11 @@ marks_law p o able made =
         λ is. start_row s i o.rows (subst (λ ss. Somewhere (IsStart s i) ss) (sym starts) (numbers_start s i 0 n (omega arith) (omega (arith, is.0, long)) is.1)),
       );
       roles = λ d c i. (
-        λ there. absurd (no_branch o.roles (others_law p o able made) d c i there),
-        λ is. absurd (no_condition o.obligations.decisions (ap (λ ob. ob.decisions) made.obligations) d c is.0),
+        λ there. let is = case_numbers d c i 0 (length hs) (subst (λ cs. Somewhere (IsCase d c i) cs) found (role_case d c i o.roles there)) in
+            (subst (λ ds. IsCondition ds d c) (sym entries) (subst (λ x. IsCondition (map decision_entry hs) d x) (sym is.1) (there_condition hs d able.tests (omega (arith, is.0)))), is.2),
+        λ is. let there = condition_there hs d c able.tests (subst (λ ds. IsCondition ds d c) entries is.0) in
+            case_role d c i o.roles (subst (λ cs. Somewhere (IsCase d c i) cs) (sym found)
+            (subst (λ x. Somewhere (IsCase d x i) (map condition_of_decision (numbers 0 (length hs)))) (sym there.1)
+            (subst (λ x. Somewhere (IsCase d 0 x) (map condition_of_decision (numbers 0 (length hs)))) (sym is.1) (numbers_case d 0 (length hs) (omega arith) (omega (arith, there.0)))))),
       );
     }

@@ -1,17 +1,18 @@
 -- The pieces of a program that can be compiled can be placed.
-use Rattle.std.proofs.Common.{◌≡◌, List, [], sym, subst, ◌∙◌, ap}
+use Rattle.std.proofs.Common.{◌≡◌, List, sym, subst, ◌∙◌, ap}
 use Rattle.ada_meaning.specs.Program.{Program}
 use Rattle.assembler.specs.Reach.{AreInReach, EndInTime}
 use Rattle.assembler.specs.declared.piece.Piece.{Piece}
+use Rattle.compiler.proofs.Placing.{formed_law, able_graphs}
 use Rattle.compiler.specs.Made.{IsCompilable}
 use Rattle.kernel_code.proofs.PiecesFit.{pieces_can_be_placed}
 use Rattle.kernel_code.specs.Pieces.{kernel_pieces, CanBePlaced}
 use Rattle.kernel_ir.specs.declared.kernel.Kernel.{Kernel}
-use Rattle.lower.proofs.Fits.{well_formed_law, within_law}
+use Rattle.lower.proofs.Small.{within_law}
 use Rattle.lower.specs.Lowered.{kernel_of}
 
 placeable : (p : Program) → IsCompilable p → CanBePlaced (kernel_pieces (kernel_of p))
-placeable p able = pieces_can_be_placed (λ d. []) (kernel_of p) (well_formed_law p able.straight (λ d. [])) (within_law p able.straight able.few)
+placeable p able = pieces_can_be_placed (able_graphs p) (kernel_of p) (formed_law p able) (within_law p able.structured able.few)
 
 -- pieces that are those of a kernel, which is that of a program
 pub pieces_are : (p : Program) (k : Kernel) (pieces : List Piece) → k ≡ kernel_of p → pieces ≡ kernel_pieces k → pieces ≡ kernel_pieces (kernel_of p)

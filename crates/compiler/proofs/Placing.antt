@@ -1,21 +1,29 @@
 -- An object that holds the image of a program's kernel has its places in memory.
-use Rattle.std.proofs.Common.{◌≡◌, ℕ, ◌+◌, ◌*◌, ◌%◌, ◌≤◌, ◌<◌, ◌==◌, ◌&&◌, Bool, true, nat_lt, nat_le, List, [], length, refl, ap, ◌∙◌, arith}
+use Rattle.std.proofs.Common.{◌≡◌, ℕ, ◌+◌, ◌*◌, ◌%◌, ◌≤◌, ◌<◌, ◌==◌, ◌&&◌, Bool, true, nat_lt, nat_le, List, [], length, map, refl, ap, subst, ◌∙◌, arith}
 use Rattle.std.proofs.lemmas.Bool.Decides.{nat_tests}
 use Rattle.ada_meaning.specs.Program.{Program}
 use Rattle.assembler.specs.Placed.{words_in, words_of}
+use Rattle.ada_meaning.specs.Collected.{decisions_of}
+use Rattle.ada_meaning.specs.Obligations.{numbers}
+use Rattle.compiler.proofs.DecisionEntries.{graph_in, own_graphs}
 use Rattle.compiler.specs.Held.{HoldsImage}
+use Rattle.compiler.specs.Made.{IsCompilable}
+use Rattle.cov_base.specs.declared.position.DecId.{DecId}
+use Rattle.decision_meaning.specs.Graph.{Edges}
 use Rattle.kernel_code.proofs.LengthLimits.{pieces_few}
 use Rattle.kernel_code.proofs.PiecesFit.{pieces_can_be_placed}
 use Rattle.kernel_code.specs.Code.{start_lines}
 use Rattle.kernel_code.specs.Line.{items_of}
 use Rattle.kernel_code.specs.Pieces.{kernel_pieces}
+use Rattle.kernel_ir.specs.Limits.{IsWellFormed}
 use Rattle.kernel_ir.specs.declared.kernel.Kernel.{Kernel}
 use Rattle.linker.proofs.Places.{text_words, is_entered}
 use Rattle.linker.specs.Linked.{linked}
-use Rattle.lower.proofs.Fits.{well_formed_law, within_law, short_law}
+use Rattle.lower.proofs.Fits.{well_formed_law}
+use Rattle.lower.proofs.Small.{within_law, short_law}
 use Rattle.lower.specs.Lowered.{kernel_of}
 use Rattle.lower.specs.Sizes.{all_nodes}
-use Rattle.lower.specs.StraightLine.{IsStraightLine}
+use Rattle.lower.specs.Structured.{IsStructured}
 use Rattle.object_format.specs.Fields.{is_placed}
 use Rattle.object_format.specs.Text.{is_in_text}
 use Rattle.object_format.specs.declared.object.Object.{Object}
@@ -44,14 +52,25 @@ text_long k o holds = ap length holds.text ∙ text_words (kernel_pieces k)
 start_long : (k : Kernel) → 7 ≤ words_in (kernel_pieces k)
 start_long k = let start : words_of (items_of (start_lines k.main)) ≡ 7 = refl in omega arith
 
+-- the decisions of a program that can be compiled have the numbers from 0 on
+pub numbers_law : (p : Program) → IsCompilable p → map (λ h. h.label.number) (decisions_of p.subprograms) ≡ numbers 0 (length (decisions_of p.subprograms))
+numbers_law p able = subst (λ hs. map (λ h. h.label.number) hs ≡ numbers 0 (length hs)) able.decisions_in_order able.numbered.decisions
+
+-- the graphs of its decisions, by their numbers
+abbrev pub able_graphs : Program → DecId → List Edges
+able_graphs p = graph_in (decisions_of p.subprograms)
+
+pub formed_law : (p : Program) → IsCompilable p → IsWellFormed (able_graphs p) (kernel_of p)
+formed_law p able = well_formed_law p able.structured (able_graphs p) (own_graphs (decisions_of p.subprograms) (numbers_law p able))
+
 -- text, entry and data have their places
-pub placed_law : (p : Program) (o : Object) → IsStraightLine p → all_nodes p.subprograms + length p.subprograms ≤ 4096 → HoldsImage (kernel_of p) o → is_placed o ≡ true
-placed_law p o plain few holds =
+pub placed_law : (p : Program) (o : Object) → IsCompilable p → HoldsImage (kernel_of p) o → is_placed o ≡ true
+placed_law p o able holds =
     let k = kernel_of p in
     let pieces = kernel_pieces k in
     let long = text_long k o holds in
     let some = start_long k in
-    let ends = (pieces_can_be_placed (λ d. []) k (well_formed_law p plain (λ d. [])) (within_law p plain few)).in_time in
+    let ends = (pieces_can_be_placed (able_graphs p) k (formed_law p able) (within_law p able.structured able.few)).in_time in
     let entered : is_in_text o.text o.entry ≡ true =
     ap (λ text. is_in_text text o.entry) holds.text ∙ (ap (is_in_text (linked pieces []).text) holds.entry ∙ is_entered pieces [] (omega arith)) in
     ap (λ at. is_laid_out (length o.text) (is_in_text o.text o.entry) at (length o.init)) holds.init_at
@@ -59,7 +78,7 @@ placed_law p o plain few holds =
     ∙ laid_out (length o.text) (is_in_text o.text o.entry) (omega arith) (omega arith) entered)
 
 -- the text takes at most 240 bytes for each node, and 4,096 beside
-pub text_bound : (p : Program) (o : Object) (nodes : ℕ) → IsStraightLine p → HoldsImage (kernel_of p) o → all_nodes p.subprograms + length p.subprograms ≤ nodes
+pub text_bound : (p : Program) (o : Object) (nodes : ℕ) → IsStructured p → HoldsImage (kernel_of p) o → all_nodes p.subprograms + length p.subprograms ≤ nodes
     → 4 * length o.text ≤ 240 * nodes + 4096
 text_bound p o nodes plain holds few =
     omega (arith, text_long (kernel_of p) o holds, pieces_few (kernel_of p), short_law p plain, few)

@@ -1,34 +1,36 @@
--- The roles of a kernel without conditions are those of checks and of other control flow, one for each branch.
-use Rattle.std.proofs.Common.{◌≡◌, ◌≢◌, ℕ, ◌+◌, ◌≤◌, ◌<◌, ◌==◌, ◌&&◌, ◌||◌, cond, not, if◌then◌else◌, Bool, true, false, nat_lt, List, [], ◌∷◌, ◌++◌, filter, length, map, slice_get, Option, Some, None, option_map, AllPairs, refl, sym, ap, ◌∙◌, subst, arith, inl, inr}
+-- The roles of a kernel are those of checks, of other control flow, and of its conditions, one for each branch.
+use Rattle.std.proofs.Common.{◌≡◌, ◌≢◌, ℕ, ◌+◌, ◌≤◌, ◌<◌, ◌==◌, ◌&&◌, ◌||◌, cond, if◌then◌else◌, Bool, true, false, nat_lt, nat_le, List, [], ◌∷◌, ◌++◌, filter, length, map, slice_get, zero, suc, Option, Some, None, option_map, AllPairs, Contains, All, refl, sym, ap, ◌∙◌, subst, arith, inl, inr}
 use Rattle.std.specs.List.{filter_map, cons_option, list_all, AllByRecursion}
-use Rattle.std.proofs.lemmas.Bool.{and_parts, ltb-true}
+use Rattle.std.proofs.lemmas.Bool.{and_parts}
 use Rattle.std.proofs.lemmas.Bool.Decides.{nat_tests}
 use Rattle.std.proofs.lemmas.List.{length-map}
+use Rattle.std.proofs.lemmas.List.Elements.{All-from_recursion}
+use Rattle.ada_meaning.specs.Collected.{Decision}
+use Rattle.ada_meaning.specs.Obligations.{numbers, decision_entry}
 use Rattle.assembler.proofs.Codes.{all_append}
 use Rattle.assembler.specs.declared.piece.Mark.{Mark}
 use Rattle.assembler.specs.declared.piece.Mark.TheVariants.{Row as RowMark, Role as RoleMark}
 use Rattle.assembler.specs.declared.piece.Piece.{Piece}
 use Rattle.assembler.specs.Placed.{labels, labels_at}
+use Rattle.compiler.proofs.Conditions.{condition_of_decision, conditions_differ}
+use Rattle.compiler.proofs.DecisionEntries.{count_there, count_is}
 use Rattle.compiler.specs.Held.{HoldsImage}
-use Rattle.compiler.specs.Source.{IsRoleOf}
 use Rattle.cov_base.specs.declared.obligations.DecEntry.{DecEntry}
-use Rattle.decision_meaning.specs.Pair.{Somewhere}
+use Rattle.decision_meaning.specs.Pair.{Everywhere}
 use Rattle.kernel_code.proofs.PieceLaws.{pieces_are_marked}
 use Rattle.kernel_code.specs.Calls.{first_layout, setting}
 use Rattle.kernel_code.specs.Code.{start_lines, body_lines}
 use Rattle.kernel_code.specs.FillCode.{layout_lines}
 use Rattle.kernel_code.specs.Line.{Line, Said, nothing, starts, decides, checks, steers, mark_of, marks_from}
-use Rattle.kernel_code.specs.Marked.{conditions_marked}
-use Rattle.kernel_code.specs.Pieces.{body_piece, layout_pieces, kernel_pieces, conditions_of_pieces}
-use Rattle.kernel_ir.specs.Obligations.{Condition, conditions}
+use Rattle.kernel_code.specs.Pieces.{body_piece, layout_pieces, kernel_pieces}
 use Rattle.kernel_ir.specs.declared.kernel.Body.{Body}
 use Rattle.kernel_ir.specs.declared.kernel.Kernel.{Kernel}
 use Rattle.kernel_ir.specs.declared.kernel.Layout.{Layout}
+use Rattle.legal_programs.specs.Listed.{HasOneCondition}
 use Rattle.line_table.specs.declared.roles.Role.{Role}
 use Rattle.linker.proofs.Roles.{roles_are_branches}
 use Rattle.linker.specs.Linked.{role_of, roles_from, linked}
-use Rattle.object_format.specs.Fields.{is_role, is_other_role, is_condition_role}
-use Rattle.object_format.specs.Read.{has_no_condition}
+use Rattle.object_format.specs.Fields.{is_role, is_other_role, is_condition_role, condition_count}
 use Rattle.object_format.specs.RoleCheck.{is_branch, branches_from, is_condition, condition_of, conditions_of, AreWhole, PassesRole}
 use Rattle.object_format.specs.declared.object.Object.{Object}
 use Rattle.rv_isa.specs.Decoding.{instr_of}
@@ -38,131 +40,160 @@ both_hold a b p q = rw (p, q) refl
 
 -- marks
 
--- the mark is a row, or the role of a check or of other control flow
-abbrev is_other_mark : Mark → Bool
-is_other_mark (RowMark item statement instance) = true
-is_other_mark (RoleMark item kind decision condition value instance) =
-    nat_lt kind.0 2 && (decision.0 == 0) && (condition.0 == 0) && (value == 0) && (instance.0 == 0)
+-- the role of a check or of other control flow, or one of a condition, whose branch is taken where it is True
+abbrev pub is_made_role : Role → Bool
+is_made_role role = is_other_role role || ((role.kind.0 == 2) && (role.value == 1))
 
-abbrev AreOther : List Mark → Type 0
-AreOther marks = conditions_marked marks ≡ [] → list_all is_other_mark marks ≡ true
+-- the mark is a row, or such a role
+abbrev is_made_mark : Mark → Bool
+is_made_mark (RowMark item statement instance) = true
+is_made_mark (RoleMark item kind decision condition value instance) =
+    (nat_lt kind.0 2 && (decision.0 == 0) && (condition.0 == 0) && (value == 0) && (instance.0 == 0)) || ((kind.0 == 2) && (value == 1))
 
-one_more : (place : ℕ) (said : Said) (marks : List Mark) → AreOther marks → AreOther (mark_of place said ++ marks)
-one_more place nothing marks rest none = rest none
-one_more place (starts statement instance) marks rest none = rest none
-one_more place (decides decision at_node instance) marks rest none = absurd (let x : ⊥ = cc none in x)
-one_more place checks marks rest none = rest none
-one_more place steers marks rest none = rest none
+abbrev AreMade : List Mark → Type 0
+AreMade marks = list_all is_made_mark marks ≡ true
 
-lines_are_other : (place : ℕ) (lines : List Line) → AreOther (marks_from place lines)
-lines_are_other place [] none = refl
-lines_are_other place (line ∷ lines) none = one_more place line.said (marks_from (place + 1) lines) (lines_are_other (place + 1) lines) none
+one_more : (place : ℕ) (said : Said) (marks : List Mark) → AreMade marks → AreMade (mark_of place said ++ marks)
+one_more place nothing marks rest = rest
+one_more place (starts statement instance) marks rest = rest
+one_more place (decides decision at_node instance) marks rest = rest
+one_more place checks marks rest = rest
+one_more place steers marks rest = rest
+
+lines_are_made : (place : ℕ) (lines : List Line) → AreMade (marks_from place lines)
+lines_are_made place [] = refl
+lines_are_made place (line ∷ lines) = one_more place line.said (marks_from (place + 1) lines) (lines_are_made (place + 1) lines)
 
 -- pieces
 
-abbrev PieceIsOther : Piece → Type 0
-PieceIsOther piece = AreOther piece.marks
+abbrev PieceIsMade : Piece → Type 0
+PieceIsMade piece = AreMade piece.marks
 
-bodies_are_other : (k : Kernel) (bs : List Body) → AllByRecursion PieceIsOther (map (body_piece k) bs)
-bodies_are_other k [] = tt
-bodies_are_other k (b ∷ bs) = (lines_are_other 0 (body_lines (setting k b.width) b.code), bodies_are_other k bs)
+bodies_are_made : (k : Kernel) (bs : List Body) → AllByRecursion PieceIsMade (map (body_piece k) bs)
+bodies_are_made k [] = tt
+bodies_are_made k (b ∷ bs) = (lines_are_made 0 (body_lines (setting k b.width) b.code), bodies_are_made k bs)
 
-layouts_are_other : (first l : ℕ) (xs : List Layout) → AllByRecursion PieceIsOther (layout_pieces first l xs)
-layouts_are_other first l [] = tt
-layouts_are_other first l (x ∷ xs) = (lines_are_other 0 (layout_lines first l x), layouts_are_other first (l + 1) xs)
+layouts_are_made : (first l : ℕ) (xs : List Layout) → AllByRecursion PieceIsMade (layout_pieces first l xs)
+layouts_are_made first l [] = tt
+layouts_are_made first l (x ∷ xs) = (lines_are_made 0 (layout_lines first l x), layouts_are_made first (l + 1) xs)
 
-pieces_are_other : (k : Kernel) → AllByRecursion PieceIsOther (kernel_pieces k)
-pieces_are_other k = (
-  lines_are_other 0 (start_lines k.main),
-  all_append PieceIsOther (map (body_piece k) k.bodies) (layout_pieces (first_layout k) 0 k.layouts) (bodies_are_other k k.bodies) (layouts_are_other (first_layout k) 0 k.layouts),
+pieces_are_made : (k : Kernel) → AllByRecursion PieceIsMade (kernel_pieces k)
+pieces_are_made k = (
+  lines_are_made 0 (start_lines k.main),
+  all_append PieceIsMade (map (body_piece k) k.bodies) (layout_pieces (first_layout k) 0 k.layouts) (bodies_are_made k k.bodies) (layouts_are_made (first_layout k) 0 k.layouts),
 )
 
 -- roles
 
-front_none : (xs ys : List Condition) → xs ++ ys ≡ [] → xs ≡ []
-front_none [] ys none = refl
-front_none (x ∷ xs) ys none = absurd (let x : ⊥ = cc none in x)
-
-back_none : (xs ys : List Condition) → xs ++ ys ≡ [] → ys ≡ []
-back_none [] ys none = none
-back_none (x ∷ xs) ys none = absurd (let x : ⊥ = cc none in x)
-
 -- the role of a mark, where its item has an address
-role_is_other : (f : ℕ → Role) (o : Option ℕ) (roles : List Role) (b : Bool) → ((address : ℕ) → is_other_role (f address) ≡ b) → b ≡ true → list_all is_other_role roles ≡ true
-    → list_all is_other_role (cons_option (option_map f o) roles) ≡ true
-role_is_other f None roles b is holds rest = rest
-role_is_other f (Some address) roles b is holds rest = both_hold (is_other_role (f address)) (list_all is_other_role roles) (is address ∙ holds) rest
+role_is_made : (f : ℕ → Role) (o : Option ℕ) (roles : List Role) (b : Bool) → ((address : ℕ) → is_made_role (f address) ≡ b) → b ≡ true → list_all is_made_role roles ≡ true
+    → list_all is_made_role (cons_option (option_map f o) roles) ≡ true
+role_is_made f None roles b is holds rest = rest
+role_is_made f (Some address) roles b is holds rest = both_hold (is_made_role (f address)) (list_all is_made_role roles) (is address ∙ holds) rest
 
-roles_of_marks : (own : List ℕ) (marks : List Mark) → list_all is_other_mark marks ≡ true → list_all is_other_role (filter_map (role_of own) marks) ≡ true
-roles_of_marks own [] other = refl
-roles_of_marks own (RowMark item statement instance ∷ marks) other = roles_of_marks own marks other
-roles_of_marks own (RoleMark item kind decision condition value instance ∷ marks) other =
-    let mark = is_other_mark (RoleMark item kind decision condition value instance) in
-    let parts = and_parts mark (list_all is_other_mark marks) other in
-    role_is_other (λ address. record { address = address; kind = kind; decision = decision; condition = condition; value = value; instance = instance })
+roles_of_marks : (own : List ℕ) (marks : List Mark) → AreMade marks → list_all is_made_role (filter_map (role_of own) marks) ≡ true
+roles_of_marks own [] made = refl
+roles_of_marks own (RowMark item statement instance ∷ marks) made = roles_of_marks own marks made
+roles_of_marks own (RoleMark item kind decision condition value instance ∷ marks) made =
+    let mark = is_made_mark (RoleMark item kind decision condition value instance) in
+    let parts = and_parts mark (list_all is_made_mark marks) made in
+    role_is_made (λ address. record { address = address; kind = kind; decision = decision; condition = condition; value = value; instance = instance })
     (slice_get own item.0) (filter_map (role_of own) marks) mark (λ address. refl) parts.0 (roles_of_marks own marks parts.1)
 
-all_joined : (xs ys : List Role) → list_all is_other_role xs ≡ true → list_all is_other_role ys ≡ true → list_all is_other_role (xs ++ ys) ≡ true
+all_joined : (xs ys : List Role) → list_all is_made_role xs ≡ true → list_all is_made_role ys ≡ true → list_all is_made_role (xs ++ ys) ≡ true
 all_joined [] ys front back = back
 all_joined (x ∷ xs) ys front back =
-    let parts = and_parts (is_other_role x) (list_all is_other_role xs) front in
-    both_hold (is_other_role x) (list_all is_other_role (xs ++ ys)) parts.0 (all_joined xs ys parts.1 back)
+    let parts = and_parts (is_made_role x) (list_all is_made_role xs) front in
+    both_hold (is_made_role x) (list_all is_made_role (xs ++ ys)) parts.0 (all_joined xs ys parts.1 back)
 
-roles_of_pieces : (all : List (List ℕ)) (own : ℕ) (pieces : List Piece) → AllByRecursion PieceIsOther pieces → conditions_of_pieces pieces ≡ [] → list_all is_other_role (roles_from all own pieces) ≡ true
-roles_of_pieces all own [] others none = refl
-roles_of_pieces all own (piece ∷ pieces) others none =
-    let here = conditions_marked piece.marks in
-    let later = conditions_of_pieces pieces in
+roles_of_pieces : (all : List (List ℕ)) (own : ℕ) (pieces : List Piece) → AllByRecursion PieceIsMade pieces → list_all is_made_role (roles_from all own pieces) ≡ true
+roles_of_pieces all own [] made = refl
+roles_of_pieces all own (piece ∷ pieces) made =
     all_joined (filter_map (role_of (labels_at all own)) piece.marks) (roles_from all (own + 1) pieces)
-    (roles_of_marks (labels_at all own) piece.marks (others.0 (front_none here later none)))
-    (roles_of_pieces all (own + 1) pieces others.1 (back_none here later none))
+    (roles_of_marks (labels_at all own) piece.marks made.0) (roles_of_pieces all (own + 1) pieces made.1)
 
--- the branches of a kernel without conditions belong to checks or to other control flow
-pub roles_are_other : (k : Kernel) (init : List ℕ) → conditions k ≡ [] → list_all is_other_role (linked (kernel_pieces k) init).roles ≡ true
-roles_are_other k init none =
-    roles_of_pieces (labels (kernel_pieces k)) 0 (kernel_pieces k) (pieces_are_other k) ((pieces_are_marked k).conditions_named ∙ none)
+-- the branches of a kernel belong to checks, to other control flow, or to conditions
+pub roles_are_made : (k : Kernel) (init : List ℕ) → list_all is_made_role (linked (kernel_pieces k) init).roles ≡ true
+roles_are_made k init = roles_of_pieces (labels (kernel_pieces k)) 0 (kernel_pieces k) (pieces_are_made k)
 
--- what roles of these kinds are not
+pub held_are_made : (k : Kernel) (o : Object) → HoldsImage k o → list_all is_made_role o.roles ≡ true
+held_are_made k o holds = ap (list_all is_made_role) holds.roles ∙ roles_are_made k []
 
-other_is_low : (role : Role) → is_other_role role ≡ true → role.kind.0 < 2
-other_is_low role other =
-    ltb-true role.kind.0 2 (first_of (nat_lt role.kind.0 2) (role.decision.0 == 0) (role.condition.0 == 0) (role.value == 0) (role.instance.0 == 0) other)
-  where
-    first_of : (a b c d e : Bool) → (a && b && c && d && e) ≡ true → a ≡ true
-    first_of true b c d e all = refl
-    first_of false b c d e all = all
+-- the conditions of numbered decisions
 
-low_is_no_condition : (kind : ℕ) → kind < 2 → (kind == 2) ≡ false
-low_is_no_condition kind low = grind (arith, nat_tests)
+-- a condition of one of these decisions, in the one instance
+abbrev IsOf : List DecEntry → (ℕ × ℕ) × ℕ → Type 0
+IsOf decisions c = (c.1 < condition_count (slice_get decisions c.0.0)) × (c.0.1 < 1)
 
--- they are no conditions
-pub others_decide_nothing : (roles : List Role) → list_all is_other_role roles ≡ true → has_no_condition roles ≡ true
-others_decide_nothing [] other = refl
-others_decide_nothing (role ∷ roles) other =
-    let parts = and_parts (is_other_role role) (list_all is_other_role roles) other in
-    both_hold (not (is_condition role)) (has_no_condition roles) (ap not (low_is_no_condition role.kind.0 (other_is_low role parts.0))) (others_decide_nothing roles parts.1)
+module _ (hs : List Decision) (one : Everywhere (λ h. HasOneCondition h.test) hs) where
+  abbrev entries : List DecEntry
+  entries = map decision_entry hs
 
-no_conditions_of : (roles : List Role) → list_all is_other_role roles ≡ true → conditions_of roles ≡ []
-no_conditions_of [] other = refl
-no_conditions_of (role ∷ roles) other =
-    let parts = and_parts (is_other_role role) (list_all is_other_role roles) other in
-    ap (λ b. map condition_of (cond b (role ∷ filter is_condition roles) (filter is_condition roles))) (low_is_no_condition role.kind.0 (other_is_low role parts.0))
-    ∙ no_conditions_of roles parts.1
+  known_from : (from count : ℕ) → from + count ≤ length hs → Everywhere (IsOf entries) (map condition_of_decision (numbers from count))
+  known_from from zero within = tt
+  known_from from (suc count) within = ((omega (arith, count_is hs from one (omega arith)), omega arith), known_from (suc from) count (omega arith))
 
--- whatever the decisions
-pub others_are_roles : (decisions : List DecEntry) (instances : ℕ) (roles : List Role) → list_all is_other_role roles ≡ true → list_all (is_role decisions instances) roles ≡ true
-others_are_roles decisions instances [] other = refl
-others_are_roles decisions instances (role ∷ roles) other =
-    let parts = and_parts (is_other_role role) (list_all is_other_role roles) other in
-    both_hold (is_role decisions instances role) (list_all (is_role decisions instances) roles)
-    (ap (λ b. b || is_condition_role decisions instances role) parts.0) (others_are_roles decisions instances roles parts.1)
+  zero_from : (from count : ℕ) → AllByRecursion (λ (c : (ℕ × ℕ) × ℕ). c.1 ≡ 0) (map condition_of_decision (numbers from count))
+  zero_from from zero = tt
+  zero_from from (suc count) = (refl, zero_from (suc from) count)
 
--- none is that of a condition
-pub no_branch : (roles : List Role) → list_all is_other_role roles ≡ true → (d c i : ℕ) → Somewhere (IsRoleOf d c i) roles → ⊥
-no_branch [] other d c i there = absurd there
-no_branch (role ∷ roles) other d c i (inl is) =
-    absurd (omega (arith, is.0, other_is_low role (and_parts (is_other_role role) (list_all is_other_role roles) other).0))
-no_branch (role ∷ roles) other d c i (inr later) = no_branch roles (and_parts (is_other_role role) (list_all is_other_role roles) other).1 d c i later
+  -- with the condition of a decision the decision has no other
+  whole_from : (count : ℕ) (found : List ((ℕ × ℕ) × ℕ)) → found ≡ map condition_of_decision (numbers 0 count) → AreWhole entries found
+  whole_from count found is c has n below =
+      let zeros : All (λ (d : (ℕ × ℕ) × ℕ). d.1 ≡ 0) found = subst (λ cs. All (λ (d : (ℕ × ℕ) × ℕ). d.1 ≡ 0) cs) (sym is) (All-from_recursion (λ (d : (ℕ × ℕ) × ℕ). d.1 ≡ 0) (map condition_of_decision (numbers 0 count)) (zero_from 0 count)) in
+      let here : c.1 ≡ 0 = subst (λ (d : (ℕ × ℕ) × ℕ). d.1 ≡ 0) has.2 (zeros has.0 c has.1) in
+      let other : n ≡ 0 = (count_there hs c.0.0 n one below).1 in
+      subst (λ d. Contains found d) (let same : c.1 ≡ n = here ∙ sym other in λ i. (c.0, same i)) has
+
+  -- such roles are roles of these decisions
+
+  by_kind : (role : Role) (b : Bool) → is_condition role ≡ b → is_made_role role ≡ true → (b ≡ true → IsOf entries (condition_of role)) → is_role entries 1 role ≡ true
+  by_kind role true is made known =
+      let k = known refl in
+      let parts = value_of role is made in
+      ap (λ c. is_other_role role || c) (both_hold _ _ (both_hold _ _ (both_hold (role.kind.0 == 2) (nat_lt role.condition.0 (condition_count (slice_get entries role.decision.0))) is (below_holds _ _ k.0)) parts) (below_holds _ _ k.1))
+      ∙ or_true (is_other_role role)
+    where
+      below_holds : (a b : ℕ) → a < b → nat_lt a b ≡ true
+      below_holds a b less = grind (arith, nat_tests)
+
+      or_true : (a : Bool) → (a || true) ≡ true
+      or_true true = refl
+      or_true false = refl
+
+      one_is_least : (n : ℕ) → (n == 1) ≡ true → nat_le n 1 ≡ true
+      one_is_least n is = grind (arith, nat_tests)
+
+      other_is_none : (n : ℕ) (d c v i : Bool) → (n == 2) ≡ true → (nat_lt n 2 && d && c && v && i) ≡ false
+      other_is_none n d c v i two = ap (λ b. b && d && c && v && i) (let low : nat_lt n 2 ≡ false = grind (arith, nat_tests) in low)
+
+      value_of : (r : Role) → is_condition r ≡ true → is_made_role r ≡ true → nat_le r.value 1 ≡ true
+      value_of r two makes =
+          one_is_least r.value (and_parts (r.kind.0 == 2) (r.value == 1)
+          (sym (ap (λ b. b || ((r.kind.0 == 2) && (r.value == 1))) (other_is_none r.kind.0 (r.decision.0 == 0) (r.condition.0 == 0) (r.value == 0) (r.instance.0 == 0) two)) ∙ makes)).1
+  by_kind role false is made known = ap (λ b. b || is_condition_role entries 1 role) (other_of role is made)
+    where
+      drop_second : (a c d : Bool) → c ≡ false → (a || (c && d)) ≡ true → a ≡ true
+      drop_second true c d none all = refl
+      drop_second false true d none all = absurd (let x : ⊥ = cc in x)
+      drop_second false false d none all = all
+
+      other_of : (r : Role) → is_condition r ≡ false → is_made_role r ≡ true → is_other_role r ≡ true
+      other_of r two makes = drop_second (is_other_role r) (r.kind.0 == 2) (r.value == 1) two makes
+
+  roles_pass : (roles : List Role) → list_all is_made_role roles ≡ true → Everywhere (IsOf entries) (conditions_of roles) → list_all (is_role entries 1) roles ≡ true
+  roles_pass [] made known = refl
+  roles_pass (role ∷ roles) made known =
+      let parts = and_parts (is_made_role role) (list_all is_made_role roles) made in
+      by_test (is_condition role) refl parts.0 known (roles_pass roles parts.1)
+    where
+      by_test : (b : Bool) → is_condition role ≡ b → is_made_role role ≡ true
+          → Everywhere (IsOf entries) (map condition_of (cond b (role ∷ filter is_condition roles) (filter is_condition roles)))
+          → (Everywhere (IsOf entries) (conditions_of roles) → list_all (is_role entries 1) roles ≡ true) → list_all (is_role entries 1) (role ∷ roles) ≡ true
+      by_test true is makes found rest =
+          both_hold (is_role entries 1 role) (list_all (is_role entries 1) roles) (by_kind role true is makes (λ e. found.0)) (rest found.1)
+      by_test false is makes found rest =
+          both_hold (is_role entries 1 role) (list_all (is_role entries 1) roles) (by_kind role false is makes (λ e. absurd (let x : ⊥ = cc in x))) (rest found)
 
 -- how many roles there are
 
@@ -180,17 +211,19 @@ pub roles_few : (o : Object) → PassesRole o → length o.roles ≤ length o.te
 roles_few o passes =
     omega (arith, sym (length-map o.roles (λ (role : Role). role.address)) ∙ ap length passes.branches, branches_few 0x10000 o.text)
 
--- an object that holds the image of such a kernel
+-- an object that holds the image of a kernel, whose conditions are those of numbered decisions
 
-pub held_are_other : (k : Kernel) (o : Object) → conditions k ≡ [] → HoldsImage k o → list_all is_other_role o.roles ≡ true
-held_are_other k o none holds = ap (list_all is_other_role) holds.roles ∙ roles_are_other k [] none
+module _ (hs : List Decision) (one : Everywhere (λ h. HasOneCondition h.test) hs) (k : Kernel) (o : Object) (holds : HoldsImage k o)
+    (found : conditions_of o.roles ≡ map condition_of_decision (numbers 0 (length hs))) where
+  pub held_are_roles : list_all (is_role (map decision_entry hs) 1) o.roles ≡ true
+  held_are_roles =
+      roles_pass hs one o.roles (held_are_made k o holds)
+      (subst (λ cs. Everywhere (IsOf (map decision_entry hs)) cs) (sym found) (known_from hs one 0 (length hs) (omega arith)))
 
-pub held_passes : (k : Kernel) (o : Object) → conditions k ≡ [] → HoldsImage k o → PassesRole o
-held_passes k o none holds =
-    let undecided = no_conditions_of o.roles (held_are_other k o none holds) in
-    record {
-      branches = ap (map (λ (role : Role). role.address)) holds.roles
-          ∙ (roles_are_branches (kernel_pieces k) [] (pieces_are_marked k).marks holds.items ∙ ap (branches_from 0x10000) (sym holds.text));
-      single = subst (λ found. AllPairs (λ one next. one ≢ next) found) (sym undecided) (λ i j d below within. absurd (omega (arith, within)));
-      whole = subst (λ found. AreWhole o.obligations.decisions found) (sym undecided) (λ one has condition below. absurd (omega (arith, has.1)));
-    }
+  pub held_passes : o.obligations.decisions ≡ map decision_entry hs → PassesRole o
+  held_passes are = record {
+    branches = ap (map (λ (role : Role). role.address)) holds.roles
+        ∙ (roles_are_branches (kernel_pieces k) [] (pieces_are_marked k).marks holds.items ∙ ap (branches_from 0x10000) (sym holds.text));
+    single = subst (λ cs. AllPairs (λ one next. one ≢ next) cs) (sym found) (conditions_differ 0 (length hs));
+    whole = subst (λ ds. AreWhole ds (conditions_of o.roles)) (sym are) (whole_from hs one (length hs) (conditions_of o.roles) found);
+  }

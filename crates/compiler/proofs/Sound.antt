@@ -1,16 +1,19 @@
 -- An object that is made of a program passes the checks of objects.
-use Rattle.std.proofs.Common.{◌≡◌, ◌≢◌, ℕ, zero, suc, ◌^◌, ◌≤◌, ◌<◌, ◌==◌, ◌&&◌, Bool, true, false, nat_lt, nat_le, List, [], ◌∷◌, ◌++◌, length, map, AllPairs, refl, sym, ap, ◌∙◌, subst, arith, lit≤, length-append}
+use Rattle.std.proofs.Common.{◌≡◌, ◌≢◌, ℕ, zero, suc, ◌^◌, ◌≤◌, ◌<◌, ◌==◌, ◌&&◌, cond, Bool, true, false, nat_lt, nat_le, List, [], ◌∷◌, ◌++◌, filter, length, map, AllPairs, refl, sym, ap, ◌∙◌, subst, arith, lit≤, length-append}
 use Rattle.std.specs.List.{list_all, AllByRecursion}
 use Rattle.std.proofs.lemmas.Bool.Decides.{nat_tests}
 use Rattle.std.proofs.lemmas.List.{append-nil, length-map}
 use Rattle.std.proofs.lemmas.List.Elements.{All-from_recursion}
-use Rattle.ada_meaning.specs.Collected.{declaration_labels, labels_of, labels, all_labels, block_labels}
-use Rattle.ada_meaning.specs.Obligations.{numbers, predefined_names, no_instance}
+use Rattle.ada_meaning.specs.Collected.{Decision, declaration_labels, labels_of, labels, all_labels, branch_labels, block_labels, decisions_of}
+use Rattle.ada_meaning.specs.Objects.{block_objects}
+use Rattle.ada_meaning.specs.Obligations.{numbers, predefined_names, no_instance, decision_entry}
 use Rattle.ada_meaning.specs.Program.{Subprogram, Program}
 use Rattle.ada_meaning.specs.Tree as tree
-use Rattle.ada_meaning.specs.Types as type
-use Rattle.compiler.proofs.Placing.{placed_law, text_bound}
-use Rattle.compiler.proofs.Roles.{others_decide_nothing, others_are_roles, roles_few, held_are_other, held_passes}
+use Rattle.compiler.proofs.Conditions.{conditions_of_linked, condition_of_decision}
+use Rattle.compiler.proofs.Conditions.{named as named_condition}
+use Rattle.compiler.proofs.DecisionEntries.{have_one, are_expressions}
+use Rattle.compiler.proofs.Placing.{numbers_law, placed_law, text_bound}
+use Rattle.compiler.proofs.Roles.{roles_few, held_are_roles, held_passes}
 use Rattle.compiler.proofs.RowStarts.{named, start_at, starts_of_linked, starts_differ, rows_in_range}
 use Rattle.compiler.specs.Made.{places_in, IsCompilable, IsMadeOf}
 use Rattle.cov_base.specs.declared.obligations.Obligations.{Obligations}
@@ -18,22 +21,23 @@ use Rattle.cov_base.specs.declared.position.Pos.{Pos}
 use Rattle.decision_meaning.specs.Pair.{Everywhere}
 use Rattle.kernel_code.proofs.PieceLaws.{pieces_are_marked}
 use Rattle.kernel_code.specs.Pieces.{kernel_pieces}
-use Rattle.legal_programs.specs.Listed.{entry_at, obligations_at}
+use Rattle.legal_programs.specs.Listed.{HasOneCondition, entry_at, obligations_at}
 use Rattle.line_table.specs.declared.roles.Role.{Role}
 use Rattle.line_table.specs.declared.rows.Row.{Row as TableRow}
 use Rattle.linker.proofs.RowMarks.{rows_are_in_order}
 use Rattle.linker.specs.Linked.{linked}
 use Rattle.lower.proofs.Marks.{rows_law, conditions_law}
 use Rattle.lower.specs.Lowered.{kernel_of}
-use Rattle.lower.specs.Marked.{row_of}
-use Rattle.lower.specs.Sizes.{declarations_nodes, statement_nodes, statements_nodes, block_nodes, all_nodes}
-use Rattle.lower.specs.StraightLine.{IsPlainStatement, ArePlainStatements, IsPlainBlock, IsPlainProcedure}
+use Rattle.lower.specs.Marked.{row_of, condition_of}
+use Rattle.lower.specs.Sizes.{declarations_nodes, statement_nodes, statements_nodes, branches_nodes, block_nodes, all_nodes}
+use Rattle.lower.specs.Structured.{behind_all, IsPlainStatement, ArePlainStatements, ArePlainBranches, IsPlainBlock, IsPlainProcedure}
 use Rattle.object_format.specs.Checked.{IsSound}
 use Rattle.object_format.specs.Counts.{IsCountable, AreCountable, InstanceFits, RegionFits, IsCounted}
 use Rattle.object_format.specs.Decisions.{AreExpression}
-use Rattle.object_format.specs.Fields.{is_placed, are_files, are_statements, are_obliged, is_row, is_role, is_other_role, passes_field}
-use Rattle.object_format.specs.Read.{HasObject, has_no_condition, is_plain}
-use Rattle.object_format.specs.RoleCheck.{PassesRole}
+use Rattle.object_format.specs.Fields.{is_placed, are_files, are_statements, are_decisions, are_obliged, is_row, is_role, passes_field}
+use Rattle.object_format.specs.Read.{HasObject, have_one_condition, is_plain}
+use Rattle.object_format.specs.RoleCheck.{is_condition, conditions_of, PassesRole}
+use Rattle.object_format.specs.RoleCheck.{condition_of as numbers_of}
 use Rattle.object_format.specs.RowCheck.{start_of, is_in, PassesRow}
 use Rattle.object_format.specs.declared.object.FileEntry.{FileEntry}
 use Rattle.object_format.specs.declared.object.Object.{Object}
@@ -56,26 +60,38 @@ label_declarations [] = omega arith
 label_declarations (tree.initialized l d v ∷ ds) = omega (arith, label_declarations ds)
 label_declarations (tree.without_value d t ∷ ds) = omega (arith, label_declarations ds)
 
-label_each : (p : Program) (n : ℕ) (s : tree.Stmt) → IsPlainStatement p n s → length (labels s) ≤ statement_nodes s
-label_each p n (tree.null_statement l) plain = omega arith
-label_each p n (tree.assignment l o parts v) plain = omega arith
-label_each p n (tree.procedure_call l c actuals) plain = omega arith
-label_each p n (tree.return_statement l) plain = omega arith
-label_each p n s plain = absurd plain
+mutual
+  label_each : (p : Program) (k : ℕ) (visible : List ℕ) (s : tree.Stmt) → IsPlainStatement p k visible s → length (labels s) ≤ statement_nodes s
+  label_each p k visible (tree.null_statement l) plain = omega arith
+  label_each p k visible (tree.assignment l o parts v) plain = omega arith
+  label_each p k visible (tree.procedure_call l c actuals) plain = omega arith
+  label_each p k visible (tree.if_statement l bs) plain = omega (arith, label_branches p k visible bs plain)
+  label_each p k visible (tree.bare_loop l ss) plain = omega (arith, label_all p k visible ss plain)
+  label_each p k visible (tree.while_loop l d t ss) plain = omega (arith, label_all p k visible ss plain.1)
+  label_each p k visible (tree.exit_statement l) plain = omega arith
+  label_each p k visible (tree.exit_when l d t) plain = omega arith
+  label_each p k visible (tree.return_statement l) plain = omega arith
+  label_each p k visible (tree.block_statement b) plain = omega (arith, label_block p k visible b plain)
+  label_each p k visible s plain = absurd plain
 
-label_all : (p : Program) (n : ℕ) (ss : tree.Stmts) → ArePlainStatements p n ss → length (all_labels ss) ≤ statements_nodes ss
-label_all p n tree.no_statement plain = omega arith
-label_all p n (tree.and_statement s ss) plain = omega (arith, length-append (labels s) (all_labels ss), label_each p n s plain.0, label_all p n ss plain.1)
+  label_all : (p : Program) (k : ℕ) (visible : List ℕ) (ss : tree.Stmts) → ArePlainStatements p k visible ss → length (all_labels ss) ≤ statements_nodes ss
+  label_all p k visible tree.no_statement plain = omega arith
+  label_all p k visible (tree.and_statement s ss) plain = omega (arith, length-append (labels s) (all_labels ss), label_each p k visible s plain.0, label_all p k visible ss plain.1)
 
-label_block : (p : Program) (b : tree.Block) → IsPlainBlock p b → length (block_labels b) ≤ block_nodes b
-label_block p (tree.block ds ss tree.no_handler) plain =
-    let front = declaration_labels ds in
-    omega (arith, length-append (front ++ all_labels ss) [], length-append front (all_labels ss), label_declarations ds, label_all p (length ds) ss plain.2)
-label_block p (tree.block ds ss (tree.handler cs hss hs)) plain = absurd plain
+  label_branches : (p : Program) (k : ℕ) (visible : List ℕ) (bs : tree.Branches) → ArePlainBranches p k visible bs → length (branch_labels bs) ≤ branches_nodes bs
+  label_branches p k visible (tree.else_part ss) plain = label_all p k visible ss plain
+  label_branches p k visible (tree.branch d t ss bs) plain =
+      omega (arith, length-append (all_labels ss) (branch_labels bs), label_all p k visible ss plain.1, label_branches p k visible bs plain.2)
+
+  label_block : (p : Program) (k : ℕ) (visible : List ℕ) (b : tree.Block) → IsPlainBlock p k visible b → length (block_labels b) ≤ block_nodes b
+  label_block p k visible (tree.block ds ss tree.no_handler) plain =
+      let front = declaration_labels ds in
+      omega (arith, length-append (front ++ all_labels ss) [], length-append front (all_labels ss), label_declarations ds, label_all p k (behind_all visible ds) ss plain.1)
+  label_block p k visible (tree.block ds ss (tree.handler cs hss hs)) plain = absurd plain
 
 label_bodies : (p : Program) (ss : List Subprogram) → Everywhere (IsPlainProcedure p) ss → length (labels_of ss) ≤ all_nodes ss
 label_bodies p [] plain = omega arith
-label_bodies p (s ∷ ss) plain = omega (arith, length-append (block_labels s.body) (labels_of ss), label_block p s.body plain.0.body, label_bodies p ss plain.1)
+label_bodies p (s ∷ ss) plain = omega (arith, length-append (block_labels s.body) (labels_of ss), label_block p (length (block_objects s.body)) [] s.body plain.0.body, label_bodies p ss plain.1)
 
 numbers_long : (from count : ℕ) → length (numbers from count) ≡ count
 numbers_long from zero = refl
@@ -87,18 +103,21 @@ starts_of_labels : (ls : List tree.Label) → map named (map row_of ls) ≡ map 
 starts_of_labels [] = refl
 starts_of_labels (l ∷ ls) = ap (λ starts. start_at l.number ∷ starts) (starts_of_labels ls)
 
--- obligations of statements alone
+-- obligations of statements and decisions
 
-obliged_holds : (files : ℕ) (places : List Pos) → are_statements files (map entry_at places) ≡ true → are_obliged files (obligations_at places []) ≡ true
-obliged_holds files places statements = ap (λ b. true && true && b && true && true) statements
+obliged_holds : (files : ℕ) (places : List Pos) (hs : List Decision) → are_statements files (map entry_at places) ≡ true
+    → are_decisions files (length (map entry_at places)) (map decision_entry hs) ≡ true → are_obliged files (obligations_at places hs []) ≡ true
+obliged_holds files places hs statements decisions =
+    ap (λ b. true && true && b && are_decisions files (length (map entry_at places)) (map decision_entry hs) && true) statements ∙ ap (λ b. true && true && true && b && true) decisions
 
-abbrev plain_parts : List ℕ → Obligations → List Role → Bool
-plain_parts init ob roles =
-    (length init == 0) && (length ob.exceptions == 4) && (length ob.instances == 1) && (length ob.decisions == 0) && (length ob.regions == 0) && has_no_condition roles
+abbrev plain_parts : List ℕ → Obligations → Bool
+plain_parts init ob =
+    (length init == 0) && (length ob.exceptions == 4) && (length ob.instances == 1) && have_one_condition ob.decisions && (length ob.regions == 0)
 
-plain_holds : (places : List Pos) (init : List ℕ) (ob : Obligations) (roles : List Role) → init ≡ [] → ob ≡ obligations_at places [] → has_no_condition roles ≡ true → plain_parts init ob roles ≡ true
-plain_holds places init ob roles no_init obligations undecided =
-    ap (λ i. plain_parts i ob roles) no_init ∙ (ap (λ x. plain_parts [] x roles) obligations ∙ undecided)
+plain_holds : (places : List Pos) (hs : List Decision) (init : List ℕ) (ob : Obligations) → init ≡ [] → Everywhere (λ h. HasOneCondition h.test) hs → ob ≡ obligations_at places hs []
+    → plain_parts init ob ≡ true
+plain_holds places hs init ob no_init one obligations =
+    ap (λ i. plain_parts i ob) no_init ∙ (ap (λ x. plain_parts [] x) obligations ∙ ap (λ b. true && true && true && b && true) (have_one hs one))
 
 few_files : (files : List FileEntry) → are_files files ≡ true → length files ≤ 64
 few_files files are =
@@ -115,13 +134,23 @@ starts_law p o able made =
     let marked = pieces_are_marked (kernel_of p) in
     ap (map start_of) made.holds.rows
     ∙ (starts_of_linked (kernel_pieces (kernel_of p)) [] marked.marks
-    ∙ (ap (map named) (marked.rows_named ∙ rows_law p able.straight)
+    ∙ (ap (map named) (marked.rows_named ∙ rows_law p able.structured)
     ∙ (starts_of_labels (labels_of p.subprograms)
     ∙ ap (map start_at) (subst (λ ls. map (λ l. l.number) ls ≡ numbers 0 (length ls)) able.in_order able.numbered.statements))))
 
--- none of its branches is that of a condition
-pub others_law : (p : Program) (o : Object) → IsCompilable p → IsMadeOf p o → list_all is_other_role o.roles ≡ true
-others_law p o able made = held_are_other (kernel_of p) o (conditions_law p able.straight) made.holds
+-- the conditions that its roles have
+conditions_named : (hs : List Decision) → map named_condition (map condition_of hs) ≡ map condition_of_decision (map (λ h. h.label.number) hs)
+conditions_named [] = refl
+conditions_named (h ∷ hs) = ap (λ cs. condition_of_decision h.label.number ∷ cs) (conditions_named hs)
+
+pub found_law : (p : Program) (o : Object) → IsCompilable p → IsMadeOf p o
+    → conditions_of o.roles ≡ map condition_of_decision (numbers 0 (length (decisions_of p.subprograms)))
+found_law p o able made =
+    let marked = pieces_are_marked (kernel_of p) in
+    ap conditions_of made.holds.roles
+    ∙ (conditions_of_linked (kernel_pieces (kernel_of p)) [] marked.marks
+    ∙ (ap (map named_condition) (marked.conditions_named ∙ conditions_law p able.structured)
+    ∙ (conditions_named (decisions_of p.subprograms) ∙ ap (map condition_of_decision) (numbers_law p able))))
 
 pub entries_long : (p : Program) → length (map entry_at (places_in p)) ≡ length (labels_of p.subprograms)
 entries_long p = length-map (places_in p) entry_at ∙ length-map (labels_of p.subprograms) (λ l. l.place)
@@ -131,15 +160,18 @@ entries_long p = length-map (places_in p) entry_at ∙ length-map (labels_of p.s
 field_law : (p : Program) (o : Object) → IsCompilable p → IsMadeOf p o → passes_field o ≡ true
 field_law p o able made =
     let n = length (labels_of p.subprograms) in
-    let obliged : are_obliged (length o.files) o.obligations ≡ true =
-    ap (are_obliged (length o.files)) made.obligations
-    ∙ obliged_holds (length o.files) (places_in p) (sym (ap (λ ob. are_statements (length o.files) ob.statements) made.obligations) ∙ made.statements) in
+    let hs = decisions_of p.subprograms in
+    let files = length o.files in
+    let obliged : are_obliged files o.obligations ≡ true =
+    ap (are_obliged files) made.obligations
+    ∙ obliged_holds files (places_in p) hs (sym (ap (λ ob. are_statements files ob.statements) made.obligations) ∙ made.statements)
+    (sym (ap (λ ob. are_decisions files (length ob.statements) ob.decisions) made.obligations) ∙ made.decisions) in
     let rows : list_all (is_row (length o.obligations.statements) (length o.obligations.instances)) o.rows ≡ true =
     ap (λ ob. list_all (is_row (length ob.statements) (length ob.instances)) o.rows) made.obligations
     ∙ (ap (λ m. list_all (is_row m 1) o.rows) (entries_long p) ∙ rows_in_range n o.rows (starts_law p o able made)) in
     let roles : list_all (is_role o.obligations.decisions (length o.obligations.instances)) o.roles ≡ true =
-    others_are_roles o.obligations.decisions (length o.obligations.instances) o.roles (others_law p o able made) in
-    both_hold _ _ (both_hold _ _ (both_hold _ _ (both_hold (is_placed o) (are_files o.files) (placed_law p o able.straight able.few made.holds) made.files) obliged) rows) roles
+    ap (λ ob. list_all (is_role ob.decisions (length ob.instances)) o.roles) made.obligations ∙ held_are_roles hs able.tests (kernel_of p) o made.holds (found_law p o able made) in
+    both_hold _ _ (both_hold _ _ (both_hold _ _ (both_hold (is_placed o) (are_files o.files) (placed_law p o able made.holds) made.files) obliged) rows) roles
 
 row_law : (p : Program) (o : Object) → IsCompilable p → IsMadeOf p o → PassesRow o
 row_law p o able made =
@@ -151,41 +183,59 @@ row_law p o able made =
       once = subst (λ starts. AllPairs (λ one next. one ≢ next) starts) (sym (starts_law p o able made)) (starts_differ 0 (length (labels_of p.subprograms)));
     }
 
-role_law : (p : Program) (o : Object) → IsCompilable p → IsMadeOf p o → PassesRole o
-role_law p o able made = held_passes (kernel_of p) o (conditions_law p able.straight) made.holds
+pub role_law : (p : Program) (o : Object) → IsCompilable p → IsMadeOf p o → PassesRole o
+role_law p o able made =
+    held_passes (decisions_of p.subprograms) able.tests (kernel_of p) o made.holds (found_law p o able made) (ap (λ ob. ob.decisions) made.obligations)
 
 sound_law : (p : Program) (o : Object) → IsCompilable p → IsMadeOf p o → IsSound o
 sound_law p o able made = record {
   field = field_law p o able made;
-  decision = subst (λ ob. AllByRecursion (λ d. AreExpression d.expression.postfix (length d.conditions)) ob.decisions) (sym made.obligations) tt;
+  decision = subst (λ ob. AllByRecursion (λ d. AreExpression d.expression.postfix (length d.conditions)) ob.decisions) (sym made.obligations)
+      (are_expressions (decisions_of p.subprograms) able.tests);
   row = row_law p o able made;
   role = role_law p o able made;
 }
+
+filtered_few : (roles : List Role) → length (filter is_condition roles) ≤ length roles
+filtered_few [] = omega arith
+filtered_few (role ∷ roles) = by_test (is_condition role) (filtered_few roles)
+  where
+    by_test : (b : Bool) → length (filter is_condition roles) ≤ length roles → length (cond b (role ∷ filter is_condition roles) (filter is_condition roles)) ≤ length (role ∷ roles)
+    by_test true few = omega (arith, few)
+    by_test false few = omega (arith, few)
+
+-- there are no more decisions than roles
+decisions_few : (p : Program) (o : Object) → IsCompilable p → IsMadeOf p o → length (decisions_of p.subprograms) ≤ length o.roles
+decisions_few p o able made =
+    let n = length (decisions_of p.subprograms) in
+    let long : length (conditions_of o.roles) ≡ n = ap length (found_law p o able made) ∙ (length-map (numbers 0 n) condition_of_decision ∙ numbers_long 0 n) in
+    omega (arith, long, length-map (filter is_condition o.roles) numbers_of, filtered_few o.roles)
 
 -- the counts
 
 counted_law : (p : Program) (o : Object) → IsCompilable p → IsMadeOf p o → IsCounted o
 counted_law p o able made =
     let n = length (labels_of p.subprograms) in
-    let few : n ≤ 4096 = omega (arith, label_bodies p p.subprograms able.straight.bodies, able.few) in
+    let few : n ≤ 4096 = omega (arith, label_bodies p p.subprograms able.structured.bodies, able.few) in
     let rows_long : length o.rows ≡ n =
     sym (length-map o.rows start_of) ∙ (ap length (starts_law p o able made) ∙ (length-map (numbers 0 n) start_at ∙ numbers_long 0 n)) in
     record {
-      text = omega (arith, text_bound p o 4096 able.straight made.holds able.few);
+      text = omega (arith, text_bound p o 4096 able.structured made.holds able.few);
       init = subst (λ (words : List ℕ). length words < 2 ^ 32) (sym made.holds.init) (lit≤ tt);
       files = (omega (arith, few_files o.files made.files), made.names);
       instances = subst (λ ob. AreCountable InstanceFits ob.instances) (sym made.obligations) (lit≤ tt, All-from_recursion InstanceFits (no_instance ∷ []) (lit≤ tt, tt));
       exceptions = subst (λ ob. AreCountable IsCountable ob.exceptions) (sym made.obligations)
           (lit≤ tt, All-from_recursion IsCountable predefined_names (lit≤ tt, (lit≤ tt, (lit≤ tt, (lit≤ tt, tt)))));
       statements = subst (λ ob. IsCountable ob.statements) (sym made.obligations) (omega (arith, entries_long p, few));
-      decisions = subst (λ ob. IsCountable ob.decisions) (sym made.obligations) (lit≤ tt);
+      decisions = subst (λ ob. IsCountable ob.decisions) (sym made.obligations)
+          (omega (arith, length-map (decisions_of p.subprograms) decision_entry, decisions_few p o able made, roles_few o (role_law p o able made), text_bound p o 4096 able.structured made.holds able.few));
       regions = subst (λ ob. AreCountable RegionFits ob.regions) (sym made.obligations) (lit≤ tt, All-from_recursion RegionFits [] tt);
       rows = omega (arith, rows_long, few);
-      roles = omega (arith, roles_few o (role_law p o able made), text_bound p o 4096 able.straight made.holds able.few);
+      roles = omega (arith, roles_few o (role_law p o able made), text_bound p o 4096 able.structured made.holds able.few);
     }
 
 pub made_law : (p : Program) (o : Object) → IsCompilable p → IsMadeOf p o → HasObject o × (is_plain o ≡ true)
 made_law p o able made = (
   record { sound = sound_law p o able made; counted = counted_law p o able made },
-  plain_holds (places_in p) o.init o.obligations o.roles made.holds.init made.obligations (others_decide_nothing o.roles (others_law p o able made)),
+  plain_holds (places_in p) (decisions_of p.subprograms) o.init o.obligations made.holds.init able.tests made.obligations,
 )

@@ -7,12 +7,12 @@ use Rattle.ada_meaning.specs.Program.{Program}
 use Rattle.ada_syntax.specs.declared.unit.Unit.{Unit as LibraryUnit}
 use Rattle.ada_types.specs.Checked.{entry_of}
 use Rattle.ada_types.specs.Legal.{elaborated}
-use Rattle.ada_types.specs.Typing.{places_of}
+use Rattle.ada_places.specs.Places.{places_of, decision_places, condition_places}
 use Rattle.compiler.specs.Held.{HoldsImage}
 use Rattle.compiler.specs.Source.{entry_of_file}
 use Rattle.cov_base.specs.declared.obligations.SourceFile.{SourceFile}
 use Rattle.generic_expand.specs.Expanded.{first_past}
-use Rattle.legal_programs.specs.Rising.{StatementsRise}
+use Rattle.legal_programs.specs.Rising.{StatementsRise, DecisionsRise}
 use Rattle.lower.specs.Lowered.{kernel_of}
 use Rattle.object_format.specs.declared.object.Object.{Object}
 use Rattle.parsed_programs.specs.Places.{AreInFiles}
@@ -34,11 +34,14 @@ pub record IsBuiltOf (files : List SourceFile) (p : Program) (o : Object) : Type
   pub sources : o.files ≡ map entry_of_file files
   pub obligations : o.obligations ≡ obligations_of p []
 
--- sources that are this legal program, as `IsLegal` says, whose statements stand in the files in order
+-- sources that are this legal program, as `IsLegal` says, whose statements and decisions stand in the files in order
 pub record AreLegal (files : List SourceFile) (main : List ℕ) (p : Program) : Type 0 where
   pub units : List LibraryUnit
   pub parsed : HaveUnits files units
   pub rising : StatementsRise units
+  pub decisions_rising : DecisionsRise units
   pub within : AreInFiles (length files) (places_of units)
+  pub decisions_within : AreInFiles (length files) (decision_places units)
+  pub conditions_within : AreInFiles (length files) (condition_places units)
   pub elaborated : elaborated units main ≡ Some p
   pub small : first_past 0 (map entry_of units) ≡ None

@@ -4,7 +4,7 @@ use Rattle.std.specs.List.{All}
 use Rattle.ada_meaning.specs.Obligations.{obligations_of}
 use Rattle.ada_meaning.specs.Program.{Program}
 use Rattle.ada_syntax.specs.declared.unit.Unit.{Unit as LibraryUnit}
-use Rattle.ada_types.specs.Typing.{places_of}
+use Rattle.ada_places.specs.Places.{places_of, decision_places, condition_places}
 use Rattle.compiler.specs.Held.{HoldsImage}
 use Rattle.parsed_programs.specs.Places.{AreInFiles}
 use Rattle.lower.specs.Lowered.{kernel_of}
@@ -13,10 +13,12 @@ use Rattle.object_format.specs.Fields.{are_files}
 use Rattle.object_format.specs.declared.object.Object.{Object}
 
 -- an object that is compiled from units, whose typed program is p, without exempt regions: it holds the image of the program's kernel and
--- the program's obligations, and the statements of the units stand in its files
+-- the program's obligations, and the statements, decisions and conditions of the units stand in its files
 pub record IsCompiled (units : List LibraryUnit) (p : Program) (o : Object) : Type 0 where
   pub holds : HoldsImage (kernel_of p) o
   pub obligations : o.obligations ≡ obligations_of p []
   pub files : are_files o.files ≡ true
   pub names : All FileFits o.files
   pub places : AreInFiles (length o.files) (places_of units)
+  pub decisions : AreInFiles (length o.files) (decision_places units)
+  pub conditions : AreInFiles (length o.files) (condition_places units)

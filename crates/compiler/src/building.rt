@@ -1,7 +1,6 @@
 //! From a legal program to its object, but for the closing digest.
 
 ghost use Rattle.std.specs.Prelude.{◌≡◌, [], IfOk, OnOk, map};
-ghost use Rattle.ada_meaning.specs.Collected.{decisions_of};
 ghost use Rattle.ada_tree.specs.View.{program_of};
 ghost use Rattle.assembler.specs.Reach.{AreItems};
 ghost use Rattle.compiler.specs.Built.{IsBuiltOf};
@@ -26,8 +25,7 @@ pub(crate) fn object_of(
     files: &[SourceFile],
     program: &Program,
 ) -> Result<Object, AllocError>
-    requires compilable { IsCompilable (program_of program.now) }
-    requires undecided { decisions_of (program_of program.now).subprograms ≡ [] }
+    requires { IsCompilable (program_of program.now) }
     ensures { IfOk result (IsBuiltOf files.now (program_of program.now)) }
 {
     let files = file_entries(alloc, files)?;

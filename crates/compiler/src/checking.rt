@@ -10,10 +10,11 @@ ghost use Rattle.compiler.specs.Checking.{UnitsAreRefused, PassesLimit};
 ghost use Rattle.compiler.specs.Legal.{RefusesFor};
 ghost use Rattle.generic_expand.specs.Expanded as expanded;
 
+use ada_expressions::TypeFault;
 use ada_names::NameFault;
 use ada_syntax::Unit;
 use ada_tree::Program;
-use ada_types::{CheckFault, LimitFault, TypeFault, check};
+use ada_types::{CheckFault, LimitFault, check};
 use cov_base::{Failure, Pos, SourceFile};
 use generic_expand::{ExpandFault, expand};
 use parsed_programs::{SourceFault, Why, units_of};

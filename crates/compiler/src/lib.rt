@@ -21,6 +21,6 @@ pub use compiling::{Compiled, compile};
 pub use laws::objects_behave_as_their_programs;
 pub use soundness::{
     made_objects_pass_their_checks, rising_places_are_statements,
-    roles_without_conditions_are_of_checks_and_structure, texts_are_bounded,
+    roles_are_of_checks_structure_and_conditions, texts_are_bounded,
 };
 pub use sources::{built_objects_are_of_their_sources, legal_sources_are_not_refused};

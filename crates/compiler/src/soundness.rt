@@ -1,29 +1,25 @@
 //! What objects of programs are.
 
-ghost use Rattle.std.specs.Prelude.{◌≡◌, ◌+◌, ◌*◌, ◌≤◌, ℕ, List, [], true, length, map};
-ghost use Rattle.std.specs.List.{list_all};
+ghost use Rattle.std.specs.Prelude.{◌≡◌, ◌+◌, ◌*◌, ◌≤◌, ℕ, List, true, length, map};
 ghost use Rattle.ada_meaning.specs.Program.{Program};
 ghost use Rattle.compiler.specs.Held.{HoldsImage};
 ghost use Rattle.compiler.specs.Made.{IsCompilable, IsMadeOf};
 ghost use Rattle.parsed_programs.specs.Places.{AreInFiles};
 ghost use Rattle.cov_base.specs.declared.position.Pos.{Pos};
-ghost use Rattle.kernel_ir.specs.Obligations.{conditions};
-ghost use Rattle.kernel_ir.specs.declared.kernel.Kernel.{Kernel};
 ghost use Rattle.legal_programs.specs.Listed.{entry_at};
 ghost use Rattle.legal_programs.specs.Rising.{rise};
 ghost use Rattle.lower.specs.Lowered.{kernel_of};
 ghost use Rattle.lower.specs.Sizes.{all_nodes};
-ghost use Rattle.lower.specs.StraightLine.{IsStraightLine};
-ghost use Rattle.object_format.specs.Fields.{is_other_role, are_statements};
+ghost use Rattle.lower.specs.Structured.{IsStructured};
+ghost use Rattle.object_format.specs.Fields.{are_statements};
 ghost use Rattle.object_format.specs.Read.{HasObject, is_plain};
 ghost use Rattle.object_format.specs.RoleCheck.{PassesRole};
 ghost use Rattle.object_format.specs.declared.object.Object.{Object};
 
-/// An object that holds the image of a kernel without conditions has one role for each branch of its
-/// text, and each is that of a check of the language, or of other control flow.
-pub fn roles_without_conditions_are_of_checks_and_structure()
-    ensures kinds { (k : Kernel) (o : Object) → conditions k ≡ [] → HoldsImage k o → list_all is_other_role o.roles ≡ true }
-    ensures passes { (k : Kernel) (o : Object) → conditions k ≡ [] → HoldsImage k o → PassesRole o }
+/// The object that is made of a program has one role for each branch of its text: that of a check of
+/// the language, of other control flow, or of the condition of a decision, each once.
+pub fn roles_are_of_checks_structure_and_conditions()
+    ensures { (p : Program) (o : Object) → IsCompilable p → IsMadeOf p o → PassesRole o }
 {}
 
 /// The object that is made of a program passes the checks of objects, and has a file.
@@ -39,6 +35,6 @@ pub fn rising_places_are_statements()
 
 /// The text of a program's image takes at most 240 bytes for each node, and 4,096 beside.
 pub fn texts_are_bounded()
-    ensures { (p : Program) (o : Object) (nodes : ℕ) → IsStraightLine p → HoldsImage (kernel_of p) o
+    ensures { (p : Program) (o : Object) (nodes : ℕ) → IsStructured p → HoldsImage (kernel_of p) o
         → all_nodes p.subprograms + length p.subprograms ≤ nodes → 4 * length o.text ≤ 240 * nodes + 4096 }
 {}

@@ -21,7 +21,7 @@ fn unit(line: u32, nodes: u32) -> UnitEntry {
 fn program(alloc: Global, first: u32, second: u32) -> Result<Program, AllocError> {
     let body = Block {
         declarations: Seq::from(Vec::new(alloc)),
-        statements: Seq::from(Vec::new(alloc)),
+        statements: Vec::new(alloc),
     };
     let units = vec![in alloc; unit(1, first), unit(7, second)]?;
     Ok(Program {

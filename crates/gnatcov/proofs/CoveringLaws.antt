@@ -1,11 +1,8 @@
 -- What adding traces makes of a coverage, and what is reported of it.
-use Rattle.std.proofs.Common.{◌≡◌, ◌↔◌, ◌⊎◌, inl, inr, ⊎_elim, ℕ, Bool, true, false, ◌&&◌, ◌==◌, List, [], ◌∷◌, ◌++◌, length, map, Result, Ok, refl, sym, ap, subst, ◌∙◌, arith}
-use Rattle.std.proofs.lemmas.Bool.{eqb-true}
-use Rattle.annotated_report.specs.Caller.{AreEvaluated, AreOfStatements}
+use Rattle.std.proofs.Common.{◌≡◌, ◌↔◌, ◌⊎◌, inl, inr, ⊎_elim, ℕ, List, [], ◌∷◌, ◌++◌, length, map, Result, Ok, refl, sym, ap, subst, ◌∙◌}
 use Rattle.annotated_report.specs.Report.{report_text}
 use Rattle.cov_base.specs.declared.event.Event.{Event}
 use Rattle.cov_base.specs.declared.level.Level.{Level}
-use Rattle.cov_base.specs.declared.obligations.DecEntry.{DecEntry}
 use Rattle.coverage_set.specs.Covered.{Covered, Has, HasRun, IsCountOfRuns}
 use Rattle.decision_meaning.specs.Pair.{Somewhere}
 use Rattle.gnatcov.specs.Content.{RefusesTrace, Shows, ClosesWith, IsReport}
@@ -13,7 +10,6 @@ use Rattle.gnatcov.specs.Covering.{Adds, IsBadFit}
 use Rattle.gnatcov.specs.declared.status.Status.{Status}
 use Rattle.object_facts.specs.Object.{facts_of}
 use Rattle.object_format.specs.declared.object.Object.{Object}
-use Rattle.object_format.specs.Read.{has_no_condition, is_plain}
 use Rattle.trace_format.specs.Checks.{trace_of}
 use Rattle.trace_format.specs.declared.fault.TraceFault.{TraceFault}
 use Rattle.trace_format.specs.Trace.{TraceFile}
@@ -110,30 +106,6 @@ report_made level o c count events names text all counted are told = record {
   each_once = counted.each_once;
   told = told ∙ ap (λ (n : ℕ). report_text level o.obligations n events names) counted.long ∙ ap (λ (ns : List (List ℕ)). report_text level o.obligations (length counted.digests) events ns) are;
 }
-
--- the fourth of six
-fourth : (a b c d e f : Bool) → (a && b && c && d && e && f) ≡ true → d ≡ true
-fourth a b c true e f h = refl
-fourth true true true false e f h = h
-fourth true true false false e f h = h
-fourth true false c false e f h = h
-fourth false b c false e f h = h
-
-empty : (ds : List DecEntry) → length ds ≡ 0 → ds ≡ []
-empty [] none = refl
-empty (d ∷ ds) none = absurd (omega (arith, none))
-
--- an object of today has no decision
-no_decisions : (o : Object) → is_plain o ≡ true → o.obligations.decisions ≡ []
-no_decisions o plain =
-    empty o.obligations.decisions (eqb-true (length o.obligations.decisions) 0 (fourth (length o.init == 0) (length o.obligations.exceptions == 4)
-    (length o.obligations.instances == 1) (length o.obligations.decisions == 0) (length o.obligations.regions == 0) (has_no_condition o.roles) plain))
-
-pub statements_known : (o : Object) → is_plain o ≡ true → AreOfStatements o.obligations.decisions (length o.obligations.statements)
-statements_known o plain = λ d entry there. absurd (cc (no_decisions o plain, there))
-
-pub evaluations_known : (o : Object) (events : List Event) → is_plain o ≡ true → AreEvaluated o.obligations.decisions events
-evaluations_known o events plain = λ d entry there. absurd (cc (no_decisions o plain, there))
 
 -- a trace that fails a check beside the object
 pub bad_fit : (number : ℕ) (o : Object) (bytes : List ℕ) (t : TraceFile) (status : Status) → trace_of bytes ≡ Ok t → IsBadFit number o t status → RefusesTrace number o bytes status

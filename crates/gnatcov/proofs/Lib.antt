@@ -1,5 +1,6 @@
 pub mod ClauseLaws
 pub mod CoveringLaws
+pub mod DecisionLaws
 pub mod ObjectLaws
 pub mod RefusalLaws
 pub mod RunLaws

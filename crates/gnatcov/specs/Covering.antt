@@ -1,11 +1,17 @@
 -- What adding traces makes of a coverage, and what is reported of it.
 use Rattle.std.specs.Prelude.{◌≡◌, ◌↔◌, ◌⊎◌, ℕ, List, None, Some, Result, Ok, Err}
 use Rattle.cov_base.specs.declared.event.Event.{Event}
+use Rattle.cov_base.specs.declared.event.Event.TheVariants.{Done}
+use Rattle.cov_base.specs.declared.event.Vector.{Vector}
 use Rattle.cov_base.specs.declared.level.Level.{Level}
+use Rattle.cov_base.specs.declared.position.DecId.{DecId}
+use Rattle.cov_base.specs.declared.position.InstId.{InstId}
 use Rattle.coverage_set.specs.Covered.{Covered, Has, HasRun}
 use Rattle.decision_map.specs.declared.fault.FitFault.{FitFault}
+use Rattle.decision_map.specs.Decisions.{graph_at}
 use Rattle.decision_map.specs.Fits.{fault_of}
 use Rattle.decision_meaning.specs.Pair.{Somewhere}
+use Rattle.decision_meaning.specs.Path.{IsPathVector}
 use Rattle.gnatcov.specs.Content.{FailsAlone, Shows, ClosesWith, IsReport}
 use Rattle.gnatcov.specs.declared.status.Status.{Status}
 use Rattle.gnatcov.specs.declared.status.Status.TheVariants.{TraceRefused, WantOfMemory}
@@ -20,6 +26,10 @@ pub record Adds (o : Object) (old new : Covered) (traces : List (List ℕ)) : Ty
   pub object : new.object ≡ old.object
   pub events : (e : Event) → Has new e ↔ (Has old e ⊎ Somewhere (λ trace. Shows o trace e) traces)
   pub runs : (digest : List ℕ) → HasRun new digest ↔ (HasRun old digest ⊎ Somewhere (ClosesWith digest) traces)
+
+-- each vector that a coverage has is of a path of its decision's graph in the object
+abbrev pub HasPaths : Object → Covered → Type 0
+HasPaths o c = (d : DecId) (i : InstId) (vector : Vector) → Has c (Done d i vector) → IsPathVector (graph_at o d.0) vector
 
 -- the report of a coverage was made, without a file, unless memory was refused
 abbrev pub IsReportOf : Level → Object → Covered → Result Output Status → Type 0

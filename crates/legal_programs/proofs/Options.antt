@@ -30,3 +30,12 @@ if_each P (Some y) h = h
 
 pub of_some : {X : Type 0} (P : X → Type 0) (o : Option X) (x : X) → IfSome o P → o ≡ Some x → P x
 of_some P o x h is = subst (λ r. IfSome r P) is h
+
+pub any_value : {X : Type 0} (o : Option X) → IfSome o (λ x. Unit {0})
+any_value None = tt
+any_value (Some x) = tt
+
+pub one_of_two : {X : Type 0} (P : X → Type 0) (b c : Bool) (x y : X) → P x → P y → IfSome (if b then Some x else if c then Some y else None) P
+one_of_two P true c x y first second = first
+one_of_two P false true x y first second = second
+one_of_two P false false x y first second = tt

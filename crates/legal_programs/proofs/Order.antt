@@ -4,11 +4,12 @@ use Rattle.std.specs.List.{count_by}
 use Rattle.std.proofs.lemmas.List.Sums.{sum_by-cons}
 use Rattle.decision_meaning.specs.Pair.{Everywhere}
 use Rattle.cov_base.specs.declared.position.Pos.{Pos}
+use Rattle.ada_meaning.specs.Collected.{Decision}
 use Rattle.ada_meaning.specs.Obligations.{precedes, inserted, in_order, numbers}
 use Rattle.ada_meaning.specs.Tree.{Label}
-use Rattle.ada_types.specs.Order.{AreOrdered}
-use Rattle.ada_types.specs.Typing.{label_at}
-use Rattle.ada_types.proofs.Order.{never_itself, not_back, transitive}
+use Rattle.ada_places.specs.Order.{AreOrdered}
+use Rattle.ada_places.specs.Places.{label_at}
+use Rattle.ada_places.proofs.Order.{never_itself, not_back, transitive}
 use Rattle.legal_programs.specs.Rising.{is_followed, rise}
 
 both : (a b : Bool) → (a && b) ≡ true → (a ≡ true) × (b ≡ true)
@@ -89,3 +90,19 @@ labels_in_order all (p ∷ ps) h = ap (λ ls. inserted stands_before (label_at a
 pub length_labels : (all ps : List Pos) → length (map (label_at all) ps) ≡ length ps
 length_labels all [] = refl
 length_labels all (p ∷ ps) = ap suc (length_labels all ps)
+
+-- decisions at places
+abbrev pub begins_before : Decision → Decision → Bool
+begins_before a b = precedes a.label.place b.label.place
+
+abbrev pub decision_place : Decision → Pos
+decision_place h = h.label.place
+
+decision_stays : (h : Decision) (hs : List Decision) → Everywhere (λ q. precedes h.label.place q ≡ true) (map decision_place hs)
+    → inserted begins_before h hs ≡ h ∷ hs
+decision_stays h [] before = refl
+decision_stays h (g ∷ gs) before = rw (not_back h.label.place g.label.place before.0) refl
+
+pub decisions_stay : (hs : List Decision) → AreOrdered (map decision_place hs) → in_order begins_before hs ≡ hs
+decisions_stay [] h = refl
+decisions_stay (g ∷ gs) h = ap (λ all. inserted begins_before g all) (decisions_stay gs h.1) ∙ decision_stays g gs h.0

@@ -2,31 +2,31 @@
 //! functions here do nothing: each carries a law of the definitions as its contract.
 #![tactic(auto)]
 
-ghost use Rattle.std.specs.Prelude.{◌≡◌, ◌≤◌, ◌<◌, ◌+◌, ◌-◌, ◌^◌, ℕ, List, [], Some, length, map, sum_by};
+ghost use Rattle.std.specs.Prelude.{◌≡◌, ◌≤◌, ◌<◌, ◌+◌, ◌-◌, ◌^◌, ℕ, List, [], ◌∷◌, Some, length, map, sum_by};
 ghost use Rattle.ada_syntax.specs.Nodes.{capped, unit_nodes};
 ghost use Rattle.ada_syntax.specs.declared.unit.Unit.{Unit as LibraryUnit};
 ghost use Rattle.cov_base.specs.declared.obligations.Region.{Region};
+ghost use Rattle.decision_meaning.specs.Pair.{Everywhere};
+ghost use Rattle.ada_meaning.specs.Collected as collected;
 ghost use Rattle.ada_meaning.specs.Collected.{labels_of, decisions_of};
 ghost use Rattle.ada_meaning.specs.Objects.{IsDeclaredOnce};
-ghost use Rattle.ada_meaning.specs.Obligations.{numbers, obligations_of, ordered_labels, IsNumbered, IsResolved};
+ghost use Rattle.ada_meaning.specs.Obligations.{numbers, obligations_of, ordered_labels, ordered_decisions, IsNumbered, IsResolved};
 ghost use Rattle.ada_meaning.specs.Program.{Program};
+ghost use Rattle.ada_places.specs.Places.{label_at, places_of, decision_places, condition_places};
 ghost use Rattle.ada_types.specs.Legal.{elaborated};
-ghost use Rattle.ada_types.specs.Typing.{label_at, places_of};
-ghost use Rattle.legal_programs.specs.Listed.{obligations_at, row_at};
-ghost use Rattle.legal_programs.specs.Rising.{StatementsRise};
-ghost use Rattle.lower.specs.Marked.{row_of};
+ghost use Rattle.legal_programs.specs.Listed.{HasOneCondition, condition_at, obligations_at, row_at};
+ghost use Rattle.legal_programs.specs.Rising.{DecisionsRise, StatementsRise};
+ghost use Rattle.lower.specs.Marked.{condition_of, row_of};
 ghost use Rattle.lower.specs.Sizes.{all_nodes};
-ghost use Rattle.lower.specs.StraightLine.{IsStraightLine};
+ghost use Rattle.lower.specs.Structured.{IsStructured};
 
 /// A legal program has procedures without parameters, with objects of one word whose values are in the
-/// base range. Their statements are `null`, `return`, assignments, `Put` of an expression and `Get` of
-/// an object. Its main procedure is one of them, and there is one for each unit.
-pub fn legal_programs_are_straight_lines()
-    ensures straight { (units : List LibraryUnit) (main : List ℕ) (p : Program) → elaborated units main ≡ Some p → IsStraightLine p }
+/// base range, and of statements those of `IsStructured`. Its main procedure is one of them, and there
+/// is one for each unit.
+pub fn legal_programs_are_structured()
+    ensures structured { (units : List LibraryUnit) (main : List ℕ) (p : Program) → elaborated units main ≡ Some p → IsStructured p }
     ensures as_many { (units : List LibraryUnit) (main : List ℕ) (p : Program) → elaborated units main ≡ Some p
         → length p.subprograms ≡ length units }
-    ensures decisions { (units : List LibraryUnit) (main : List ℕ) (p : Program) → elaborated units main ≡ Some p
-        → decisions_of p.subprograms ≡ [] }
 {}
 
 /// A legal program has, with its subprograms, no more nodes than its units have tokens that count as
@@ -45,37 +45,58 @@ pub fn labels_stand_at_their_statements()
         → map (λ l. l.place) (labels_of p.subprograms) ≡ places_of units }
 {}
 
-/// The numbers in a legal program are those of its obligations, where the places of its statements
-/// rise. What its instances have for formals is resolved, since there are none. Each object of a
-/// subprogram has a number of its own.
+/// Its decisions stand where the conditions of its if statements, while loops and exit statements do,
+/// in the order of the text. Each has one condition, and is held by one of the statements.
+pub fn decisions_stand_at_their_conditions()
+    ensures labels { (units : List LibraryUnit) (main : List ℕ) (p : Program) → elaborated units main ≡ Some p
+        → map (λ h. h.label) (decisions_of p.subprograms) ≡ map (label_at (decision_places units)) (decision_places units) }
+    ensures conditions { (units : List LibraryUnit) (main : List ℕ) (p : Program) → elaborated units main ≡ Some p
+        → map (λ h. collected.condition_places h.test) (decisions_of p.subprograms) ≡ map (λ place. place ∷ []) (condition_places units) }
+    ensures tests { (units : List LibraryUnit) (main : List ℕ) (p : Program) → elaborated units main ≡ Some p
+        → Everywhere (λ h. HasOneCondition h.test) (decisions_of p.subprograms) }
+    ensures statements { (units : List LibraryUnit) (main : List ℕ) (p : Program) → elaborated units main ≡ Some p
+        → Everywhere (λ h. h.statement < length (places_of units)) (decisions_of p.subprograms) }
+{}
+
+/// The numbers in a legal program are those of its obligations, where the places of its statements and
+/// decisions rise. What its instances have for formals is resolved, since there are none. Each object
+/// of a subprogram has a number of its own.
 pub fn legal_programs_are_numbered()
     ensures numbered { (units : List LibraryUnit) (main : List ℕ) (p : Program) → elaborated units main ≡ Some p → StatementsRise units
-        → IsNumbered p }
+        → DecisionsRise units → IsNumbered p }
     ensures in_order { (units : List LibraryUnit) (main : List ℕ) (p : Program) → elaborated units main ≡ Some p → StatementsRise units
         → ordered_labels p ≡ labels_of p.subprograms }
+    ensures decisions_in_order { (units : List LibraryUnit) (main : List ℕ) (p : Program) → elaborated units main ≡ Some p → DecisionsRise units
+        → ordered_decisions p ≡ decisions_of p.subprograms }
     ensures resolved { (units : List LibraryUnit) (main : List ℕ) (p : Program) → elaborated units main ≡ Some p → IsResolved p }
     ensures declared_once { (units : List LibraryUnit) (main : List ℕ) (p : Program) → elaborated units main ≡ Some p → IsDeclaredOnce p }
 {}
 
-/// The obligations of a legal program are its statements, at the places of the text, where these
-/// rise. There is no decision, nothing stands in a generic, and the exceptions are the predefined ones.
-pub fn obligations_are_the_statements()
+/// The obligations of a legal program are its statements, at the places of the text, and its decisions,
+/// where these rise. Nothing stands in a generic, and the exceptions are the predefined ones.
+pub fn obligations_are_statements_and_decisions()
     ensures { (units : List LibraryUnit) (main : List ℕ) (p : Program) (regions : List Region) → elaborated units main ≡ Some p → StatementsRise units
-        → obligations_of p regions ≡ obligations_at (places_of units) regions }
+        → DecisionsRise units → obligations_of p regions ≡ obligations_at (places_of units) (decisions_of p.subprograms) regions }
 {}
 
 /// The rows of a legal program's statement obligations, in the order of the text, have the numbers
-/// from 0 on, where the places of its statements rise: row k is that of obligation k.
+/// from 0 on, where the places of its statements rise: row k is that of obligation k. So have the
+/// conditions of its decisions, where their places rise.
 pub fn rows_have_the_numbers_of_obligations()
-    ensures { (units : List LibraryUnit) (main : List ℕ) (p : Program) → elaborated units main ≡ Some p → StatementsRise units
+    ensures rows { (units : List LibraryUnit) (main : List ℕ) (p : Program) → elaborated units main ≡ Some p → StatementsRise units
         → map row_of (labels_of p.subprograms) ≡ map row_at (numbers 0 (length (places_of units))) }
+    ensures conditions { (units : List LibraryUnit) (main : List ℕ) (p : Program) → elaborated units main ≡ Some p → DecisionsRise units
+        → map condition_of (decisions_of p.subprograms) ≡ map condition_at (numbers 0 (length (decision_places units))) }
 {}
 
-/// A legal program has a statement obligation for each place of its units, and where the nodes of its
-/// units, as they are counted, are within a limit, so are its nodes with its subprograms.
-pub fn statements_are_counted()
+/// A legal program has a statement obligation and a decision for each place of its units, and where
+/// the nodes of its units, as they are counted, are within a limit, so are its nodes with its
+/// subprograms.
+pub fn obligations_are_counted()
     ensures statements { (units : List LibraryUnit) (main : List ℕ) (p : Program) → elaborated units main ≡ Some p
         → length (labels_of p.subprograms) ≡ length (places_of units) }
+    ensures decisions { (units : List LibraryUnit) (main : List ℕ) (p : Program) → elaborated units main ≡ Some p
+        → length (decisions_of p.subprograms) ≡ length (decision_places units) }
     ensures limit { (units : List LibraryUnit) (main : List ℕ) (p : Program) (limit : ℕ) → elaborated units main ≡ Some p → limit < 2 ^ 32 - 1
         → sum_by (λ u. capped (unit_nodes u)) units ≤ limit → all_nodes p.subprograms + length p.subprograms ≤ limit }
 {}

@@ -21,7 +21,11 @@ nothing_put a = sym (joined_nothing a)
 pub two_put : (a b c x y : Code) → b ≡ joined a x → c ≡ joined b y → c ≡ joined a (joined x y)
 two_put a b c x y first second = second ∙ ap (λ z. joined z y) first ∙ joined_assoc a x y
 
--- the same where the second piece may not fit in memory
+-- three pieces
+pub three_put : (a b c d x y z : Code) → b ≡ joined a x → c ≡ joined b y → d ≡ joined c z → d ≡ joined a (joined x (joined y z))
+three_put a b c d x y z first second third = two_put a b d x (joined y z) first (two_put b c d y z second third)
+
+-- two pieces, where the second one may not fit in memory
 pub then_put : {A E : Type 0} (r : Result A E) (a b c x y : Code) → b ≡ joined a x → OnOk r (c ≡ joined b y) → OnOk r (c ≡ joined a (joined x y))
 then_put (Ok u) a b c x y first second = two_put a b c x y first second
 then_put (Err e) a b c x y first second = tt

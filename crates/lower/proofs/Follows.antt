@@ -1,31 +1,30 @@
 -- A kernel does what its program does.
-use Rattle.std.proofs.Common.{◌≡◌, ◌≢◌, ℕ, zero, suc, ◌+◌, ◌-◌, ◌*◌, ◌<◌, ◌≤◌, max, nat_lt, ℤ, true, false, List, [], ◌∷◌, length, map, Option, Some, None, slice_get, refl, ap, arith}
+use Rattle.std.proofs.Common.{◌≡◌, ◌≢◌, ℕ, zero, suc, ◌+◌, ◌-◌, ◌*◌, ◌<◌, ◌≤◌, nat_lt, ℤ, true, false, List, [], ◌∷◌, length, map, Option, Some, slice_get, refl, ap, arith}
 use Rattle.std.proofs.lemmas.Bool.{lt-ltb}
-use Rattle.ada_meaning.specs.Calls.{Calls}
 use Rattle.ada_meaning.specs.Execution as source
 use Rattle.ada_meaning.specs.Program.{Subprogram, Program}
 use Rattle.ada_meaning.specs.Resolved.{number_in, bounds_in}
 use Rattle.ada_meaning.specs.State as state
 use Rattle.ada_meaning.specs.State.{World, Outcome, Gives, Raises, OutOfFuel, goes_to, give}
-use Rattle.ada_meaning.specs.Statements.{Flow, does_all, declares_all, does_block}
+use Rattle.ada_meaning.specs.Statements.{Flow}
 use Rattle.ada_meaning.specs.Tree as tree
 use Rattle.decision_meaning.specs.Pair.{Everywhere}
-use Rattle.kernel_ir.proofs.Joining.{joined_does}
 use Rattle.kernel_ir.specs.declared.kernel.Body.{Body}
 use Rattle.kernel_ir.specs.Limits.{IsWithin, most_arguments, widest}
 use Rattle.kernel_ir.specs.Meaning as code
 use Rattle.kernel_ir.specs.World.{Memory, Ended, Ends, Cut, area_end}
 use Rattle.kernel_ir.specs.World as kernel
-use Rattle.lower.specs.Lowered.{end_of_declarations, end_of_statements, width_of, declarations_code, statements_code, block_code, body_of, kernel_of}
+use Rattle.lower.specs.Lowered.{objects_in, end_of_block, width_of, body_of, kernel_of}
 use Rattle.lower.specs.Same.{Observed, Same}
-use Rattle.lower.specs.StraightLine.{IsPlainBlock, IsPlainProcedure, IsStraightLine}
-use Rattle.lower.proofs.Relation.{Inside, Runs, AtStops, runs_are, runs_then}
-use Rattle.lower.proofs.Steps.{Step, steps_are, Called, CallsDo, declarations_do, statements_do}
+use Rattle.lower.specs.Structured.{IsPlainProcedure, IsStructured}
+use Rattle.lower.proofs.Building.{statements_above}
+use Rattle.lower.proofs.Flows.{Step, steps_are}
+use Rattle.lower.proofs.Relation.{Inside, Runs, AtStops, runs_are}
+use Rattle.lower.proofs.Steps.{Called, CallsDo, block_does}
 
 -- a frame has a slot behind the objects
-pub objects_below : (k : ℕ) (ds : List tree.Declaration) → k < end_of_declarations k ds
-objects_below k [] = omega arith
-objects_below k (d ∷ ds) = omega (arith, objects_below k ds)
+pub block_above : (k : ℕ) (b : tree.Block) → k < end_of_block k b
+block_above k (tree.block ds ss hs) = omega (arith, statements_above k ss)
 
 module _ (fp : ℕ) (start : World) (begun : kernel.World) where
   -- what a body gives to its caller
@@ -35,31 +34,14 @@ module _ (fp : ℕ) (start : World) (begun : kernel.World) where
   framed_stops : AtStops Framed
   framed_stops = record { raises = λ x y w v same seen. (same, seen); cut = λ w v seen. seen }
 
-  called_inside : (n : ℕ) (w : World) (v : kernel.World) → Inside fp (suc start.depth) start.store begun.memory n 0 w v → Called fp start begun (state.at_depth start.depth w) v
-  called_inside n w v h = record { depth_is = refl; input = h.input; words = h.words; kept = λ q le. h.kept q (omega (arith, le)); seen = h.seen }
+  called_inside : (objects : ℕ) (w : World) (v : kernel.World) → Inside fp (suc start.depth) objects start.store begun.memory [] 0 w v
+      → Called fp start begun (state.at_depth start.depth w) v
+  called_inside objects w v h = record { depth_is = refl; input = h.input; words = h.words; kept = λ q le. h.kept q (omega (arith, le)); seen = h.seen }
 
-  framed_body : (n : ℕ) (r : Outcome Flow) (e : Ended) → Step (Inside fp (suc start.depth) start.store begun.memory n 0) r e → Framed (state.caught r (λ x. state.raise x)) e
-  framed_body n =
-      steps_are (Inside fp (suc start.depth) start.store begun.memory n 0) (λ r e. Framed (state.caught r (λ x. state.raise x)) e)
-      (record { raises = λ x y w v same seen. (same, seen); cut = λ w v seen. seen }) (λ w v h. called_inside n w v h) (λ r w v h. called_inside n w v h)
-
-  body_does : (p : Program) (calls : Calls) (kcalls : code.Calls) (fuel left : ℕ) (b : tree.Block) (w : World) (v : kernel.World) → IsPlainBlock p b → width_of b ≤ fp
-      → CallsDo p calls kcalls (width_of b) fp left → suc start.depth + left ≡ 512 → Inside fp (suc start.depth) start.store begun.memory 0 0 w v
-      → Framed (does_block p calls fuel 0 b None w) (code.does_code (kernel_of p) kcalls fuel (width_of b) fp left (block_code (number_in p zero) (bounds_in p zero) b) v)
-  body_does p calls kcalls fuel left (tree.block ds ss tree.no_handler) w v plain room agree deep h =
-      let k = length ds in
-      let width = max (end_of_declarations k ds) (end_of_statements k ss) in
-      let declared = declarations_code (number_in p zero) (bounds_in p zero) k ds in
-      let stated = statements_code (number_in p zero) (bounds_in p zero) k ss in
-      let narrow : k < width = omega (arith, objects_below k ds) in
-      rw (joined_does (kernel_of p) kcalls fuel width fp left declared stated v)
-      (runs_then (λ u. Inside fp (suc start.depth) start.store begun.memory k 0) Framed framed_stops (λ u x. state.caught (does_all p calls fuel 0 ss None x) (λ e. state.raise e))
-      (code.does_code (kernel_of p) kcalls fuel width fp left stated)
-      (λ u x y g. framed_body k _ _ (statements_do p calls kcalls fuel width fp left (suc start.depth) start.store begun.memory room agree deep ss k x y plain.2 narrow
-      (omega arith) g))
-      (declares_all p calls fuel 0 ds w) (code.does_code (kernel_of p) kcalls fuel width fp left declared v)
-      (declarations_do p calls kcalls fuel width fp left (suc start.depth) start.store begun.memory room ds 0 k w v plain.0 (omega arith) narrow (omega arith) h))
-  body_does p calls kcalls fuel left (tree.block ds ss (tree.handler cs hss hs)) w v plain room agree deep h = absurd plain
+  framed_body : (objects : ℕ) (r : Outcome Flow) (e : Ended) → Step (Inside fp (suc start.depth) objects start.store begun.memory [] 0) r e → Framed r e
+  framed_body objects =
+      steps_are (Inside fp (suc start.depth) objects start.store begun.memory [] 0) Framed framed_stops (λ w v h. called_inside objects w v h)
+      (λ w v h. called_inside objects w v h) (λ r w v h. called_inside objects w v h)
 
 -- calls may nest up to the greatest depth, and no deeper
 may_nest : (d left : ℕ) → d + suc left ≡ 512 → nat_lt d source.deepest ≡ true
@@ -102,16 +84,19 @@ module _ (p : Program) where
       (code.executed (kernel_of p) (code.calls_in (kernel_of p) fuel) (suc fuel) (Some (body s)) fp left v)
   entered fuel fp left s w begun v agree plain room same input seen depth =
       rw (may_nest w.depth left depth)
-      (body_does fp w begun p (source.calls_in p fuel) (code.calls_in (kernel_of p) fuel) (suc fuel) left s.body _ _ plain.body room agree (omega (arith, depth)) (record {
+      (framed_body fp w begun (objects_in s.body) _ _
+      (block_does p (source.calls_in p fuel) (code.calls_in (kernel_of p) fuel) (suc fuel) (width_of s.body) fp left (suc w.depth) (objects_in s.body) w.store begun.memory room
+      (block_above (objects_in s.body) s.body) agree (omega (arith, depth)) s.body [] _ _ plain.body (omega arith) (record {
         depth_is = refl;
         input = input;
-        slots = λ d lt. absurd (omega (arith, lt));
+        below = λ d none. absurd none;
+        slots = λ d none. absurd none;
         words = λ a le. ap (λ m. m a) same;
         kept = λ q lt. refl;
         seen = record { events = seen.events; output = seen.output; cost = omega (arith, seen.cost) };
-      }))
+      })))
 
-  module _ (plain : IsStraightLine p) (small : IsWithin (kernel_of p)) where
+  module _ (plain : IsStructured p) (small : IsWithin (kernel_of p)) where
     abbrev found : (n : ℕ) → n < length p.subprograms → Standing body (IsPlainProcedure p) IsNarrow p.subprograms n
     found n lt = standing body (IsPlainProcedure p) IsNarrow p.subprograms n plain.bodies small.widths lt
 
@@ -142,7 +127,7 @@ module _ (p : Program) where
         (calls_do fuel (width_of x.s.body) area_end 511 (λ same. differ (ap suc same)) (omega (arith, x.narrow.1)) (omega arith))
         x.holds (omega (arith, x.narrow.1)) refl refl (record { events = refl; output = refl; cost = omega arith }) refl))
 
-pub same_law : (p : Program) → IsStraightLine p → IsWithin (kernel_of p) → (fuel : ℕ) (input : List ℤ) → fuel ≢ source.deepest
+pub same_law : (p : Program) → IsStructured p → IsWithin (kernel_of p) → (fuel : ℕ) (input : List ℤ) → fuel ≢ source.deepest
     → Same (source.exec p fuel input) (code.exec (kernel_of p) fuel input)
 unfolding source.deepest
 same_law p plain small fuel input differ = same_from p plain small fuel input differ

@@ -1,8 +1,11 @@
 pub mod Relation
 pub mod Values
+pub mod Flows
+pub mod Outcomes
 pub mod Steps
 pub mod Follows
 pub mod Marks
 pub mod Fits
+pub mod Small
 pub mod Building
 pub mod Whole

@@ -1,4 +1,4 @@
-pub mod StraightLine
+pub mod Structured
 pub mod Sizes
 pub mod Lowered
 pub mod Same

@@ -1,23 +1,32 @@
--- The kernel of a program: the objects of a body are the first slots of its frame, in their order, and values of expressions are worked
--- out in the slots behind them.
-use Rattle.std.specs.Prelude.{ℕ, zero, ◌+◌, ℤ, max, List, [], ◌∷◌, length, map}
+-- The kernel of a program: the objects of a body and of the blocks in it are the first slots of its frame, by their numbers, and values of
+-- expressions are worked out in the slots behind them.
+use Rattle.std.specs.Prelude.{ℕ, zero, ◌+◌, ℤ, max, true, false, List, [], ◌∷◌, length, map}
 use Rattle.ada_meaning.specs.Arithmetic.{base_range}
+use Rattle.ada_meaning.specs.Objects.{block_objects}
 use Rattle.ada_meaning.specs.Program.{Bounds, Subprogram, Program}
 use Rattle.ada_meaning.specs.Resolved.{number_in, bounds_in}
 use Rattle.ada_meaning.specs.Tree as tree
 use Rattle.ada_meaning.specs.Types as type
+use Rattle.kernel_ir.specs.declared.code.Edge.{Edge}
+use Rattle.kernel_ir.specs.declared.code.Edge.TheVariants as edge
 use Rattle.kernel_ir.specs.declared.kernel.Body.{Body}
 use Rattle.kernel_ir.specs.declared.kernel.Kernel.{Kernel}
 use Rattle.kernel_ir.specs.declared.simple.Operator.{Operator}
 use Rattle.kernel_ir.specs.declared.simple.Operator.TheVariants as operator
+use Rattle.kernel_ir.specs.declared.simple.Relation.{Relation}
+use Rattle.kernel_ir.specs.declared.simple.Relation.TheVariants as relation
 use Rattle.kernel_ir.specs.declared.simple.Simple.{Simple}
 use Rattle.kernel_ir.specs.declared.simple.Simple.TheVariants as op
 use Rattle.kernel_ir.specs.Sequence.{joined}
-use Rattle.kernel_ir.specs.Tree.{simple, returns, call, Code, no_op, and_op}
+use Rattle.kernel_ir.specs.Tree.{Op, simple, choose, forever, exit, returns, decide, call, Code, no_op, and_op, Nodes, no_node, and_node}
 
--- code of one operation that holds no others
+-- code of one operation
+abbrev pub single : Op → Code
+single o = and_op o no_op
+
+-- of one that holds no others
 abbrev pub one : Simple → Code
-one s = and_op (simple s) no_op
+one s = single (simple s)
 
 -- a statement starts
 abbrev pub start_of : tree.Label → Simple
@@ -51,10 +60,29 @@ operator_for type.remainder = operator.Remainder
 abbrev pub operator_on : (slot : ℕ) → type.Operator → Simple
 operator_on k o = op.Arithmetic (operator_for o) k k (k + 1)
 
+-- a relation of two values (RM 4.5.2)
+abbrev pub relation_for : type.Relation → Relation
+relation_for type.equal = relation.Equal
+relation_for type.unequal = relation.Unequal
+relation_for type.less = relation.Less
+relation_for type.at_most = relation.AtMost
+relation_for type.greater = relation.Greater
+relation_for type.at_least = relation.AtLeast
+
+-- a relation, of a slot and the one behind it
+abbrev pub relation_on : (slot : ℕ) → type.Relation → Simple
+relation_on k r = op.Compare (relation_for r) k k (k + 1)
+
+-- `not`, of a slot
+abbrev pub complement_on : (slot : ℕ) → Simple
+complement_on k = op.Complement k k
+
 -- the first slot behind those that the value of an expression is worked out in, of which k is the first
 abbrev pub end_of : (k : ℕ) → tree.Expr → ℕ
 end_of k (tree.signed s e) = end_of k e
 end_of k (tree.operation o e f) = max (end_of k e) (end_of (k + 1) f)
+end_of k (tree.relation r e f) = max (end_of k e) (end_of (k + 1) f)
+end_of k (tree.complement e) = end_of k e
 end_of k e = k + 1
 
 -- the same of the first actual of Test_IO.Put
@@ -66,6 +94,12 @@ end_of_put k actuals = k + 1
 abbrev pub end_of_call : (k : ℕ) → tree.Callee → tree.Actuals → ℕ
 end_of_call k tree.test_put actuals = end_of_put k actuals
 end_of_call k c actuals = k + 1
+
+-- of a decision, whose conditions are all worked out from the same slot on
+abbrev pub end_of_test : (k : ℕ) → tree.Test → ℕ
+end_of_test k (tree.condition at e) = end_of k e
+end_of_test k (tree.negation t) = end_of_test k t
+end_of_test k (tree.operator neutral t u) = k + 1
 
 -- of what an object is set to, of declarations and of statements
 abbrev pub end_of_value : (k : ℕ) → tree.NewValue → ℕ
@@ -80,18 +114,35 @@ abbrev pub end_of_declarations : (k : ℕ) → List tree.Declaration → ℕ
 end_of_declarations k [] = k + 1
 end_of_declarations k (d ∷ ds) = max (end_of_declaration k d) (end_of_declarations k ds)
 
-abbrev pub end_of_statement : (k : ℕ) → tree.Stmt → ℕ
-end_of_statement k (tree.assignment l o parts v) = end_of_value k v
-end_of_statement k (tree.procedure_call l c actuals) = end_of_call k c actuals
-end_of_statement k s = k + 1
+abbrev mutual
+  pub end_of_statement : (k : ℕ) → tree.Stmt → ℕ
+  end_of_statement k (tree.assignment l o parts v) = end_of_value k v
+  end_of_statement k (tree.procedure_call l c actuals) = end_of_call k c actuals
+  end_of_statement k (tree.if_statement l bs) = end_of_branches k bs
+  end_of_statement k (tree.bare_loop l ss) = end_of_statements k ss
+  end_of_statement k (tree.while_loop l d t ss) = max (end_of_test k t) (end_of_statements k ss)
+  end_of_statement k (tree.exit_when l d t) = end_of_test k t
+  end_of_statement k (tree.block_statement b) = end_of_block k b
+  end_of_statement k s = k + 1
 
-abbrev pub end_of_statements : (k : ℕ) → tree.Stmts → ℕ
-end_of_statements k tree.no_statement = k + 1
-end_of_statements k (tree.and_statement s ss) = max (end_of_statement k s) (end_of_statements k ss)
+  pub end_of_statements : (k : ℕ) → tree.Stmts → ℕ
+  end_of_statements k tree.no_statement = k + 1
+  end_of_statements k (tree.and_statement s ss) = max (end_of_statement k s) (end_of_statements k ss)
+
+  pub end_of_branches : (k : ℕ) → tree.Branches → ℕ
+  end_of_branches k (tree.else_part ss) = end_of_statements k ss
+  end_of_branches k (tree.branch d t ss bs) = max (max (end_of_test k t) (end_of_statements k ss)) (end_of_branches k bs)
+
+  pub end_of_block : (k : ℕ) → tree.Block → ℕ
+  end_of_block k (tree.block ds ss hs) = max (end_of_declarations k ds) (end_of_statements k ss)
+
+-- how many objects a body has, with those of the blocks in it
+abbrev pub objects_in : tree.Block → ℕ
+objects_in b = length (block_objects b)
 
 -- how many words the frame of a body has: one for each object, and those that values are worked out in
 abbrev pub width_of : tree.Block → ℕ
-width_of (tree.block ds ss hs) = max (end_of_declarations (length ds) ds) (end_of_statements (length ds) ss)
+width_of b = end_of_block (objects_in b) b
 
 -- by the bounds of ranges; k is the first slot behind the objects
 module _ (bounds : type.Range → Bounds) where
@@ -116,7 +167,23 @@ module _ (number : type.Static → ℤ) (bounds : type.Range → Bounds) where
   expr_code k (tree.read o parts) = one (op.Move k (slot_of o))
   expr_code k (tree.signed s e) = joined (expr_code k e) (one (sign_on k s))
   expr_code k (tree.operation o e f) = joined (expr_code k e) (joined (expr_code (k + 1) f) (one (operator_on k o)))
+  expr_code k (tree.relation r e f) = joined (expr_code k e) (joined (expr_code (k + 1) f) (one (relation_on k r)))
+  expr_code k (tree.complement e) = joined (expr_code k e) (one (complement_on k))
   expr_code k e = no_op
+
+  -- the nodes of a test, whose edges of True and False lead there: `not` exchanges them
+  abbrev pub nodes_code : (k : ℕ) → tree.Test → (on_true on_false : Edge) → Nodes
+  nodes_code k (tree.condition at e) t f = and_node (expr_code k e) k t f no_node
+  nodes_code k (tree.negation u) t f = nodes_code k u f t
+  nodes_code k (tree.operator neutral u v) t f = no_node
+
+  -- evaluates a decision, into a slot
+  abbrev pub decide_on : (k : ℕ) → tree.Label → tree.Test → Op
+  decide_on k d t = decide (record { 0 = d.number }) (record { 0 = 0 }) k (nodes_code k t (edge.Leaf true) (edge.Leaf false))
+
+  -- evaluates a decision, and goes on with the first code where it is True, and else with the second
+  abbrev pub decided_code : (k : ℕ) → tree.Label → tree.Test → (if_true if_false : Code) → Code
+  decided_code k d t a b = and_op (decide_on k d t) (single (choose k a b))
 
   -- sets an object to a value that its subtype has
   abbrev pub value_code : (k : ℕ) → tree.Object → tree.NewValue → Code
@@ -148,24 +215,35 @@ module _ (number : type.Static → ℤ) (bounds : type.Range → Bounds) where
   declarations_code k [] = no_op
   declarations_code k (d ∷ ds) = joined (declaration_code k d) (declarations_code k ds)
 
-  -- the code of a statement
-  abbrev pub statement_code : (k : ℕ) → tree.Stmt → Code
-  statement_code k (tree.null_statement l) = one (start_of l)
-  statement_code k (tree.assignment l o parts v) = and_op (simple (start_of l)) (value_code k o v)
-  statement_code k (tree.procedure_call l c actuals) = and_op (simple (start_of l)) (call_code k c actuals)
-  statement_code k (tree.return_statement l) = and_op (simple (start_of l)) (and_op returns no_op)
-  statement_code k s = no_op
+  -- the code of a statement; the test of a while loop is evaluated before each turn
+  abbrev mutual
+    pub statement_code : (k : ℕ) → tree.Stmt → Code
+    statement_code k (tree.null_statement l) = one (start_of l)
+    statement_code k (tree.assignment l o parts v) = and_op (simple (start_of l)) (value_code k o v)
+    statement_code k (tree.procedure_call l c actuals) = and_op (simple (start_of l)) (call_code k c actuals)
+    statement_code k (tree.if_statement l bs) = and_op (simple (start_of l)) (branches_code k bs)
+    statement_code k (tree.bare_loop l ss) = and_op (simple (start_of l)) (single (forever (statements_code k ss)))
+    statement_code k (tree.while_loop l d t ss) = and_op (simple (start_of l)) (single (forever (decided_code k d t (statements_code k ss) (single exit))))
+    statement_code k (tree.exit_statement l) = and_op (simple (start_of l)) (single exit)
+    statement_code k (tree.exit_when l d t) = and_op (simple (start_of l)) (decided_code k d t (single exit) no_op)
+    statement_code k (tree.return_statement l) = and_op (simple (start_of l)) (single returns)
+    statement_code k (tree.block_statement b) = block_code k b
+    statement_code k s = no_op
 
-  abbrev pub statements_code : (k : ℕ) → tree.Stmts → Code
-  statements_code k tree.no_statement = no_op
-  statements_code k (tree.and_statement s ss) = joined (statement_code k s) (statements_code k ss)
+    pub statements_code : (k : ℕ) → tree.Stmts → Code
+    statements_code k tree.no_statement = no_op
+    statements_code k (tree.and_statement s ss) = joined (statement_code k s) (statements_code k ss)
 
-  abbrev pub block_code : tree.Block → Code
-  block_code (tree.block ds ss hs) = joined (declarations_code (length ds) ds) (statements_code (length ds) ss)
+    pub branches_code : (k : ℕ) → tree.Branches → Code
+    branches_code k (tree.else_part ss) = statements_code k ss
+    branches_code k (tree.branch d t ss bs) = decided_code k d t (statements_code k ss) (branches_code k bs)
+
+    pub block_code : (k : ℕ) → tree.Block → Code
+    block_code k (tree.block ds ss hs) = joined (declarations_code k ds) (statements_code k ss)
 
   -- the body of a subprogram
   abbrev pub body_of : Subprogram → Body
-  body_of s = record { code = block_code s.body; width = width_of s.body }
+  body_of s = record { code = block_code (objects_in s.body) s.body; width = width_of s.body }
 
 -- the kernel of a program: its bodies have the numbers of the subprograms, and the exceptions are the predefined ones
 abbrev pub kernel_of : Program → Kernel

@@ -2,7 +2,7 @@
 use Rattle.std.specs.Prelude.{ℕ, zero, suc, ◌+◌, List, [], ◌∷◌}
 use Rattle.ada_meaning.specs.Program.{Subprogram}
 use Rattle.ada_meaning.specs.Tree as tree
-use Rattle.ada_tree.specs.Sizes.{expr_size, actuals_size}
+use Rattle.ada_tree.specs.Sizes.{expr_size, actuals_size, test_size}
 
 abbrev pub value_nodes : tree.NewValue → ℕ
 value_nodes (tree.scalar_value r e) = expr_size e
@@ -16,17 +16,27 @@ abbrev pub declarations_nodes : List tree.Declaration → ℕ
 declarations_nodes [] = zero
 declarations_nodes (d ∷ ds) = declaration_nodes d + declarations_nodes ds
 
-abbrev pub statement_nodes : tree.Stmt → ℕ
-statement_nodes (tree.assignment l o parts v) = suc (value_nodes v)
-statement_nodes (tree.procedure_call l c actuals) = suc (actuals_size actuals)
-statement_nodes s = 1
+abbrev mutual
+  pub statement_nodes : tree.Stmt → ℕ
+  statement_nodes (tree.assignment l o parts v) = suc (value_nodes v)
+  statement_nodes (tree.procedure_call l c actuals) = suc (actuals_size actuals)
+  statement_nodes (tree.if_statement l bs) = suc (branches_nodes bs)
+  statement_nodes (tree.bare_loop l ss) = suc (statements_nodes ss)
+  statement_nodes (tree.while_loop l d t ss) = suc (test_size t + statements_nodes ss)
+  statement_nodes (tree.exit_when l d t) = suc (test_size t)
+  statement_nodes (tree.block_statement b) = suc (block_nodes b)
+  statement_nodes s = 1
 
-abbrev pub statements_nodes : tree.Stmts → ℕ
-statements_nodes tree.no_statement = zero
-statements_nodes (tree.and_statement s ss) = statement_nodes s + statements_nodes ss
+  pub statements_nodes : tree.Stmts → ℕ
+  statements_nodes tree.no_statement = zero
+  statements_nodes (tree.and_statement s ss) = statement_nodes s + statements_nodes ss
 
-abbrev pub block_nodes : tree.Block → ℕ
-block_nodes (tree.block ds ss hs) = declarations_nodes ds + statements_nodes ss
+  pub branches_nodes : tree.Branches → ℕ
+  branches_nodes (tree.else_part ss) = statements_nodes ss
+  branches_nodes (tree.branch d t ss bs) = test_size t + statements_nodes ss + branches_nodes bs
+
+  pub block_nodes : tree.Block → ℕ
+  block_nodes (tree.block ds ss hs) = declarations_nodes ds + statements_nodes ss
 
 abbrev pub all_nodes : List Subprogram → ℕ
 all_nodes [] = zero

@@ -1,14 +1,14 @@
 //! Code of expressions.
 
 ghost use Rattle.std.specs.Prelude.{◌≡◌, ◌+◌, IfOk, OnOk};
-ghost use Rattle.ada_tree.specs.View.{static_of, range_of, sign_of, operator_of, object_of};
+ghost use Rattle.ada_tree.specs.View.{static_of, range_of, sign_of, operator_of, relation_of, object_of};
 ghost use Rattle.ada_meaning.specs.Tree as tree;
 ghost use Rattle.kernel_ir.specs.Sequence.{joined};
 ghost use Rattle.kernel_ir.specs.declared.simple.Simple.TheVariants as op;
 ghost use Rattle.lower.specs.Chain.{number_of, bounds_of, operands_code, end_of_operands};
-ghost use Rattle.lower.specs.Lowered.{one, within, slot_of, sign_on, operator_for, operator_on, end_of, expr_code};
+ghost use Rattle.lower.specs.Lowered.{one, within, slot_of, sign_on, operator_for, operator_on, relation_for, end_of, expr_code};
 
-use ada_tree::{Expr, ExprKind, Object, Operand, Operator, Range, Sign, Static};
+use ada_tree::{Expr, ExprKind, Object, Operand, Operator, Range, Relation, Sign, Static};
 use kernel_ir::{Code, Simple, Slot};
 use std::alloc::AllocError;
 
@@ -85,6 +85,20 @@ fn operator_for(operator: Operator) -> kernel_ir::Operator
     }
 }
 
+/// A relation of two values.
+fn relation_for(relation: Relation) -> kernel_ir::Relation
+    ensures { result ≡ relation_for (relation_of relation) }
+{
+    match relation {
+        Relation::Equal => kernel_ir::Relation::Equal,
+        Relation::NotEqual => kernel_ir::Relation::Unequal,
+        Relation::Less => kernel_ir::Relation::Less,
+        Relation::LessOrEqual => kernel_ir::Relation::AtMost,
+        Relation::Greater => kernel_ir::Relation::Greater,
+        Relation::GreaterOrEqual => kernel_ir::Relation::AtLeast,
+    }
+}
+
 /// Puts a number behind code, into a slot. Answers the slot behind it.
 fn put_number(code: &mut Code, to: Slot, value: i32) -> Result<Slot, AllocError>
     ensures code { OnOk result (code.new ≡ joined code.old (one (op.Number to value))) }
@@ -127,7 +141,38 @@ pub(crate) fn put_expr(code: &mut Code, to: Slot, expr: &Expr) -> Result<Slot, A
             let others_end = put_operands(code, to, others)?;
             Ok(end.max(others_end))
         }
+        ExprKind::Relation(relation, left, right) => put_relation(code, to, *relation, left, right),
+        ExprKind::Complement(operand) => {
+            let end = put_expr(code, to, operand)?;
+            code.push_simple(Simple::Complement { to, from: to })?;
+            Ok(end)
+        }
     }
+}
+
+/// Puts a relation of two values behind code, into a slot. Answers the first slot behind those that it
+/// is worked out in.
+#[cycle(value)]
+fn put_relation(
+    code: &mut Code,
+    to: Slot,
+    relation: Relation,
+    left: &Expr,
+    right: &Expr,
+) -> Result<Slot, AllocError>
+    ensures code { OnOk result (code.new ≡ joined code.old (expr_code number_of bounds_of to (tree.relation (relation_of relation) left.now right.now))) }
+    ensures end { IfOk result (λ end. end ≡ end_of to (tree.relation (relation_of relation) left.now right.now)) }
+{
+    let left_end = put_expr(code, to, left)?;
+    let behind = slot_behind(to)?;
+    let right_end = put_expr(code, behind, right)?;
+    code.push_simple(Simple::Compare {
+        relation: relation_for(relation),
+        to,
+        left: to,
+        right: behind,
+    })?;
+    Ok(left_end.max(right_end))
 }
 
 /// Puts operators with their right operands behind code, from the left, where a slot holds what stands

@@ -1,43 +1,49 @@
 //! What kernels of programs do.
 
-ghost use Rattle.std.specs.Prelude.{◌≡◌, ◌≢◌, ◌+◌, ◌*◌, ◌≤◌, ℕ, ℤ, List, [], length, map};
-ghost use Rattle.ada_meaning.specs.Collected.{labels_of};
+ghost use Rattle.std.specs.Prelude.{◌≡◌, ◌≢◌, ◌+◌, ◌*◌, ◌≤◌, ℕ, ℤ, List, length, map};
+ghost use Rattle.ada_meaning.specs.Collected.{labels_of, decisions_of};
 ghost use Rattle.ada_meaning.specs.Execution as source;
 ghost use Rattle.ada_meaning.specs.Program.{Program};
 ghost use Rattle.cov_base.specs.declared.position.DecId.{DecId};
+ghost use Rattle.ada_meaning.specs.Tree.{shape_of};
 ghost use Rattle.decision_meaning.specs.Graph.{Edges};
+ghost use Rattle.decision_meaning.specs.Graph as logic;
+ghost use Rattle.decision_meaning.specs.Pair.{Everywhere};
 ghost use Rattle.kernel_ir.specs.Limits.{IsWellFormed, IsWithin, kernel_instructions};
 ghost use Rattle.kernel_ir.specs.Meaning as code;
 ghost use Rattle.kernel_ir.specs.Obligations.{rows, conditions};
 ghost use Rattle.lower.specs.Lowered.{kernel_of};
-ghost use Rattle.lower.specs.Marked.{row_of};
+ghost use Rattle.lower.specs.Marked.{row_of, condition_of};
 ghost use Rattle.lower.specs.Same.{Same};
 ghost use Rattle.lower.specs.Sizes.{all_nodes};
-ghost use Rattle.lower.specs.StraightLine.{IsStraightLine};
+ghost use Rattle.lower.specs.Structured.{IsStructured};
 
-/// Under each fuel but 512, which is the greatest depth of calls, a straight-line program and its
+/// Under each fuel but 512, which is the greatest depth of calls, a structured program and its
 /// kernel end alike or are both cut off, with the same events and the same output so far, where the
 /// frames of the kernel lie apart in memory. With just that fuel the kernel may find that a call is
 /// too deep where the source is cut off before it looks.
 #[tactic(auto, using(crate::proofs::Follows::same_law))]
 pub fn kernels_do_what_their_programs_do()
-    ensures { (p : Program) → IsStraightLine p → IsWithin (kernel_of p) → (fuel : ℕ) (input : List ℤ) → fuel ≢ source.deepest
+    ensures { (p : Program) → IsStructured p → IsWithin (kernel_of p) → (fuel : ℕ) (input : List ℤ) → fuel ≢ source.deepest
         → Same (source.exec p fuel input) (code.exec (kernel_of p) fuel input) }
 {}
 
-/// The kernel of a straight-line program is well-formed, whatever graphs decisions have. Its rows are
-/// the statement obligations, in the order of the text, and it has no condition.
+/// The kernel of a structured program is well-formed, where decisions have the graphs of their
+/// expressions. Its rows are the statement obligations, in the order of the text, and its conditions
+/// those of the decisions.
 pub fn kernels_hold_the_obligations()
-    ensures well_formed { (p : Program) → IsStraightLine p → (graph : DecId → List Edges) → IsWellFormed graph (kernel_of p) }
-    ensures rows { (p : Program) → IsStraightLine p → rows (kernel_of p) ≡ map row_of (labels_of p.subprograms) }
-    ensures conditions { (p : Program) → IsStraightLine p → conditions (kernel_of p) ≡ [] }
+    ensures well_formed { (p : Program) → IsStructured p → (graph : DecId → List Edges)
+        → Everywhere (λ h. graph (record { 0 = h.label.number }) ≡ logic.graph (shape_of h.test)) (decisions_of p.subprograms)
+        → IsWellFormed graph (kernel_of p) }
+    ensures rows { (p : Program) → IsStructured p → rows (kernel_of p) ≡ map row_of (labels_of p.subprograms) }
+    ensures conditions { (p : Program) → IsStructured p → conditions (kernel_of p) ≡ map condition_of (decisions_of p.subprograms) }
 {}
 
 /// It takes at most 28 instructions for each node, 8 for each procedure and 16 beside; within the
 /// limit on nodes it is small enough for machine code.
 pub fn kernels_are_small()
-    ensures instructions { (p : Program) → IsStraightLine p
+    ensures instructions { (p : Program) → IsStructured p
         → kernel_instructions (kernel_of p) ≤ 28 * all_nodes p.subprograms + 8 * length p.subprograms + 16 }
-    ensures within { (p : Program) → IsStraightLine p → all_nodes p.subprograms + length p.subprograms ≤ 4096
+    ensures within { (p : Program) → IsStructured p → all_nodes p.subprograms + length p.subprograms ≤ 4096
         → IsWithin (kernel_of p) }
 {}

@@ -1,10 +1,11 @@
 //! From the typed program to the kernel.
 //!
-//! The contract that the layers above use: [`lower`] gives the kernel of a straight-line program, and
+//! The contract that the layers above use: [`lower`] gives the kernel of a structured program, and
 //! [`kernels_do_what_their_programs_do`] says of it that it has the program's events, output and
-//! ending on every input, at no more than twice the cost.
+//! ending on every input, at no more than three times the cost.
 #![tactic(auto)]
 
+mod decisions;
 mod expressions;
 mod laws;
 mod lowering;

@@ -5,8 +5,8 @@ ghost use Rattle.ada_tree.specs.View.{subprogram_of, program_of};
 ghost use Rattle.lower.specs.Chain.{number_of, bounds_of};
 ghost use Rattle.lower.specs.Lowered.{body_of, kernel_of};
 
-use crate::statements::{put_declarations, put_statements};
-use ada_tree::{Block, Program, Subprogram};
+use crate::statements::put_block;
+use ada_tree::{Program, Subprogram};
 use cov_base::Seq;
 use kernel_ir::{Body, Code, Kernel};
 use std::alloc::{AllocError, Global};
@@ -14,24 +14,17 @@ use std::alloc::{AllocError, Global};
 /// How many exceptions are predefined.
 const PREDEFINED: u32 = 4;
 
-/// The body of a subprogram. A frame of 2 ^ 32 objects is too large for memory.
+/// The body of a subprogram. A frame of 2 ^ 32 - 1 objects is too large for memory.
 fn lower_subprogram(alloc: Global, subprogram: &Subprogram) -> Result<Body, AllocError>
     ensures { IfOk result (λ body. body ≡ body_of number_of bounds_of (subprogram_of subprogram.now)) }
 {
-    let Block {
-        declarations,
-        statements,
-    } = &subprogram.body;
-    let Ok(objects) = u32::try_from(declarations.len()) else {
+    let objects = subprogram.body.objects();
+    if objects == u32::MAX {
         return Err(AllocError);
-    };
+    }
     let mut code = Code::new(alloc);
-    let declared = put_declarations(&mut code, objects, declarations.as_slice())?;
-    let stated = put_statements(&mut code, objects, statements.as_slice())?;
-    Ok(Body {
-        code,
-        width: declared.max(stated),
-    })
+    let width = put_block(alloc, &mut code, objects, &subprogram.body)?;
+    Ok(Body { code, width })
 }
 
 /// The kernel of a program: a body for each subprogram, with its number.

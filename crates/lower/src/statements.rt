@@ -1,21 +1,23 @@
 //! Code of declarations and statements. Each function answers the first slot behind those that values
 //! are worked out in, of which `objects` is the first: the slots below are the objects.
 
-ghost use Rattle.std.specs.Prelude.{◌≡◌, ◌+◌, IfOk, OnOk, map};
+ghost use Rattle.std.specs.Prelude.{◌≡◌, ◌+◌, IfOk, OnOk, map, max};
 ghost use Rattle.ada_meaning.specs.Tree as tree;
-ghost use Rattle.ada_tree.specs.View.{callee_of, actuals_of, declaration_of, label_of, object_of, range_of, statements_of, value_of};
+ghost use Rattle.ada_tree.specs.View.{callee_of, actuals_of, declaration_of, label_of, object_of, range_of, statements_of, branches_of, value_of};
 ghost use Rattle.kernel_ir.specs.Sequence.{joined};
+ghost use Rattle.kernel_ir.specs.Tree.{forever, exit};
 ghost use Rattle.lower.specs.Chain.{number_of, bounds_of};
-ghost use Rattle.lower.specs.Lowered.{one, start_of, end_of, end_of_call, end_of_declaration, end_of_declarations, end_of_put, end_of_statement, end_of_statements, end_of_value, value_code, checked_code, output_code, put_code, input_code, get_code, call_code, declaration_code, declarations_code, statement_code, statements_code};
+ghost use Rattle.lower.specs.Lowered.{one, single, start_of, end_of_test, end_of_branches, end_of_block, decided_code, branches_code, block_code, end_of, end_of_call, end_of_declaration, end_of_declarations, end_of_put, end_of_statement, end_of_statements, end_of_value, value_code, checked_code, output_code, put_code, input_code, get_code, call_code, declaration_code, declarations_code, statement_code, statements_code};
 
+use crate::decisions::{leaving, put_decided, put_exit_when};
 use crate::expressions::{INTEGER, put_expr, slot_behind, slot_of, within};
 use ada_tree::{
-    Actual, Callee, Declaration, Expr, Label, NewValue, Object, Range, Statement, StatementKind,
-    Subtype,
+    Actual, Block, Branch, Callee, Decision, Declaration, Expr, Label, NewValue, Object, Range,
+    Statement, StatementKind, Subtype,
 };
 use cov_base::{InstId, StmtId};
 use kernel_ir::{Code, Op, Simple, Slot};
-use std::alloc::AllocError;
+use std::alloc::{AllocError, Global};
 
 /// Puts the start of a statement behind code.
 fn put_start(code: &mut Code, label: Label) -> Result<(), AllocError>
@@ -179,35 +181,71 @@ fn put_declaration(
     }
 }
 
-/// Puts a statement behind code.
-#[tactic(auto, using(crate::proofs::Building::one_then, crate::proofs::Building::one_then_put))]
-fn put_statement(code: &mut Code, objects: Slot, statement: &Statement) -> Result<Slot, AllocError>
-    ensures code { OnOk result (code.new ≡ joined code.old (statement_code number_of bounds_of objects statement.now)) }
-    ensures end { IfOk result (λ end. end ≡ end_of_statement objects statement.now) }
+/// Puts a null statement behind code (RM 5.1).
+fn put_null(code: &mut Code, objects: Slot, label: Label) -> Result<Slot, AllocError>
+    ensures code { OnOk result (code.new ≡ joined code.old (statement_code number_of bounds_of objects (tree.null_statement (label_of label)))) }
+    ensures end { IfOk result (λ end. end ≡ end_of_statement objects (tree.null_statement (label_of label))) }
 {
-    match &statement.kind {
-        StatementKind::Null(label) => {
-            put_start(code, *label)?;
-            slot_behind(objects)
-        }
-        StatementKind::Assignment(label, object, value) => {
-            put_start(code, *label)?;
-            put_value(code, objects, *object, value)
-        }
-        StatementKind::Call(label, callee, actuals) => {
-            put_start(code, *label)?;
-            put_call(code, objects, *callee, actuals.as_slice())
-        }
-        StatementKind::Return(label) => {
-            put_start(code, *label)?;
-            code.push(Op::Returns)?;
-            slot_behind(objects)
-        }
-    }
+    put_start(code, label)?;
+    slot_behind(objects)
+}
+
+/// Puts an assignment behind code (RM 5.2).
+#[tactic(auto, using(crate::proofs::Building::one_then_put))]
+fn put_assignment(
+    code: &mut Code,
+    objects: Slot,
+    label: Label,
+    object: Object,
+    value: &NewValue,
+) -> Result<Slot, AllocError>
+    ensures code { OnOk result (code.new ≡ joined code.old (statement_code number_of bounds_of objects (tree.assignment (label_of label) (object_of object) tree.whole (value_of value.now)))) }
+    ensures end { IfOk result (λ end. end ≡ end_of_value objects (value_of value.now)) }
+{
+    put_start(code, label)?;
+    put_value(code, objects, object, value)
+}
+
+/// Puts a call of a procedure behind code (RM 6.4).
+#[tactic(auto, using(crate::proofs::Building::one_then_put))]
+fn put_call_statement(
+    code: &mut Code,
+    objects: Slot,
+    label: Label,
+    callee: Callee,
+    actuals: &[Actual],
+) -> Result<Slot, AllocError>
+    ensures code { OnOk result (code.new ≡ joined code.old (statement_code number_of bounds_of objects (tree.procedure_call (label_of label) (callee_of callee) (actuals_of actuals.now)))) }
+    ensures end { IfOk result (λ end. end ≡ end_of_call objects (callee_of callee) (actuals_of actuals.now)) }
+{
+    put_start(code, label)?;
+    put_call(code, objects, callee, actuals)
+}
+
+/// Puts an exit statement without a condition behind code (RM 5.7).
+#[tactic(auto, using(crate::proofs::Building::one_then))]
+fn put_exit(code: &mut Code, objects: Slot, label: Label) -> Result<Slot, AllocError>
+    ensures code { OnOk result (code.new ≡ joined code.old (statement_code number_of bounds_of objects (tree.exit_statement (label_of label)))) }
+    ensures end { IfOk result (λ end. end ≡ end_of_statement objects (tree.exit_statement (label_of label))) }
+{
+    put_start(code, label)?;
+    code.push(Op::Exit)?;
+    slot_behind(objects)
+}
+
+/// Puts a return statement behind code (RM 6.5).
+#[tactic(auto, using(crate::proofs::Building::one_then))]
+fn put_return(code: &mut Code, objects: Slot, label: Label) -> Result<Slot, AllocError>
+    ensures code { OnOk result (code.new ≡ joined code.old (statement_code number_of bounds_of objects (tree.return_statement (label_of label)))) }
+    ensures end { IfOk result (λ end. end ≡ end_of_statement objects (tree.return_statement (label_of label))) }
+{
+    put_start(code, label)?;
+    code.push(Op::Returns)?;
+    slot_behind(objects)
 }
 
 /// Puts declarations behind code.
-pub(crate) fn put_declarations(
+fn put_declarations(
     code: &mut Code,
     objects: Slot,
     declarations: &[Declaration],
@@ -222,8 +260,51 @@ pub(crate) fn put_declarations(
     Ok(end)
 }
 
+/// Puts a statement behind code.
+#[cycle(statement)]
+fn put_statement(
+    alloc: Global,
+    code: &mut Code,
+    objects: Slot,
+    statement: &Statement,
+) -> Result<Slot, AllocError>
+    ensures code { OnOk result (code.new ≡ joined code.old (statement_code number_of bounds_of objects statement.now)) }
+    ensures end { IfOk result (λ end. end ≡ end_of_statement objects statement.now) }
+{
+    match &statement.kind {
+        StatementKind::Block(block) => put_block(alloc, code, objects, block),
+        StatementKind::If(label, branches, otherwise) => {
+            put_start(code, *label)?;
+            put_branches(alloc, code, objects, branches, otherwise)
+        }
+        StatementKind::Loop(label, statements) => {
+            put_start(code, *label)?;
+            put_loop(alloc, code, objects, statements)
+        }
+        StatementKind::While(label, decision, statements) => {
+            put_start(code, *label)?;
+            put_while(alloc, code, objects, decision, statements)
+        }
+        StatementKind::Null(label) => put_null(code, objects, *label),
+        StatementKind::Assignment(label, object, value) => {
+            put_assignment(code, objects, *label, *object, value)
+        }
+        StatementKind::Call(label, callee, actuals) => {
+            put_call_statement(code, objects, *label, *callee, actuals.as_slice())
+        }
+        StatementKind::Exit(label) => put_exit(code, objects, *label),
+        StatementKind::ExitWhen(label, decision) => {
+            put_start(code, *label)?;
+            put_exit_when(alloc, code, objects, decision)
+        }
+        StatementKind::Return(label) => put_return(code, objects, *label),
+    }
+}
+
 /// Puts statements behind code.
-pub(crate) fn put_statements(
+#[cycle(statement)]
+fn put_statements(
+    alloc: Global,
     code: &mut Code,
     objects: Slot,
     statements: &[Statement],
@@ -233,7 +314,83 @@ pub(crate) fn put_statements(
 {
     let mut end = slot_behind(objects)?;
     for statement in statements {
-        end = end.max(put_statement(code, objects, statement)?);
+        end = end.max(put_statement(alloc, code, objects, statement)?);
     }
     Ok(end)
+}
+
+/// Puts the branches of an if statement behind code, with its else part (RM 5.3).
+#[cycle(statement)]
+fn put_branches(
+    alloc: Global,
+    code: &mut Code,
+    objects: Slot,
+    branches: &[Branch],
+    otherwise: &[Statement],
+) -> Result<Slot, AllocError>
+    ensures code { OnOk result (code.new ≡ joined code.old (branches_code number_of bounds_of objects (branches_of branches.now (statements_of otherwise.now)))) }
+    ensures end { IfOk result (λ end. end ≡ end_of_branches objects (branches_of branches.now (statements_of otherwise.now))) }
+{
+    let Some((branch, others)) = branches.split_first() else {
+        return put_statements(alloc, code, objects, otherwise);
+    };
+    let mut if_true = Code::new(alloc);
+    let stated = put_statements(alloc, &mut if_true, objects, &branch.statements)?;
+    let mut if_false = Code::new(alloc);
+    let other = put_branches(alloc, &mut if_false, objects, others, otherwise)?;
+    let decided = put_decided(alloc, code, objects, &branch.decision, if_true, if_false)?;
+    Ok(decided.max(stated).max(other))
+}
+
+/// Puts a loop behind code that only `exit` leaves (RM 5.5).
+#[cycle(statement)]
+fn put_loop(
+    alloc: Global,
+    code: &mut Code,
+    objects: Slot,
+    statements: &[Statement],
+) -> Result<Slot, AllocError>
+    ensures code { OnOk result (code.new ≡ joined code.old (single (forever (statements_code number_of bounds_of objects (statements_of statements.now))))) }
+    ensures end { IfOk result (λ end. end ≡ end_of_statements objects (statements_of statements.now)) }
+{
+    let mut body = Code::new(alloc);
+    let end = put_statements(alloc, &mut body, objects, statements)?;
+    code.push(Op::Forever(body))?;
+    Ok(end)
+}
+
+/// Puts a while loop behind code, whose decision is evaluated before each turn (RM 5.5).
+#[cycle(statement)]
+fn put_while(
+    alloc: Global,
+    code: &mut Code,
+    objects: Slot,
+    decision: &Decision,
+    statements: &[Statement],
+) -> Result<Slot, AllocError>
+    ensures code { OnOk result (code.new ≡ joined code.old (single (forever (decided_code number_of bounds_of objects (label_of decision.now.label) decision.now.test (statements_code number_of bounds_of objects (statements_of statements.now)) (single exit))))) }
+    ensures end { IfOk result (λ end. end ≡ max (end_of_test objects decision.now.test) (end_of_statements objects (statements_of statements.now))) }
+{
+    let mut body = Code::new(alloc);
+    let stated = put_statements(alloc, &mut body, objects, statements)?;
+    let mut turn = Code::new(alloc);
+    let decided = put_decided(alloc, &mut turn, objects, decision, body, leaving(alloc)?)?;
+    code.push(Op::Forever(turn))?;
+    Ok(decided.max(stated))
+}
+
+/// Puts the declarations and statements of a block behind code (RM 5.6).
+#[cycle(statement)]
+pub(crate) fn put_block(
+    alloc: Global,
+    code: &mut Code,
+    objects: Slot,
+    block: &Block,
+) -> Result<Slot, AllocError>
+    ensures code { OnOk result (code.new ≡ joined code.old (block_code number_of bounds_of objects block.now)) }
+    ensures end { IfOk result (λ end. end ≡ end_of_block objects block.now) }
+{
+    let declared = put_declarations(code, objects, block.declarations.as_slice())?;
+    let stated = put_statements(alloc, code, objects, &block.statements)?;
+    Ok(declared.max(stated))
 }

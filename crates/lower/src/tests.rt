@@ -1,14 +1,15 @@
-//! A program of two procedures, whose kernel was written by hand.
+//! A program of three procedures, whose kernel was written by hand.
 
 use crate::{
     kernels_are_small, kernels_do_what_their_programs_do, kernels_hold_the_obligations, lower,
 };
 use ada_tree::{
-    Actual, Block, Callee, Declaration, Expr, Label, NewValue, Object, Operand, Operator, Owner,
-    Program, Range, Sign, Statement, StatementKind, Static, Subprogram, Subtype,
+    Actual, Block, Branch, Callee, Decision, Declaration, Expr, Label, NewValue, Object, Operand,
+    Operator, Owner, Program, Range, Relation, Sign, Statement, StatementKind, Static, Subprogram,
+    Subtype, Test,
 };
 use cov_base::{InstId, Pos, Seq, StmtId};
-use kernel_ir::{Code, Op, Simple, Slot};
+use kernel_ir::{Code, Edge, Op, Simple, Slot};
 use std::alloc::{AllocError, Global};
 use std::test::Fail;
 
@@ -77,7 +78,7 @@ fn inner(alloc: Global) -> Result<Subprogram, AllocError> {
     Ok(Subprogram {
         body: Block {
             declarations: Seq::from(Vec::new(alloc)),
-            statements: Seq::from(statements),
+            statements,
         },
     })
 }
@@ -99,14 +100,73 @@ fn outer(alloc: Global) -> Result<Subprogram, AllocError> {
     Ok(Subprogram {
         body: Block {
             declarations: Seq::from(vec![in alloc; first, second]?),
-            statements: Seq::from(statements),
+            statements,
         },
     })
 }
 
-/// Both, of which the second one is the main procedure.
+/// `First < 5`, with the number of its decision.
+fn less(alloc: Global, number: u32) -> Result<Decision, AllocError> {
+    let first = Expr::read(Object::Local(0));
+    let relation = Expr::relation(alloc, Relation::Less, first, Expr::literal(5))?;
+    let label = label(number);
+    Ok(Decision {
+        label,
+        test: Test::condition(label.place, relation),
+    })
+}
+
+/// `if First < 5 then exit when First < 5; elsif First < 5 then exit; end if;`
+fn branches(alloc: Global) -> Result<Statement, AllocError> {
+    let leave_when = StatementKind::ExitWhen(label(10), less(alloc, 2)?);
+    let leave = StatementKind::Exit(label(11));
+    let first = Branch {
+        decision: less(alloc, 1)?,
+        statements: vec![in alloc; Statement { kind: leave_when }]?,
+    };
+    let second = Branch {
+        decision: less(alloc, 3)?,
+        statements: vec![in alloc; Statement { kind: leave }]?,
+    };
+    let both = vec![in alloc; first, second]?;
+    Ok(Statement {
+        kind: StatementKind::If(label(9), both, Vec::new(alloc)),
+    })
+}
+
+/// `First : Integer;`, and then `while not (First < 5) loop` with the branches in a block with an
+/// object of its own, and `loop null; end loop;`
+fn looping(alloc: Global) -> Result<Subprogram, AllocError> {
+    let less = less(alloc, 0)?;
+    let decision = Decision {
+        label: less.label,
+        test: Test::negation(alloc, less.test)?,
+    };
+    let inner = Declaration::WithoutValue(1, Subtype::Scalar(NATURAL));
+    let block = StatementKind::Block(Block {
+        declarations: Seq::from(vec![in alloc; inner]?),
+        statements: vec![in alloc; branches(alloc)?]?,
+    });
+    let turn = vec![in alloc; Statement { kind: block }]?;
+    let idle = vec![in alloc;
+        Statement {
+            kind: StatementKind::Null(label(13))
+        },
+    ]?;
+    let tested = StatementKind::While(label(8), decision, turn);
+    let endless = StatementKind::Loop(label(12), idle);
+    let first = Declaration::WithoutValue(0, Subtype::Scalar(INTEGER));
+    Ok(Subprogram {
+        body: Block {
+            declarations: Seq::from(vec![in alloc; first]?),
+            statements: vec![in alloc; Statement { kind: tested }, Statement { kind: endless }]?,
+        },
+    })
+}
+
+/// All three, of which the second one is the main procedure.
 fn program(alloc: Global) -> Result<Program, AllocError> {
-    let subprograms = vec![in alloc; inner(alloc)?, outer(alloc)?]?;
+    let subprograms = vec![in alloc; inner(alloc)?, outer(alloc)?, looping(alloc)?]?;
     Ok(Program {
         subprograms: Seq::from(subprograms),
         main: 1,
@@ -114,12 +174,16 @@ fn program(alloc: Global) -> Result<Program, AllocError> {
     })
 }
 
-/// An operation that is due: one that holds no others, a call, or a return.
+/// An operation that is due. Of those that hold others it tells the form alone.
 #[derive(Clone, Copy)]
 enum Due {
     Simple(Simple),
     Call(u32),
     Returns,
+    Exit,
+    Decide(u32),
+    Choose,
+    Forever,
 }
 
 /// The start of a statement.
@@ -147,19 +211,27 @@ fn check(slot: Slot, range: Range) -> Due {
     })
 }
 
+/// Whether an operation is the one that is due.
+fn is_due_op(op: &Op, due: Due) -> bool {
+    match (op, due) {
+        (Op::Simple(simple), Due::Simple(due)) => *simple == due,
+        (Op::Call { body }, Due::Call(due)) => *body == due,
+        (Op::Decide { decision, .. }, Due::Decide(due)) => decision.0 == due,
+        (Op::Returns, Due::Returns)
+        | (Op::Exit, Due::Exit)
+        | (Op::Choose { .. }, Due::Choose)
+        | (Op::Forever(_), Due::Forever) => true,
+        _ => false,
+    }
+}
+
 /// Whether code is just of the operations that are due.
 fn is_due(code: &Code, due: &[Due]) -> bool {
     if code.ops.len() != due.len() {
         return false;
     }
     for (op, due) in code.ops.as_slice().iter().zip(due.iter()) {
-        let same = match (op, due) {
-            (Op::Simple(simple), Due::Simple(due)) => *simple == *due,
-            (Op::Call { body }, Due::Call(due)) => *body == *due,
-            (Op::Returns, Due::Returns) => true,
-            _ => false,
-        };
-        if !same {
+        if !is_due_op(op, *due) {
             return false;
         }
     }
@@ -199,6 +271,102 @@ fn outer_due() -> [Due; 22] {
     ]
 }
 
+/// The code that the first loop of code repeats.
+fn turn_of(code: &Code) -> Option<&Code> {
+    for op in &code.ops {
+        if let Op::Forever(turn) = op {
+            return Some(turn);
+        }
+    }
+    None
+}
+
+/// The code for True and that for False, of the first choice of code.
+fn ways_of(code: &Code) -> Option<(&Code, &Code)> {
+    for op in &code.ops {
+        if let Op::Choose {
+            if_true,
+            if_false,
+            ..
+        } = op
+        {
+            return Some((if_true, if_false));
+        }
+    }
+    None
+}
+
+/// Whether the first decision of code has one node, for `First < 5` in the slot 2, with these edges.
+fn compares(code: &Code, on_true: Edge, on_false: Edge) -> bool {
+    let due = [
+        copy(2, 0),
+        number(3, 5),
+        Due::Simple(Simple::Compare {
+            relation: kernel_ir::Relation::Less,
+            to: 2,
+            left: 2,
+            right: 3,
+        }),
+    ];
+    let Some(Op::Decide { slot: 2, nodes, .. }) = code.ops.first() else {
+        return false;
+    };
+    let [node] = nodes.as_slice() else {
+        return false;
+    };
+    node.slot == 2
+        && node.on_true == on_true
+        && node.on_false == on_false
+        && is_due(&node.operand, &due)
+}
+
+/// Whether the branches of the if statement are as they are due.
+fn has_branches(code: &Code) -> bool {
+    let Some((first, others)) = ways_of(code) else {
+        return false;
+    };
+    let Some((second, otherwise)) = ways_of(others) else {
+        return false;
+    };
+    is_due(first, &[start(10), Due::Decide(2), Due::Choose])
+        && is_due(others, &[Due::Decide(3), Due::Choose])
+        && compares(others, Edge::Leaf(true), Edge::Leaf(false))
+        && is_due(second, &[start(11), Due::Exit])
+        && is_due(otherwise, &[])
+}
+
+/// Whether the turn of the while loop is as it is due.
+fn is_turn(turn: &Code) -> bool {
+    let Some((inner, leaving)) = ways_of(turn) else {
+        return false;
+    };
+    let block = [number(1, 0), start(9), Due::Decide(1), Due::Choose];
+    is_due(turn, &[Due::Decide(0), Due::Choose])
+        && compares(turn, Edge::Leaf(false), Edge::Leaf(true))
+        && is_due(leaving, &[Due::Exit])
+        && is_due(inner, &block)
+        && has_branches(inner)
+}
+
+#[test]
+fn a_loop_has_its_kernel(rt: HostRuntime) -> Result<(), Fail> {
+    let program = program(rt.alloc())?;
+    let kernel = lower(rt.alloc(), &program)?;
+    let body = kernel.bodies.as_slice().last().expect(&rt, "a body");
+    let loops = [
+        number(0, i32::MIN),
+        start(8),
+        Due::Forever,
+        start(12),
+        Due::Forever,
+    ];
+    assert_eq!(rt; body.width, 4);
+    assert!(rt; is_due(&body.code, &loops));
+    let turn = turn_of(&body.code).expect(&rt, "a turn");
+    assert!(rt; is_turn(turn));
+    Ok(())
+}
+
 #[test]
 fn a_program_has_its_kernel(rt: HostRuntime) -> Result<(), Fail> {
     let program = program(rt.alloc())?;
@@ -213,7 +381,7 @@ fn a_program_has_its_kernel(rt: HostRuntime) -> Result<(), Fail> {
         Due::Returns,
     ];
     let bodies = kernel.bodies.as_slice();
-    assert_eq!(rt; (kernel.main, kernel.exceptions, bodies.len()), (1, 4, 2));
+    assert_eq!(rt; (kernel.main, kernel.exceptions, bodies.len()), (1, 4, 3));
     assert_eq!(rt; (bodies[0].width, bodies[1].width), (1, 4));
     assert!(rt; is_due(&bodies[0].code, &inner));
     assert!(rt; is_due(&bodies[1].code, &outer_due()));

@@ -5,22 +5,21 @@ ghost use Rattle.object_format.specs.declared.object.Object.{Object};
 ghost use Rattle.object_format.specs.Fields.{passes_field};
 ghost use Rattle.object_format.specs.Checked.{IsSound};
 ghost use Rattle.object_format.specs.File.{object_bytes, structured};
-ghost use Rattle.object_format.specs.Read.{IsObject, has_no_condition, is_plain, passes_plain_field, IsFailure};
+ghost use Rattle.object_format.specs.Read.{IsObject, have_one_condition, is_plain, passes_plain_field, IsFailure};
 ghost use Rattle.spelling.specs.Outcome.{Delivers};
 
 use crate::checks::check;
 use crate::fault::ObjectFault;
 use crate::object::Object;
 use crate::structure::structure;
-use cov_base::Failure;
-use line_table::{Role, RoleKind};
+use cov_base::{DecEntry, Failure};
 use std::alloc::Global;
 
 /// The object whose file the bytes are. The fault is the first check that fails: `Short` under 8
 /// bytes, `Magic`, `Version`, `Short` where a count runs past the end, and then the others in the
 /// order of [`ObjectFault`]. In the language of the moment an object has no data, no declared
-/// exceptions, one instance, no decisions, no regions and no roles of conditions, and any other fails
-/// as [`ObjectFault::Field`]. Its branches belong to checks, or to other control flow.
+/// exceptions, one instance, decisions of one condition alone and no regions, and any other fails as
+/// [`ObjectFault::Field`].
 pub fn read_object(alloc: Global, bytes: &[u8]) -> Result<Object, Failure<ObjectFault>>
     // What is read is an object, and is spelled so.
     ensures found { IfOk result (λ o. IsObject o × (is_plain o ≡ true) × (bytes.now ≡ object_bytes o)) }
@@ -75,14 +74,15 @@ fn is_plain(value: &Object) -> bool
     value.init.len() == 0
         && due.exceptions.len() == 4
         && due.instances.len() == 1
-        && due.decisions.len() == 0
+        && have_one_condition(due.decisions.as_slice())
         && due.regions.len() == 0
-        && has_no_condition(value.roles.as_slice())
 }
 
-/// Whether no role is that of a condition.
-fn has_no_condition(roles: &[Role]) -> bool
-    ensures { result ≡ has_no_condition roles.now }
+/// Whether each decision has one condition.
+fn have_one_condition(decisions: &[DecEntry]) -> bool
+    ensures { result ≡ have_one_condition decisions.now }
 {
-    roles.iter().all(|role| role.kind != RoleKind::CONDITION)
+    decisions
+        .iter()
+        .all(|decision| decision.conditions.len() == 1)
 }

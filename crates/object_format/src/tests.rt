@@ -6,7 +6,9 @@ use crate::{
     ObjectFault, digest, read_object, read_whole_object, write_object, write_whole_object,
 };
 use cov_base::Failure;
-use given::{ALL_PARTS, CHANGES, ONE_REGION, ONE_STATEMENT, TWO_BRANCHES, TWO_DECISIONS};
+use given::{
+    ALL_PARTS, CHANGES, ONE_DECISION, ONE_REGION, ONE_STATEMENT, TWO_BRANCHES, TWO_DECISIONS,
+};
 use spelling::seal;
 use std::alloc::{AllocError, Global};
 use std::test::Fail;
@@ -118,7 +120,11 @@ fn objects_are_read_and_written_again(rt: HostRuntime) -> Result<(), Fail> {
 
 #[test]
 fn the_language_of_the_moment_is_read_and_written_again(rt: HostRuntime) -> Result<(), Fail> {
-    for pieces in [ONE_STATEMENT.as_slice(), TWO_BRANCHES.as_slice()] {
+    for pieces in [
+        ONE_STATEMENT.as_slice(),
+        TWO_BRANCHES.as_slice(),
+        ONE_DECISION.as_slice(),
+    ] {
         let bytes = whole(rt.alloc(), pieces)?;
         let written = again_plain(rt.alloc(), bytes.as_slice());
         assert!(rt; matches!(&written, Ok(written) if written.as_slice() == bytes.as_slice()));
@@ -127,12 +133,16 @@ fn the_language_of_the_moment_is_read_and_written_again(rt: HostRuntime) -> Resu
 }
 
 #[test]
-fn the_language_of_the_moment_has_no_region(rt: HostRuntime) -> Result<(), Fail> {
-    let bytes = whole(rt.alloc(), ONE_REGION.as_slice())?;
-    assert_eq!(rt;
-        plain_refusal(rt.alloc(), bytes.as_slice())?,
-        Some(ObjectFault::Field)
-    );
+fn the_language_of_the_moment_has_no_region_and_decides_by_one_condition(
+    rt: HostRuntime,
+) -> Result<(), Fail> {
+    for pieces in [ONE_REGION.as_slice(), TWO_DECISIONS.as_slice()] {
+        let bytes = whole(rt.alloc(), pieces)?;
+        assert_eq!(rt;
+            plain_refusal(rt.alloc(), bytes.as_slice())?,
+            Some(ObjectFault::Field)
+        );
+    }
     Ok(())
 }
 

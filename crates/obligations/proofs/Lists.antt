@@ -1,54 +1,153 @@
--- Lists of entries, and the obligations that they are parts of.
-use Rattle.std.proofs.Common.{◌≡◌, List, [], ◌∷◌, ◌++◌, map, refl, sym, ap, ◌∙◌}
-use Rattle.std.specs.Prelude.{ℕ}
-use Rattle.std.proofs.lemmas.List.{append_assoc, append-nil, map-append}
+-- Entries behind entries, and the obligations that they are parts of.
+use Rattle.std.proofs.Common.{◌≡◌, ℕ, ◌+◌, ◌<◌, ◌≤◌, List, [], ◌∷◌, ◌++◌, map, length, get_or, drop, Result, Ok, Err, OnOk, refl, sym, ap, ◌∙◌}
+use Rattle.std.proofs.lemmas.List.{append_assoc, append-nil, map-append, at_drop_more, at_drop_all}
 use Rattle.cov_base.specs.declared.obligations.StmtEntry.{StmtEntry}
 use Rattle.cov_base.specs.declared.obligations.DecEntry.{DecEntry}
 use Rattle.cov_base.specs.declared.obligations.Region.{Region}
 use Rattle.cov_base.specs.declared.obligations.InstanceEntry.{InstanceEntry}
 use Rattle.cov_base.specs.declared.obligations.Obligations.{Obligations}
 use Rattle.ada_meaning.specs.Tree as tree
-use Rattle.ada_meaning.specs.Tree.{Stmts, no_statement, and_statement, no_handler, block}
-use Rattle.ada_meaning.specs.Collected.{declaration_labels, labels, all_labels, labels_of, block_labels, decisions_of}
-use Rattle.ada_meaning.specs.Obligations.{statement_entry, decision_entry, no_instance, predefined_names, precedes, in_order, ordered_labels, ordered_decisions, obligations_of}
-use Rattle.ada_tree.specs.declared.program.Subprogram.{Subprogram}
+use Rattle.ada_meaning.specs.Tree.{Label, Test, Stmt, Stmts, else_part, block, no_handler}
+use Rattle.ada_meaning.specs.Collected.{Standing, after_if, after_while, after_exit, Decision, in_decision, in_declarations, in_stmt, in_stmts, in_branches, in_block, in_value, declaration_labels, labels, all_labels, branch_labels, block_labels, labels_of, decisions_of}
+use Rattle.ada_meaning.specs.Obligations.{statement_entry, decision_entry, no_instance, predefined_names, ordered_labels, ordered_decisions, obligations_of}
+use Rattle.ada_tree.specs.View.{label_of, declaration_of, statements_of, branches_of, subprogram_of, program_of}
 use Rattle.ada_tree.specs.declared.program.Program.{Program}
-use Rattle.ada_tree.specs.View.{declaration_of, subprogram_of, program_of}
+use Rattle.ada_tree.specs.declared.statement.Branch.{Branch}
 use Rattle.ada_tree.specs.declared.statement.Declaration.{Declaration}
-use Rattle.obligations.specs.Entries.{of_declarations, of_statements, of_block, of_subprograms, predefined}
+use Rattle.ada_tree.specs.declared.program.Subprogram.{Subprogram}
+use Rattle.obligations.specs.Entries.{Entries, no_entry, joined, listed, of_label, of_decision, of_declarations, of_statement, of_statements, of_block, of_branch, of_branches, of_subprograms, predefined}
 
-pub appended : {X : Type 0} (xs ys zs : List X) → (xs ++ ys) ++ zs ≡ xs ++ (ys ++ zs)
-appended xs ys zs = append_assoc xs ys zs
+pub joined_nothing : (a : Entries) → joined a no_entry ≡ a
+unfolding joined
+joined_nothing a = λ k. record { statements = append-nil a.statements k; decisions = append-nil a.decisions k }
 
--- the entries of statements are those of their labels
-pub of_labels : (ss : Stmts) → of_statements ss ≡ map statement_entry (all_labels ss)
-of_labels no_statement = refl
-of_labels (and_statement s ss) = ap (λ es. map statement_entry (labels s) ++ es) (of_labels ss) ∙ sym (map-append statement_entry (labels s) (all_labels ss))
+pub nothing_joined : (a : Entries) → joined no_entry a ≡ a
+unfolding joined
+nothing_joined a = refl
 
--- and those of declarations
-label_front : (d : tree.Declaration) (ds : List tree.Declaration) → declaration_labels (d ∷ ds) ≡ declaration_labels (d ∷ []) ++ declaration_labels ds
-label_front (tree.initialized l n v) ds = refl
-label_front (tree.without_value n t) ds = refl
+pub joined_assoc : (a b c : Entries) → joined (joined a b) c ≡ joined a (joined b c)
+unfolding joined
+joined_assoc a b c = λ k. record {
+  statements = append_assoc a.statements b.statements c.statements k;
+  decisions = append_assoc a.decisions b.decisions c.decisions k;
+}
 
-of_declared : (ds : List Declaration) → of_declarations ds ≡ map statement_entry (declaration_labels (map declaration_of ds))
-of_declared [] = refl
-of_declared (d ∷ ds) =
-    let one = declaration_labels (declaration_of d ∷ []) in
-    ap (λ es. map statement_entry one ++ es) (of_declared ds)
-    ∙ sym (map-append statement_entry one (declaration_labels (map declaration_of ds)))
-    ∙ ap (map statement_entry) (sym (label_front (declaration_of d) (map declaration_of ds)))
+pub nothing_listed : listed [] [] ≡ no_entry
+unfolding listed
+nothing_listed = refl
 
-pub of_plain_block : (ds : List Declaration) (ss : Stmts) → of_declarations ds ++ of_statements ss ≡ of_block (block (map declaration_of ds) ss no_handler)
-of_plain_block ds ss =
-    let front = declaration_labels (map declaration_of ds) in
-    ap (λ es. es ++ of_statements ss) (of_declared ds)
-    ∙ ap (λ es. map statement_entry front ++ es) (of_labels ss)
-    ∙ sym (map-append statement_entry front (all_labels ss))
-    ∙ ap (map statement_entry) (sym (append-nil (front ++ all_labels ss)))
+-- some labels and decisions, and others behind them
+pub listed_joined : (ls ms : List Label) (ds es : List Decision) → listed (ls ++ ms) (ds ++ es) ≡ joined (listed ls ds) (listed ms es)
+unfolding joined listed
+listed_joined ls ms ds es = λ k. record { statements = map-append statement_entry ls ms k; decisions = map-append decision_entry ds es k }
 
-pub of_program : (ss : List Subprogram) → of_subprograms ss ≡ map statement_entry (labels_of (map subprogram_of ss))
-of_program [] = refl
-of_program (s ∷ ss) = ap (λ es. of_block s.body ++ es) (of_program ss) ∙ sym (map-append statement_entry (block_labels s.body) (labels_of (map subprogram_of ss)))
+-- two parts, one after the other
+pub two_added : (a b c x y : Entries) → b ≡ joined a x → c ≡ joined b y → c ≡ joined a (joined x y)
+two_added a b c x y first second = second ∙ ap (λ z. joined z y) first ∙ joined_assoc a x y
+
+-- the same where there may be no memory for the second part
+pub then_added : {A E : Type 0} (r : Result A E) (a b c x y : Entries) → b ≡ joined a x → OnOk r (c ≡ joined b y) → OnOk r (c ≡ joined a (joined x y))
+then_added (Ok u) a b c x y first second = two_added a b c x y first second
+then_added (Err e) a b c x y first second = tt
+
+-- where what was added is the same
+pub same_added : {A E : Type 0} (r : Result A E) (a c x y : Entries) → x ≡ y → OnOk r (c ≡ joined a x) → OnOk r (c ≡ joined a y)
+same_added (Ok u) a c x y e h = h ∙ ap (joined a) e
+same_added (Err u) a c x y e h = tt
+
+-- the entries of the items of a list, one after another: of one more item, and where none is left
+pub one_more : {X : Type 0} (F : List X → Entries) (f : X → Entries) → ((x : X) (xs : List X) → F (x ∷ xs) ≡ joined (f x) (F xs))
+    → (xs : List X) (i : ℕ) (d x : X) (a c : Entries) → i < length xs → x ≡ get_or xs i d → c ≡ joined a (f x) → joined c (F (drop (i + 1) xs)) ≡ joined a (F (drop i xs))
+one_more F f step xs i d x a c lt is added =
+    ap (λ z. joined z (F (drop (i + 1) xs))) (added ∙ ap (λ y. joined a (f y)) is) ∙ joined_assoc a (f (get_or xs i d)) (F (drop (i + 1) xs))
+    ∙ ap (joined a) (sym (step (get_or xs i d) (drop (i + 1) xs)) ∙ sym (at_drop_more F xs i d lt))
+
+pub none_left : {X : Type 0} (F : List X → Entries) → F [] ≡ no_entry → (xs : List X) (i : ℕ) (a c : Entries) → length xs ≤ i → joined a (F (drop i xs)) ≡ c → a ≡ c
+none_left F empty xs i a c all whole = sym (joined_nothing a) ∙ ap (joined a) (sym (at_drop_all F xs i all ∙ empty)) ∙ whole
+
+-- statements, declarations, branches and subprograms, one after another
+pub statements_front : (s : Stmt) (ss : List Stmt) → of_statements (statements_of (s ∷ ss)) ≡ joined (of_statement s) (of_statements (statements_of ss))
+statements_front s ss = listed_joined (labels s) (all_labels (statements_of ss)) (in_stmt s) (in_stmts (statements_of ss))
+
+pub declarations_front : (d : Declaration) (ds : List Declaration) → of_declarations (d ∷ ds) ≡ joined (of_declarations (d ∷ [])) (of_declarations ds)
+declarations_front d ds = front (declaration_of d) (map declaration_of ds)
+  where
+    front : (d : tree.Declaration) (ds : List tree.Declaration)
+        → listed (declaration_labels (d ∷ ds)) (in_declarations (d ∷ ds)) ≡ joined (listed (declaration_labels (d ∷ [])) (in_declarations (d ∷ []))) (listed (declaration_labels ds) (in_declarations ds))
+    front (tree.initialized l n v) ds =
+        ap (λ es. listed (l ∷ declaration_labels ds) (es ++ in_declarations ds)) (sym (append-nil (in_value l.number v)))
+        ∙ listed_joined (l ∷ []) (declaration_labels ds) (in_value l.number v ++ []) (in_declarations ds)
+    front (tree.without_value n t) ds = listed_joined [] (declaration_labels ds) [] (in_declarations ds)
+
+pub subprograms_front : (s : Subprogram) (ss : List Subprogram) → of_subprograms (s ∷ ss) ≡ joined (of_block s.body) (of_subprograms ss)
+subprograms_front s ss =
+    listed_joined (block_labels s.body) (labels_of (map subprogram_of ss)) (in_block s.body) (decisions_of (map subprogram_of ss))
+
+-- the parts of statements
+pub loop_parts : (l : Label) (ss : Stmts) → joined (of_label l) (of_statements ss) ≡ of_statement (tree.bare_loop l ss)
+loop_parts l ss = sym (listed_joined (l ∷ []) (all_labels ss) [] (in_stmts ss))
+
+pub decided_parts : (k : Standing) (n : ℕ) (d : Label) (t : Test) (ss : Stmts)
+    → joined (of_decision k n d t) (of_statements ss) ≡ listed (all_labels ss) (in_decision n k d t ++ in_stmts ss)
+decided_parts k n d t ss = sym (listed_joined [] (all_labels ss) (in_decision n k d t) (in_stmts ss))
+
+pub while_parts : (l d : Label) (t : Test) (ss : Stmts)
+    → joined (of_label l) (joined (of_decision after_while l.number d t) (of_statements ss)) ≡ of_statement (tree.while_loop l d t ss)
+while_parts l d t ss =
+    ap (joined (of_label l)) (decided_parts after_while l.number d t ss)
+    ∙ sym (listed_joined (l ∷ []) (all_labels ss) [] (in_decision l.number after_while d t ++ in_stmts ss))
+
+pub exit_parts : (l d : Label) (t : Test) → joined (of_label l) (of_decision after_exit l.number d t) ≡ of_statement (tree.exit_when l d t)
+exit_parts l d t = sym (listed_joined (l ∷ []) [] [] (in_decision l.number after_exit d t))
+
+-- branches, and the else part behind them
+pub branches_parts : (n : ℕ) (bs : List Branch) (other : Stmts)
+    → joined (of_branches n bs) (of_statements other) ≡ listed (branch_labels (branches_of bs other)) (in_branches n (branches_of bs other))
+branches_parts n [] other = nothing_joined (of_statements other)
+branches_parts n (b ∷ bs) other =
+    let ss = statements_of b.statements.items in
+    let d = label_of b.decision.label in
+    let t = b.decision.test in
+    joined_assoc (of_branch n b) (of_branches n bs) (of_statements other)
+    ∙ ap (joined (of_branch n b)) (branches_parts n bs other)
+    ∙ ap (λ z. joined z (listed (branch_labels (branches_of bs other)) (in_branches n (branches_of bs other)))) (decided_parts after_if n d t ss)
+    ∙ sym (listed_joined (all_labels ss) (branch_labels (branches_of bs other)) (in_decision n after_if d t ++ in_stmts ss) (in_branches n (branches_of bs other)))
+
+pub if_parts : (l : Label) (bs : List Branch) (other : Stmts)
+    → joined (of_label l) (joined (of_branches l.number bs) (of_statements other)) ≡ of_statement (tree.if_statement l (branches_of bs other))
+if_parts l bs other =
+    ap (joined (of_label l)) (branches_parts l.number bs other)
+    ∙ sym (listed_joined (l ∷ []) (branch_labels (branches_of bs other)) [] (in_branches l.number (branches_of bs other)))
+
+-- a block without handlers
+pub block_parts : (ds : List Declaration) (ss : Stmts) → joined (of_declarations ds) (of_statements ss) ≡ of_block (block (map declaration_of ds) ss no_handler)
+block_parts ds ss =
+    let ls = declaration_labels (map declaration_of ds) in
+    let es = in_declarations (map declaration_of ds) in
+    sym (listed_joined ls (all_labels ss) es (in_stmts ss))
+    ∙ ap (λ zs. listed zs (es ++ in_stmts ss)) (sym (append-nil (ls ++ all_labels ss)))
+    ∙ ap (λ zs. listed (ls ++ all_labels ss ++ []) zs) (sym (append-nil (es ++ in_stmts ss)))
+
+-- three parts
+pub three_added : {A E : Type 0} (r : Result A E) (a b c d x y z : Entries)
+    → b ≡ joined a x → c ≡ joined b y → OnOk r (d ≡ joined c z) → OnOk r (d ≡ joined a (joined x (joined y z)))
+three_added r a b c d x y z first second third = then_added r a b d x (joined y z) first (then_added r b c d y z second third)
+
+abbrev pub entries_of : List StmtEntry → List DecEntry → Entries
+entries_of ss ds = record { statements = ss; decisions = ds }
+
+-- one more entry
+pub statement_added : (ss new : List StmtEntry) (ds : List DecEntry) (a : Entries) (e : StmtEntry) (l : Label)
+    → entries_of ss ds ≡ a → e ≡ statement_entry l → new ≡ ss ++ e ∷ [] → entries_of new ds ≡ joined a (of_label l)
+unfolding joined listed
+statement_added ss new ds a e l view is pushed =
+    (λ k. entries_of ((pushed ∙ ap (λ x. ss ++ x ∷ []) is) k) (sym (append-nil ds) k)) ∙ ap (λ z. joined z (of_label l)) view
+
+pub decision_added : (ss : List StmtEntry) (ds new : List DecEntry) (a : Entries) (e : DecEntry) (hs : List Decision)
+    → entries_of ss ds ≡ a → e ∷ [] ≡ map decision_entry hs → new ≡ ds ++ e ∷ [] → entries_of ss new ≡ joined a (listed [] hs)
+unfolding joined listed
+decision_added ss ds new a e hs view is pushed =
+    (λ k. entries_of (sym (append-nil ss) k) ((pushed ∙ ap (λ xs. ds ++ xs) is) k)) ∙ ap (λ z. joined z (listed [] hs)) view
 
 pub predefined_are : predefined ≡ predefined_names
 unfolding predefined
@@ -57,18 +156,26 @@ predefined_are = refl
 abbrev made : List StmtEntry → List DecEntry → List Region → List InstanceEntry → List (List ℕ) → Obligations
 made ss ds rs is xs = record { statements = ss; decisions = ds; regions = rs; instances = is; exceptions = xs }
 
-module _ (p : Program) (ordered : ordered_labels (program_of p) ≡ labels_of (program_of p).subprograms) (undecided : decisions_of (program_of p).subprograms ≡ []) where
-  statements_are : of_subprograms p.subprograms ≡ map statement_entry (ordered_labels (program_of p))
-  statements_are = of_program p.subprograms ∙ ap (λ ls. map statement_entry ls) (sym ordered)
+-- a program whose statements and decisions stand in order
+module _ (p : Program) (ordered : ordered_labels (program_of p) ≡ labels_of (program_of p).subprograms)
+    (decided : ordered_decisions (program_of p) ≡ decisions_of (program_of p).subprograms) where
+  in_order_are : of_subprograms p.subprograms ≡ listed (ordered_labels (program_of p)) (ordered_decisions (program_of p))
+  in_order_are = λ k. listed (sym ordered k) (sym decided k)
 
-  decisions_are : [] ≡ map decision_entry (ordered_decisions (program_of p))
-  decisions_are = sym (ap (λ ds. map decision_entry (in_order (λ a b. precedes a.label.place b.label.place) ds)) undecided)
+  statements_are : (of_subprograms p.subprograms).statements ≡ map statement_entry (ordered_labels (program_of p))
+  unfolding listed
+  statements_are = ap (λ (a : Entries). a.statements) in_order_are
 
-  pub all_parts : (ss : List StmtEntry) (ds : List DecEntry) (rs : List Region) (is : List InstanceEntry) (xs : List (List ℕ)) → ss ≡ of_subprograms p.subprograms → ds ≡ [] → rs ≡ []
-      → is ≡ no_instance ∷ [] → xs ≡ predefined_names → made ss ds rs is xs ≡ obligations_of (program_of p) []
-  all_parts ss ds rs is xs s d r i x = λ k. record {
-    statements = (s ∙ statements_are) k;
-    decisions = (d ∙ decisions_are) k;
+  decisions_are : (of_subprograms p.subprograms).decisions ≡ map decision_entry (ordered_decisions (program_of p))
+  unfolding listed
+  decisions_are = ap (λ (a : Entries). a.decisions) in_order_are
+
+  pub all_parts : (a : Entries) (ss : List StmtEntry) (ds : List DecEntry) (rs : List Region) (is : List InstanceEntry) (xs : List (List ℕ))
+      → a ≡ of_subprograms p.subprograms → ss ≡ a.statements → ds ≡ a.decisions → rs ≡ [] → is ≡ no_instance ∷ [] → xs ≡ predefined_names
+      → made ss ds rs is xs ≡ obligations_of (program_of p) []
+  all_parts a ss ds rs is xs e s d r i x = λ k. record {
+    statements = (s ∙ ap (λ (z : Entries). z.statements) e ∙ statements_are) k;
+    decisions = (d ∙ ap (λ (z : Entries). z.decisions) e ∙ decisions_are) k;
     regions = r k;
     instances = i k;
     exceptions = x k;

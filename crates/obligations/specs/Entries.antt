@@ -1,31 +1,61 @@
--- The entries of statement obligations, as they are met on a walk over the trees.
+-- The entries of statements and decisions, as they are met on a walk over the trees.
 use Rattle.std.specs.Prelude.{List, [], ◌∷◌, ◌++◌, codes, ℕ, map}
 use Rattle.cov_base.specs.declared.obligations.StmtEntry.{StmtEntry}
-use Rattle.ada_meaning.specs.Tree.{Stmt, Stmts, no_statement, and_statement, Block}
-use Rattle.ada_meaning.specs.Collected.{declaration_labels, labels, block_labels}
-use Rattle.ada_meaning.specs.Obligations.{statement_entry}
-use Rattle.ada_tree.specs.View.{declaration_of}
+use Rattle.cov_base.specs.declared.obligations.DecEntry.{DecEntry}
+use Rattle.ada_meaning.specs.Tree.{Label, Test, Stmt, Stmts, Block}
+use Rattle.ada_meaning.specs.Collected.{Standing, after_if, Decision, in_decision, in_declarations, in_stmt, in_stmts, in_block, declaration_labels, labels, all_labels, block_labels, labels_of, decisions_of}
+use Rattle.ada_meaning.specs.Obligations.{statement_entry, decision_entry}
+use Rattle.ada_tree.specs.View.{label_of, declaration_of, statements_of, subprogram_of}
+use Rattle.ada_tree.specs.declared.statement.Branch.{Branch}
 use Rattle.ada_tree.specs.declared.statement.Declaration.{Declaration}
 use Rattle.ada_tree.specs.declared.program.Subprogram.{Subprogram}
 
--- a declaration with an initial value has one
-abbrev pub of_declarations : List Declaration → List StmtEntry
-of_declarations [] = []
-of_declarations (d ∷ ds) = map statement_entry (declaration_labels (declaration_of d ∷ [])) ++ of_declarations ds
+-- entries of statements, and entries of decisions
+pub record Entries : Type 0 where
+  pub statements : List StmtEntry
+  pub decisions : List DecEntry
 
-abbrev pub of_statement : Stmt → List StmtEntry
-of_statement s = map statement_entry (labels s)
+abbrev pub no_entry : Entries
+no_entry = record { statements = []; decisions = [] }
 
-abbrev pub of_statements : Stmts → List StmtEntry
-of_statements no_statement = []
-of_statements (and_statement s ss) = of_statement s ++ of_statements ss
+-- entries, and others behind them
+unfoldable pub joined : Entries → Entries → Entries
+joined a b = record { statements = a.statements ++ b.statements; decisions = a.decisions ++ b.decisions }
 
-abbrev pub of_block : Block → List StmtEntry
-of_block b = map statement_entry (block_labels b)
+-- the entries of these statement obligations and decisions
+unfoldable pub listed : List Label → List Decision → Entries
+listed ls ds = record { statements = map statement_entry ls; decisions = map decision_entry ds }
 
-abbrev pub of_subprograms : List Subprogram → List StmtEntry
-of_subprograms [] = []
-of_subprograms (s ∷ ss) = of_block s.body ++ of_subprograms ss
+abbrev pub of_label : Label → Entries
+of_label l = listed (l ∷ []) []
+
+abbrev pub of_decision : Standing → ℕ → Label → Test → Entries
+of_decision standing statement d t = listed [] (in_decision statement standing d t)
+
+-- a declaration with an initial value has an entry
+abbrev pub of_declarations : List Declaration → Entries
+of_declarations ds = listed (declaration_labels (map declaration_of ds)) (in_declarations (map declaration_of ds))
+
+abbrev pub of_statement : Stmt → Entries
+of_statement s = listed (labels s) (in_stmt s)
+
+abbrev pub of_statements : Stmts → Entries
+of_statements ss = listed (all_labels ss) (in_stmts ss)
+
+abbrev pub of_block : Block → Entries
+of_block b = listed (block_labels b) (in_block b)
+
+-- a branch has those of its decision, and then of its statements
+abbrev pub of_branch : ℕ → Branch → Entries
+of_branch statement b = joined (of_decision after_if statement (label_of b.decision.label) b.decision.test) (of_statements (statements_of b.statements.items))
+
+-- the branches of an if statement, without its else part
+abbrev pub of_branches : ℕ → List Branch → Entries
+of_branches statement [] = no_entry
+of_branches statement (b ∷ bs) = joined (of_branch statement b) (of_branches statement bs)
+
+abbrev pub of_subprograms : List Subprogram → Entries
+of_subprograms ss = listed (labels_of (map subprogram_of ss)) (decisions_of (map subprogram_of ss))
 
 -- the names of the predefined exceptions, in the order of their numbers
 unfoldable pub predefined : List (List ℕ)

@@ -1,4 +1,4 @@
--- The statements of files stand one after the other.
+-- The statements of files stand one after the other, and so do their decisions.
 use Rattle.std.proofs.Common.{◌≡◌, ℕ, suc, ◌+◌, ◌<◌, inl, inr, true, List, [], ◌∷◌, ◌++◌, sym, ◌∙◌, subst, arith}
 use Rattle.std.specs.List.{All, AllPairs, AllByRecursion}
 use Rattle.std.proofs.lemmas.List.Elements.{recursion_from_All}
@@ -8,15 +8,18 @@ use Rattle.ada_lexer.specs.declared.token.Token.{Token}
 use Rattle.ada_lexer.specs.Tokens.{IsTokenOf, IsBefore}
 use Rattle.ada_syntax.specs.declared.unit.Unit.{Unit as LibraryUnit}
 use Rattle.ada_meaning.specs.Obligations.{precedes}
-use Rattle.ada_types.specs.Typing.{places_of}
+use Rattle.ada_syntax.specs.Tree.{expr_pos}
+use Rattle.ada_places.specs.Places.{condition_place}
 use Rattle.expression_parser.specs.declared.extent.Extent.{Extent}
 use Rattle.expression_parser.specs.Reading.{Tokens}
-use Rattle.legal_programs.specs.Rising.{StatementsRise}
-use Rattle.ada_types.specs.Order.{AreOrdered}
-use Rattle.ada_types.proofs.Order.{earlier_precedes}
+use Rattle.legal_programs.specs.Rising.{rise, DecisionsRise, StatementsRise}
+use Rattle.ada_places.specs.Order.{AreOrdered}
+use Rattle.ada_places.proofs.Order.{earlier_precedes}
 use Rattle.legal_programs.proofs.Order.{rise_ordered}
 use Rattle.parsed_programs.specs.Parsed.{AreOfFiles, no_file, and_file}
-use Rattle.parsed_programs.proofs.Picks.{Picks, ended, taken, passed, units_picked, places_joined}
+use Rattle.parsed_programs.proofs.Gathered.{Gathering, of_units, obligations, deciding, units_same, units_decided, units_joined}
+use Rattle.parsed_programs.proofs.Nested.{IsPicked, units_picked}
+use Rattle.parsed_programs.proofs.Picks.{Picks, ended, taken, passed, none_of, declaration_picked, expr_picked, condition_picked}
 
 -- tokens of which each stands before all later ones
 abbrev InOrder : Tokens → Type 0
@@ -83,18 +86,34 @@ record Stand (n : ℕ) (ps : List Pos) : Type 0 where
   pub ordered : AreOrdered ps
   pub below : Everywhere (λ (p : Pos). p.file < n) ps
 
-files_stand : {x : Extent} {n : ℕ} {us : List LibraryUnit} → AreOfFiles x n us → Stand n (places_of us)
-files_stand no_file = record { ordered = tt; below = tt }
-files_stand (and_file {n = n} {units = us} {more = vs} {source = source} {tokens = tokens} before lexed parsed) =
-    let first = files_stand before in
-    let picked = units_picked parsed in
+files_stand : {g : Gathering} → IsPicked g → {x : Extent} {n : ℕ} {us : List LibraryUnit} → AreOfFiles x n us → Stand n (of_units g us)
+files_stand k no_file = record { ordered = tt; below = tt }
+files_stand {g} k (and_file {n = n} {units = us} {more = vs} {source = source} {tokens = tokens} before lexed parsed) =
+    let first = files_stand k before in
+    let picked = units_picked k parsed in
     let each = recursion_from_All (IsTokenOf n source) tokens lexed.each in
     let in_file = picked_each (λ (p : Pos). p.file ≡ n) picked (each_in_file n source tokens each) in
-    subst (Stand (n + 1)) (sym (places_joined us vs))
+    subst (Stand (n + 1)) (sym (units_joined g us vs))
     (record {
-      ordered = ordered_joined n (places_of us) (places_of vs) first.ordered first.below (picked_ordered picked (tokens_ordered n source tokens each lexed.places)) in_file;
-      below = everywhere_joined (λ (p : Pos). p.file < n + 1) (places_of us) (places_of vs) (wider n (places_of us) first.below) (last_below n (places_of vs) in_file);
+      ordered = ordered_joined n (of_units g us) (of_units g vs) first.ordered first.below (picked_ordered picked (tokens_ordered n source tokens each lexed.places)) in_file;
+      below = everywhere_joined (λ (p : Pos). p.file < n + 1) (of_units g us) (of_units g vs) (wider n (of_units g us) first.below) (last_below n (of_units g vs) in_file);
     })
 
-pub files_rise : (x : Extent) (n : ℕ) (us : List LibraryUnit) → AreOfFiles x n us → StatementsRise us
-files_rise x n us h = rise_ordered (places_of us) (files_stand h).ordered
+-- statements, decisions and conditions
+pub obligations_picked : IsPicked obligations
+obligations_picked = record { statement = λ p. p; decision = λ d. none_of (expr_picked d); declaration = λ d. declaration_picked d }
+
+pub decisions_picked : IsPicked (deciding expr_pos)
+decisions_picked = record { statement = λ p. none_of p; decision = λ d. expr_picked d; declaration = λ d. none_of (declaration_picked d) }
+
+pub conditions_picked : IsPicked (deciding condition_place)
+conditions_picked = record { statement = λ p. none_of p; decision = λ d. condition_picked d; declaration = λ d. none_of (declaration_picked d) }
+
+risen : {g : Gathering} (ps : List Pos) → IsPicked g → {x : Extent} {n : ℕ} {us : List LibraryUnit} → AreOfFiles x n us → of_units g us ≡ ps → rise ps ≡ true
+risen ps k h same = subst (λ qs. rise qs ≡ true) same (rise_ordered _ (files_stand k h).ordered)
+
+pub statements_rise : (x : Extent) (n : ℕ) (us : List LibraryUnit) → AreOfFiles x n us → StatementsRise us
+statements_rise x n us h = risen _ obligations_picked h (units_same us)
+
+pub decisions_rise : (x : Extent) (n : ℕ) (us : List LibraryUnit) → AreOfFiles x n us → DecisionsRise us
+decisions_rise x n us h = risen _ decisions_picked h (units_decided expr_pos us)

@@ -1,39 +1,31 @@
--- The places of declarations and statements are those of some of the tokens, in their order.
-use Rattle.std.proofs.Common.{◌≡◌, List, [], ◌∷◌, ◌++◌, Option, refl, sym, ap, ◌∙◌, subst, append-nil}
-use Rattle.std.proofs.lemmas.List.{append_assoc}
+-- The places of expressions and declarations are those of some of the tokens, in their order.
+use Rattle.std.proofs.Common.{◌≡◌, List, [], ◌∷◌, ◌++◌, Option, Some, refl, ap, subst, append-nil}
 use Rattle.cov_base.specs.declared.position.Pos.{Pos}
 use Rattle.ada_lexer.specs.declared.token.Token.{Token}
-use Rattle.ada_syntax.specs.Tree.{Expr, Name, name_pos}
-use Rattle.ada_syntax.specs.StatementTree.{Statement}
-use Rattle.ada_syntax.specs.StatementView.{statements_of}
+use Rattle.ada_syntax.specs.Tree.{Expr, unary, expr_pos, Name, name_pos}
 use Rattle.ada_syntax.specs.declared.expr.LogicalOperator.{LogicalOperator}
+use Rattle.ada_syntax.specs.declared.expr.UnaryOperator.{UnaryOperator}
+use Rattle.ada_syntax.specs.declared.expr.UnaryOperator.TheVariants as operator
 use Rattle.ada_syntax.specs.declared.declaration.Bounds.{Bounds}
 use Rattle.ada_syntax.specs.declared.declaration.Constancy.{Constancy}
 use Rattle.ada_syntax.specs.declared.declaration.Declaration.{Declaration}
+use Rattle.ada_syntax.specs.declared.declaration.DiscreteRange.{DiscreteRange}
 use Rattle.ada_syntax.specs.declared.declaration.Initial.{Initial}
 use Rattle.ada_syntax.specs.declared.declaration.SubtypeIndication.{SubtypeIndication}
 use Rattle.ada_syntax.specs.declared.name.Identifier.{Identifier}
-use Rattle.ada_syntax.specs.declared.unit.SubprogramBody.{SubprogramBody}
-use Rattle.ada_syntax.specs.declared.unit.Formal.{Formal}
-use Rattle.ada_syntax.specs.declared.unit.LibraryItem.{LibraryItem}
-use Rattle.ada_syntax.specs.declared.unit.WithClause.{WithClause}
-use Rattle.ada_syntax.specs.declared.unit.Unit.{Unit as LibraryUnit}
 use Rattle.expression_parser.specs.declared.extent.Extent.{Extent}
 use Rattle.expression_parser.specs.Reading.{Tokens}
 use Rattle.expression_parser.specs.Expressions.{Level, Joins, by_and, by_or, by_xor, by_and_then, by_or_else, IsExpr, a_numeral, a_name, in_parentheses, a_primary, an_abs, a_not, a_factor, a_product, a_term, a_signed_term, a_first_term, a_sum, a_simple, a_relation, a_single, a_chain, IsChain, a_pair, a_longer, IsName, an_identifier, a_selection, an_attribute, an_application, AreExprs, one_expr, more_exprs}
 use Rattle.expression_parser.specs.declared.symbol.Symbol.{Symbol}
+use Rattle.expression_parser.specs.declared.symbol.Symbol.TheVariants as symbol
+use Rattle.expression_parser.specs.Symbols.{symbol_of, sign_of}
 use Rattle.expression_parser.specs.Syntax.{Suffix, all, after}
 use Rattle.declaration_parser.specs.Identifiers.{AreIdentifiers, one_identifier, more_identifiers}
-use Rattle.declaration_parser.specs.Declarations.{IsDeclaration, a_type, a_subtype, an_object, an_exception, an_exemption, IsConstancy, a_variable, a_constant, no_initial, an_initial, AreDeclarations, no_declarations, more_declarations}
-use Rattle.declaration_parser.specs.Subtypes.{IsInitial, a_value, an_aggregate, low_and_high, IsConstraint, no_constraint, a_constraint, IsIndication, an_indication}
+use Rattle.declaration_parser.specs.Declarations.{IsDeclaration, a_type, a_subtype, an_object, an_exception, an_exemption, IsConstancy, a_variable, a_constant, no_initial, an_initial}
+use Rattle.declaration_parser.specs.Subtypes.{IsInitial, a_value, an_aggregate, AreBounds, low_and_high, IsRange, a_mark, a_range, IsConstraint, no_constraint, a_constraint, IsIndication, an_indication}
 use Rattle.statement_parser.specs.Words.{Word, word, Named, name}
-use Rattle.statement_parser.specs.Statements.{IsStatement, a_null, an_assignment, a_call, an_exemption as an_exempting_statement, an_if, a_case, an_endless_loop, a_while, a_for, an_exit, a_return, a_raise, a_block, a_declaring_block, AreStatements, one_statement, more_statements, HasResult, no_result, a_result, a_sequence}
-use Rattle.statement_parser.proofs.Suffixes.{statement_suffix, handlers_suffix}
-use Rattle.ada_parser.specs.Grammar.{IsWith, a_with, AreWiths, no_withs, more_withs, IsEndName, no_end_name, an_end_name, IsEnd, an_end, IsBody, a_body, IsPackageRest, a_package_rest, IsItem, a_generic, a_package, a_package_body, an_instance, a_subprogram, IsUnit, a_unit, AreUnits, one_unit, more_units}
-use Rattle.ada_parser.proofs.UnitComplete.{end_word}
-use Rattle.ada_parser.proofs.UnitSuffixes.{item_suffix, declaration_suffix, specification_suffix}
-use Rattle.ada_names.specs.Library.{statements_in}
-use Rattle.ada_types.specs.Typing.{kind_places, declaration_places, statement_places, all_places, item_places, places_of}
+use Rattle.ada_parser.proofs.UnitSuffixes.{declaration_suffix}
+use Rattle.ada_places.specs.Places.{kind_places, condition_place}
 
 -- these are the places of some of the tokens between two lists, in order
 pub data Picks : List Pos → Tokens → Tokens → Type 0 where
@@ -66,7 +58,7 @@ skips_operator (by_and_then o o' i j) = passed (passed ended)
 skips_operator (by_or_else o o' i j) = passed (passed ended)
 
 mutual
-  skips_expr : {x : Extent} {l : Level} {e : Expr} {ts rest : Tokens} → IsExpr x l e ts rest → Picks [] ts rest
+  pub skips_expr : {x : Extent} {l : Level} {e : Expr} {ts rest : Tokens} → IsExpr x l e ts rest → Picks [] ts rest
   skips_expr (a_numeral i) = passed ended
   skips_expr (a_name o n) = none_of (name_picked n)
   skips_expr (in_parentheses o i e j) = passed (joined (skips_expr e) (passed ended))
@@ -98,22 +90,78 @@ mutual
   skips_exprs (one_expr e) = skips_expr e
   skips_exprs (more_exprs es i e) = joined (skips_exprs es) (passed (skips_expr e))
 
+-- the first token of an expression
+mutual
+  pub expr_picked : {x : Extent} {l : Level} {e : Expr} {ts rest : Tokens} → IsExpr x l e ts rest → Picks (expr_pos e ∷ []) ts rest
+  expr_picked (a_numeral i) = taken ended
+  expr_picked (a_name o n) = name_picked n
+  expr_picked (in_parentheses o i e j) = taken (joined (skips_expr e) (passed ended))
+  expr_picked (a_primary e) = expr_picked e
+  expr_picked (an_abs o i e) = taken (skips_expr e)
+  expr_picked (a_not o i e) = taken (skips_expr e)
+  expr_picked (a_factor e) = expr_picked e
+  expr_picked (a_product o a i b) = with_rest (expr_picked a) (passed (skips_expr b))
+  expr_picked (a_term e) = expr_picked e
+  expr_picked (a_signed_term o i e) = taken (skips_expr e)
+  expr_picked (a_first_term e) = expr_picked e
+  expr_picked (a_sum o a i b) = with_rest (expr_picked a) (passed (skips_expr b))
+  expr_picked (a_simple e) = expr_picked e
+  expr_picked (a_relation o a i b) = with_rest (expr_picked a) (passed (skips_expr b))
+  expr_picked (a_single e) = expr_picked e
+  expr_picked (a_chain c) = chain_picked c
+
+  chain_picked : {x : Extent} {op : LogicalOperator} {e : Expr} {ts rest : Tokens} → IsChain x op e ts rest → Picks (expr_pos e ∷ []) ts rest
+  chain_picked (a_pair a j b) = with_rest (expr_picked a) (joined (skips_operator j) (skips_expr b))
+  chain_picked (a_longer a j b) = with_rest (chain_picked a) (joined (skips_operator j) (skips_expr b))
+
+-- a sign is not `not`
+never_not : (s : Symbol) → sign_of s ≡ Some operator.Not → ⊥
+never_not symbol.Plus h = cc
+never_not symbol.Minus h = cc
+never_not s h = cc
+
+signed_place : (s : Symbol) (op : UnaryOperator) (p : Pos) (e : Expr) → sign_of s ≡ Some op → p ≡ condition_place (unary p op e)
+signed_place s operator.Plus p e h = refl
+signed_place s operator.Minus p e h = refl
+signed_place s operator.Abs p e h = refl
+signed_place s operator.Not p e h = absurd (never_not s h)
+
+-- the first token of its condition
+pub condition_picked : {x : Extent} {l : Level} {e : Expr} {ts rest : Tokens} → IsExpr x l e ts rest → Picks (condition_place e ∷ []) ts rest
+condition_picked (a_numeral i) = taken ended
+condition_picked (a_name o n) = name_picked n
+condition_picked (in_parentheses o i e j) = passed (with_rest (condition_picked e) (passed ended))
+condition_picked (a_primary e) = condition_picked e
+condition_picked (an_abs o i e) = taken (skips_expr e)
+condition_picked (a_not o i e) = passed (condition_picked e)
+condition_picked (a_factor e) = condition_picked e
+condition_picked (a_product o a i b) = with_rest (expr_picked a) (passed (skips_expr b))
+condition_picked (a_term e) = condition_picked e
+condition_picked (a_signed_term {t = t} {op = op} {e = e} o i d) = same_places (ap (λ p. p ∷ []) (signed_place (symbol_of t.lexeme) op t.pos e i)) (taken (skips_expr d))
+condition_picked (a_first_term e) = condition_picked e
+condition_picked (a_sum o a i b) = with_rest (expr_picked a) (passed (skips_expr b))
+condition_picked (a_simple e) = condition_picked e
+condition_picked (a_relation o a i b) = with_rest (expr_picked a) (passed (skips_expr b))
+condition_picked (a_single e) = condition_picked e
+condition_picked (a_chain (a_pair a j b)) = with_rest (expr_picked a) (joined (skips_operator j) (skips_expr b))
+condition_picked (a_chain (a_longer a j b)) = with_rest (chain_picked a) (joined (skips_operator j) (skips_expr b))
+
 -- no token up to an end
-skipped : {ts rest : Tokens} → Suffix rest ts → Picks [] ts rest
+pub skipped : {ts rest : Tokens} → Suffix rest ts → Picks [] ts rest
 skipped all = ended
 skipped (after s) = passed (skipped s)
 
-skips_word : {s : Symbol} {ts rest : Tokens} → Word s ts rest → Picks [] ts rest
+pub skips_word : {s : Symbol} {ts rest : Tokens} → Word s ts rest → Picks [] ts rest
 skips_word (word i) = passed ended
 
-skips_name : {i : Identifier} {ts rest : Tokens} → Named i ts rest → Picks [] ts rest
+pub skips_name : {i : Identifier} {ts rest : Tokens} → Named i ts rest → Picks [] ts rest
 skips_name (name i) = passed ended
 
-skips_identifiers : {is : List Identifier} {ts rest : Tokens} → AreIdentifiers is ts rest → Picks [] ts rest
+pub skips_identifiers : {is : List Identifier} {ts rest : Tokens} → AreIdentifiers is ts rest → Picks [] ts rest
 skips_identifiers (one_identifier i) = passed ended
 skips_identifiers (more_identifiers is i j) = joined (skips_identifiers is) (passed (passed ended))
 
-skips_initial : {x : Extent} {i : Initial} {ts rest : Tokens} → IsInitial x i ts rest → Picks [] ts rest
+pub skips_initial : {x : Extent} {i : Initial} {ts rest : Tokens} → IsInitial x i ts rest → Picks [] ts rest
 skips_initial (a_value e) = skips_expr e
 skips_initial (an_aggregate o i j k l m) = passed (passed (passed (joined (skips_initial l) (passed ended))))
 
@@ -133,7 +181,7 @@ skips_constraint (a_constraint o i (low_and_high a j b)) = passed (joined (skips
 skips_indication : {x : Extent} {s : SubtypeIndication} {ts rest : Tokens} → IsIndication x s ts rest → Picks [] ts rest
 skips_indication (an_indication n c) = joined (none_of (name_picked n)) (skips_constraint c)
 
-declaration_picked : {x : Extent} {d : Declaration} {ts rest : Tokens} → IsDeclaration x d ts rest → Picks (kind_places d.pos d.kind) ts rest
+pub declaration_picked : {x : Extent} {d : Declaration} {ts rest : Tokens} → IsDeclaration x d ts rest → Picks (kind_places d.pos d.kind) ts rest
 declaration_picked {x} (a_type o i j k d l) = skipped (declaration_suffix x (a_type o i j k d l))
 declaration_picked {x} (a_subtype o i j k d l) = skipped (declaration_suffix x (a_subtype o i j k d l))
 declaration_picked {x} (an_object o is i k s no_initial j) = skipped (declaration_suffix x (an_object o is i k s no_initial j))
@@ -142,81 +190,9 @@ declaration_picked (an_object o is i k s (an_initial b v) j) =
 declaration_picked {x} (an_exception o is i j k) = skipped (declaration_suffix x (an_exception o is i j k))
 declaration_picked {x} (an_exemption d) = skipped (declaration_suffix x (an_exemption d))
 
-declarations_last : (ds : List Declaration) (d : Declaration) → declaration_places (ds ++ d ∷ []) ≡ declaration_places ds ++ kind_places d.pos d.kind
-declarations_last [] d = append-nil (kind_places d.pos d.kind)
-declarations_last (e ∷ ds) d = ap (λ ps. kind_places e.pos e.kind ++ ps) (declarations_last ds d) ∙ sym (append_assoc (kind_places e.pos e.kind) (declaration_places ds) (kind_places d.pos d.kind))
+skips_bounds : {x : Extent} {b : Bounds} {ts rest : Tokens} → AreBounds x b ts rest → Picks [] ts rest
+skips_bounds (low_and_high a j b) = joined (skips_expr a) (passed (skips_expr b))
 
-declarations_picked : {x : Extent} {ds : List Declaration} {ts rest : Tokens} → AreDeclarations x ds ts rest → Picks (declaration_places ds) ts rest
-declarations_picked no_declarations = ended
-declarations_picked (more_declarations {d = d} {ds = ds} l e) = same_places (sym (declarations_last ds d)) (joined (declarations_picked l) (declaration_picked e))
-
--- statements
-skips_result : {x : Extent} {e : Option Expr} {ts rest : Tokens} → HasResult x e ts rest → Picks [] ts rest
-skips_result no_result = ended
-skips_result (a_result o d) = skips_expr d
-
-statement_picked : {x : Extent} {s : Statement} {ts rest : Tokens} → IsStatement x s ts rest → Picks (statement_places s) ts rest
-statement_picked (a_null i w) = taken (skips_word w)
-statement_picked (a_return i d w) = taken (joined (skips_result d) (skips_word w))
-statement_picked (a_call n w) = with_rest (name_picked n) (skips_word w)
-statement_picked (an_assignment o n a i b) = with_rest (name_picked n) (joined (skips_word a) (joined (skips_initial i) (skips_word b)))
-statement_picked {x} (an_exempting_statement d) = skipped (statement_suffix x (an_exempting_statement d))
-statement_picked {x} (an_if o i b l e c) = skipped (statement_suffix x (an_if o i b l e c))
-statement_picked {x} (a_case o i d w l c) = skipped (statement_suffix x (a_case o i d w l c))
-statement_picked {x} (an_endless_loop o l) = skipped (statement_suffix x (an_endless_loop o l))
-statement_picked {x} (a_while o i d l) = skipped (statement_suffix x (a_while o i d l))
-statement_picked {x} (a_for o i n w d r l) = skipped (statement_suffix x (a_for o i n w d r l))
-statement_picked {x} (an_exit o i d w) = skipped (statement_suffix x (an_exit o i d w))
-statement_picked {x} (a_raise o i d w) = skipped (statement_suffix x (a_raise o i d w))
-statement_picked {x} (a_block o i h a b) = skipped (statement_suffix x (a_block o i h a b))
-statement_picked {x} (a_declaring_block o i d w h a b) = skipped (statement_suffix x (a_declaring_block o i d w h a b))
-
-places_last : (ss : List Statement) (s : Statement) → all_places (statements_of (ss ++ s ∷ [])) ≡ all_places (statements_of ss) ++ statement_places s
-places_last [] s = append-nil (statement_places s)
-places_last (r ∷ ss) s = ap (λ ps. statement_places r ++ ps) (places_last ss s) ∙ sym (append_assoc (statement_places r) (all_places (statements_of ss)) (statement_places s))
-
-pub statements_picked : {x : Extent} {ss : List Statement} {ts rest : Tokens} → AreStatements x ss ts rest → Picks (all_places (statements_of ss)) ts rest
-statements_picked (one_statement {s = s} d) = same_places (sym (append-nil (statement_places s))) (statement_picked d)
-statements_picked (more_statements {s = s} {ss = ss} ds d) = same_places (sym (places_last ss s)) (joined (statements_picked ds) (statement_picked d))
-
--- units
-skips_with : {w : WithClause} {ts rest : Tokens} → IsWith w ts rest → Picks [] ts rest
-skips_with (a_with v is w) = joined (skips_word v) (joined (skips_identifiers is) (skips_word w))
-
-skips_withs : {ws : List WithClause} {ts rest : Tokens} → AreWiths ws ts rest → Picks [] ts rest
-skips_withs no_withs = ended
-skips_withs (more_withs ws w) = joined (skips_withs ws) (skips_with w)
-
-skips_end_name : {n : Option Identifier} {ts rest : Tokens} → IsEndName n ts rest → Picks [] ts rest
-skips_end_name no_end_name = ended
-skips_end_name (an_end_name i) = skips_name i
-
-skips_end : {n : Option Identifier} {ts rest : Tokens} → IsEnd n ts rest → Picks [] ts rest
-skips_end (an_end a n b) = joined (skips_word a) (joined (skips_end_name n) (skips_word b))
-
-body_picked : {x : Extent} {b : SubprogramBody} {ts rest : Tokens} → IsBody x b ts rest → Picks (declaration_places b.declarations ++ all_places (statements_in b.statements)) ts rest
-body_picked {x} (a_body p w d v (a_sequence l h) e) =
-    joined (skipped (specification_suffix x p w)) (joined (skips_word w) (joined (declarations_picked d) (joined (skips_word v)
-    (with_rest (statements_picked l) (joined (skipped (handlers_suffix x h (end_word e).1)) (skips_end e))))))
-
-package_picked : {x : Extent} {fs : Option (List Formal)} {l : LibraryItem} {us ts vs rest : Tokens} → IsPackageRest x fs l us vs → Suffix rest ts → Picks (item_places l) ts rest
-package_picked (a_package_rest n w l e) s = skipped s
-
-item_picked : {x : Extent} {l : LibraryItem} {ts rest : Tokens} → IsItem x l ts rest → Picks (item_places l) ts rest
-item_picked {x} (a_generic o w fs p d) = package_picked d (item_suffix x (a_generic o w fs p d))
-item_picked {x} (a_package o w d) = package_picked d (item_suffix x (a_package o w d))
-item_picked {x} (a_package_body o p b n w l e) = skipped (item_suffix x (a_package_body o p b n w l e))
-item_picked {x} (an_instance o g p n w k j l v) = skipped (item_suffix x (an_instance o g p n w k j l v))
-item_picked (a_subprogram b) = body_picked b
-
-unit_picked : {x : Extent} {u : LibraryUnit} {ts rest : Tokens} → IsUnit x u ts rest → Picks (item_places u.item) ts rest
-unit_picked (a_unit ws i) = joined (skips_withs ws) (item_picked i)
-
-pub places_joined : (us vs : List LibraryUnit) → places_of (us ++ vs) ≡ places_of us ++ places_of vs
-places_joined [] vs = refl
-places_joined (u ∷ us) vs = ap (λ ps. item_places u.item ++ ps) (places_joined us vs) ∙ sym (append_assoc (item_places u.item) (places_of us) (places_of vs))
-
-pub units_picked : {x : Extent} {us : List LibraryUnit} {ts rest : Tokens} → AreUnits x us ts rest → Picks (places_of us) ts rest
-units_picked (one_unit {u = u} d) = same_places (sym (append-nil (item_places u.item))) (unit_picked d)
-units_picked (more_units {u = u} {units = us} o ds d) =
-    same_places (sym (places_joined us (u ∷ []) ∙ ap (λ ps. places_of us ++ ps) (append-nil (item_places u.item)))) (joined (units_picked ds) (unit_picked d))
+pub skips_range : {x : Extent} {r : DiscreteRange} {ts rest : Tokens} → IsRange x r ts rest → Picks [] ts rest
+skips_range (a_mark o n) = none_of (name_picked n)
+skips_range (a_range o b) = skips_bounds b

@@ -1,4 +1,4 @@
--- The statements of files stand in them.
+-- The statements, decisions and conditions of files stand in them.
 use Rattle.std.proofs.Common.{ℕ, ◌+◌, List, [], ◌∷◌, ◌++◌, sym, subst, arith}
 use Rattle.std.specs.List.{AllByRecursion}
 use Rattle.std.proofs.lemmas.List.Elements.{recursion_from_All}
@@ -7,12 +7,16 @@ use Rattle.cov_base.specs.declared.position.Pos.{Pos}
 use Rattle.ada_lexer.specs.declared.token.Token.{Token}
 use Rattle.ada_lexer.specs.Tokens.{IsTokenOf}
 use Rattle.ada_syntax.specs.declared.unit.Unit.{Unit as LibraryUnit}
-use Rattle.ada_types.specs.Typing.{places_of}
+use Rattle.ada_syntax.specs.Tree.{expr_pos}
+use Rattle.ada_places.specs.Places.{places_of, decision_places, condition_place, condition_places}
 use Rattle.expression_parser.specs.declared.extent.Extent.{Extent}
 use Rattle.expression_parser.specs.Reading.{Tokens}
 use Rattle.parsed_programs.specs.Parsed.{AreOfFiles, no_file, and_file}
 use Rattle.parsed_programs.specs.Places.{IsInFiles, AreInFiles}
-use Rattle.parsed_programs.proofs.Picks.{Picks, ended, taken, passed, units_picked, places_joined}
+use Rattle.parsed_programs.proofs.Files.{obligations_picked, decisions_picked, conditions_picked}
+use Rattle.parsed_programs.proofs.Gathered.{Gathering, of_units, units_same, units_decided, units_joined}
+use Rattle.parsed_programs.proofs.Nested.{IsPicked, units_picked}
+use Rattle.parsed_programs.proofs.Picks.{Picks, ended, taken, passed}
 
 picked_within : (files : ℕ) {ps : List Pos} {ts rest : Tokens} → Picks ps ts rest → Everywhere (λ (t : Token). IsInFiles files t.pos) ts → AreInFiles files ps
 picked_within files ended h = tt
@@ -31,12 +35,18 @@ more_files : (n : ℕ) (ps : List Pos) → AreInFiles n ps → AreInFiles (n + 1
 more_files n [] h = tt
 more_files n (p ∷ ps) h = let less = h.0.0 in ((omega (arith, less), h.0.1, h.0.2), more_files n ps h.1)
 
-within_of : {x : Extent} {n : ℕ} {us : List LibraryUnit} → AreOfFiles x n us → AreInFiles n (places_of us)
-within_of no_file = tt
-within_of (and_file {n = n} {units = us} {more = vs} {source = source} {tokens = tokens} before lexed parsed) =
-    subst (AreInFiles (n + 1)) (sym (places_joined us vs))
-    (joined_within (n + 1) (places_of us) (places_of vs) (more_files n (places_of us) (within_of before))
-    (picked_within (n + 1) (units_picked parsed) (tokens_within n source tokens (recursion_from_All (IsTokenOf n source) tokens lexed.each))))
+within_of : {g : Gathering} → IsPicked g → {x : Extent} {n : ℕ} {us : List LibraryUnit} → AreOfFiles x n us → AreInFiles n (of_units g us)
+within_of k no_file = tt
+within_of {g} k (and_file {n = n} {units = us} {more = vs} {source = source} {tokens = tokens} before lexed parsed) =
+    subst (AreInFiles (n + 1)) (sym (units_joined g us vs))
+    (joined_within (n + 1) (of_units g us) (of_units g vs) (more_files n (of_units g us) (within_of k before))
+    (picked_within (n + 1) (units_picked k parsed) (tokens_within n source tokens (recursion_from_All (IsTokenOf n source) tokens lexed.each))))
 
-pub files_within : (x : Extent) (n : ℕ) (us : List LibraryUnit) → AreOfFiles x n us → AreInFiles n (places_of us)
-files_within x n us h = within_of h
+pub statements_within : (x : Extent) (n : ℕ) (us : List LibraryUnit) → AreOfFiles x n us → AreInFiles n (places_of us)
+statements_within x n us h = subst (AreInFiles n) (units_same us) (within_of obligations_picked h)
+
+pub decisions_within : (x : Extent) (n : ℕ) (us : List LibraryUnit) → AreOfFiles x n us → AreInFiles n (decision_places us)
+decisions_within x n us h = subst (AreInFiles n) (units_decided expr_pos us) (within_of decisions_picked h)
+
+pub conditions_within : (x : Extent) (n : ℕ) (us : List LibraryUnit) → AreOfFiles x n us → AreInFiles n (condition_places us)
+conditions_within x n us h = subst (AreInFiles n) (units_decided condition_place us) (within_of conditions_picked h)

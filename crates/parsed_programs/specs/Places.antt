@@ -1,4 +1,4 @@
--- Where statements stand in files.
+-- Where statements, decisions and conditions stand in files.
 use Rattle.std.specs.Prelude.{ℕ, ◌<◌, List}
 use Rattle.cov_base.specs.declared.position.Pos.{Pos}
 use Rattle.decision_meaning.specs.Pair.{Everywhere}

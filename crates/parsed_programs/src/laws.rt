@@ -1,12 +1,12 @@
-//! Where the statements of parsed files stand, and that no sources are both parsed and refused. The
+//! Where the statements and decisions of parsed files stand, and that no sources are both parsed and refused. The
 //! functions here do nothing: they carry laws of the definitions as their contracts.
 
 ghost use Rattle.std.specs.Prelude.{ℕ, List};
 ghost use Rattle.ada_syntax.specs.declared.unit.Unit.{Unit as LibraryUnit};
-ghost use Rattle.ada_types.specs.Typing.{places_of};
+ghost use Rattle.ada_places.specs.Places.{condition_places, decision_places, places_of};
 ghost use Rattle.cov_base.specs.declared.obligations.SourceFile.{SourceFile};
 ghost use Rattle.expression_parser.specs.declared.extent.Extent.{Extent};
-ghost use Rattle.legal_programs.specs.Rising.{StatementsRise};
+ghost use Rattle.legal_programs.specs.Rising.{DecisionsRise, StatementsRise};
 ghost use Rattle.parsed_programs.specs.Parsed.{AreOfFiles};
 ghost use Rattle.parsed_programs.specs.Places.{AreInFiles};
 ghost use Rattle.parsed_programs.specs.Sources.{HaveNoUnits, HaveUnits};
@@ -21,6 +21,18 @@ pub fn statements_of_files_rise()
 /// The statements of such files stand in them, at lines and columns that count from 1.
 pub fn statements_of_files_stand_in_them()
     ensures { (extent : Extent) (files : ℕ) (units : List LibraryUnit) → AreOfFiles extent files units → AreInFiles files (places_of units) }
+{}
+
+/// The decisions of such files stand one after the other.
+pub fn decisions_of_files_rise()
+    ensures { (extent : Extent) (files : ℕ) (units : List LibraryUnit) → AreOfFiles extent files units → DecisionsRise units }
+{}
+
+/// The decisions of such files, and the conditions of these, stand in them, at lines and columns that
+/// count from 1.
+pub fn decisions_of_files_stand_in_them()
+    ensures decisions { (extent : Extent) (files : ℕ) (units : List LibraryUnit) → AreOfFiles extent files units → AreInFiles files (decision_places units) }
+    ensures conditions { (extent : Extent) (files : ℕ) (units : List LibraryUnit) → AreOfFiles extent files units → AreInFiles files (condition_places units) }
 {}
 
 /// Sources that are refused have no units.

@@ -1,8 +1,8 @@
 //! The library units of source files. Each step looks at all files before the next begins.
 
 ghost use Rattle.std.specs.Prelude.{◌≡◌, ◌^◌, ◌<◌, List, [], ◌∷◌, None, Ok, IfOk, IfErr, length};
-ghost use Rattle.ada_types.specs.Typing.{places_of};
-ghost use Rattle.legal_programs.specs.Rising.{StatementsRise};
+ghost use Rattle.ada_places.specs.Places.{condition_places, decision_places, places_of};
+ghost use Rattle.legal_programs.specs.Rising.{DecisionsRise, StatementsRise};
 ghost use Rattle.ada_parser.specs.Grammar.{IsFile};
 ghost use Rattle.ada_parser.specs.Refusal.{IsOnlyFile};
 ghost use Rattle.parsed_programs.specs.Parsed.{AreTokensOfFiles};
@@ -34,7 +34,7 @@ use std::alloc::Global;
 const MAX_SOURCE: usize = 1_048_576;
 
 /// How much of the language is open.
-const OPEN_EXTENT: Extent = Extent::Objects;
+const OPEN_EXTENT: Extent = Extent::Decisions;
 
 /// Where each file begins.
 const BEGINNING: Pos = Pos {
@@ -51,6 +51,9 @@ pub fn units_of(alloc: Global, files: &[SourceFile]) -> Result<Vec<Unit>, Failur
     ensures only_units { IfOk result (λ units. HaveOnlyUnits files.now units.items) }
     ensures rising { IfOk result (λ units. StatementsRise units.items) }
     ensures in_files { IfOk result (λ units. AreInFiles (length files.now) (places_of units.items)) }
+    ensures decisions_rising { IfOk result (λ units. DecisionsRise units.items) }
+    ensures decisions_in_files { IfOk result (λ units. AreInFiles (length files.now) (decision_places units.items)) }
+    ensures conditions_in_files { IfOk result (λ units. AreInFiles (length files.now) (condition_places units.items)) }
     ensures refused { IfErr result (FailsFor files.now) }
 {
     let tokens = flat_tokens(alloc, files)?;

@@ -13,6 +13,22 @@ const ROUTINE: &str = "procedure R is\n   X : Integer := 1;\nbegin\n   X := X + 
 const WITHOUT_SEMICOLON: &str = "procedure R is\nbegin\n   null\nend R;\n";
 
 const WITHOUT_TOKEN: &str = "procedure R is\nbegin\n   null; #\nend R;\n";
+
+const DECISIONS: &str =
+    "procedure R is\n   X : Integer := 1;\nbegin\n   if not (X = 1) then\n      X := 2;\n   elsif X > 3 or X < 0 then\n      null;\n   else\n      return;\n   end if;\n   while X < 5 loop\n      exit when X = 4;\n      declare\n         Y : Integer := X;\n      begin\n         X := Y + 1;\n      end;\n   end loop;\nend R;\n";
+
+const AND_THEN: &str =
+    "procedure R is\nbegin\n   if True and then False then\n      null;\n   end if;\nend R;\n";
+
+const OR_ELSE: &str =
+    "procedure R is\nbegin\n   if True or else False then\n      null;\n   end if;\nend R;\n";
+
+const FOR: &str =
+    "procedure R is\nbegin\n   for I in 1 .. 2 loop\n      null;\n   end loop;\nend R;\n";
+
+const CASE: &str =
+    "procedure R is\nbegin\n   case 1 is\n      when 1 => null;\n   end case;\nend R;\n";
+
 /// 65 parentheses are open in the second line.
 const DEEP: &str = "R\n (((((((((((((((((((((((((((((((((((((((((((((((((((((((((((((((((\n";
 
@@ -80,6 +96,18 @@ fn the_first_fault_is_that_of_the_first_step(rt: HostRuntime) -> Result<(), Fail
         fault(alloc, &[DEEP, WITHOUT_TOKEN])?,
         fault_of(1, 3, 10, Why::Lexical)
     );
+    Ok(())
+}
+
+/// Of decisions those of one condition are read, and those of operators that evaluate both operands.
+#[test]
+fn forms_that_come_later_are_refused(rt: HostRuntime) -> Result<(), Fail> {
+    let alloc = rt.alloc();
+    assert_eq!(rt; fault(alloc, &[DECISIONS])?, None);
+    assert_eq!(rt; fault(alloc, &[AND_THEN])?, fault_of(0, 3, 16, Why::Syntax));
+    assert_eq!(rt; fault(alloc, &[OR_ELSE])?, fault_of(0, 3, 15, Why::Syntax));
+    assert_eq!(rt; fault(alloc, &[FOR])?, fault_of(0, 3, 4, Why::Syntax));
+    assert_eq!(rt; fault(alloc, &[CASE])?, fault_of(0, 3, 4, Why::Syntax));
     Ok(())
 }
 

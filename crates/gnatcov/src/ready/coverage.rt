@@ -6,14 +6,13 @@ ghost use Rattle.cov_io.specs.Outside.{Holds};
 ghost use Rattle.coverage_set.specs.Covered.{Has, HasRun};
 ghost use Rattle.gnatcov.specs.Content.{IsTraceFor, RefusesTrace, IsReport};
 ghost use Rattle.decision_map.specs.Fits.{fault_of};
-ghost use Rattle.gnatcov.specs.Covering.{Adds, IsBadFile, IsBadFit, IsReportOf};
+ghost use Rattle.gnatcov.specs.Covering.{Adds, HasPaths, IsBadFile, IsBadFit, IsReportOf};
 ghost use Rattle.gnatcov.specs.declared.status.Status.TheVariants.{TraceRefused};
 ghost use Rattle.gnatcov.specs.Failures.{history_status};
 ghost use Rattle.gnatcov.specs.Outcome.{Prepares};
 ghost use Rattle.gnatcov.specs.Reading.{AreRead, StopsAt, StopsAmong, UnlessMemory};
 ghost use Rattle.gnatcov.specs.Ready.{verdict_view};
 ghost use Rattle.object_format.specs.Checked.{IsSound};
-ghost use Rattle.object_format.specs.Read.{is_plain};
 ghost use Rattle.trace_format.specs.Checks.{IsClosed, trace_of};
 
 use crate::ready::{Ready, object_of, read_file};
@@ -168,7 +167,8 @@ fn reported<'a>(
     object: &Object,
     coverage: &Coverage<'_>,
 ) -> Result<Ready<'a>, Status>
-    requires { is_plain object.now ≡ true }
+    requires sound { IsSound object.now }
+    requires paths { HasPaths object.now coverage.now }
     ensures { IsReportOf level object.now coverage.now (verdict_view result) }
 {
     let text = report_of(alloc, level, annotate, object, coverage)?;
@@ -183,7 +183,8 @@ fn report_of(
     object: &Object,
     coverage: &Coverage<'_>,
 ) -> Result<Vec<u8>, AllocError>
-    requires { is_plain object.now ≡ true }
+    requires sound { IsSound object.now }
+    requires paths { HasPaths object.now coverage.now }
     ensures { IfOk result (λ text. IsReport level object.now (Has coverage.now) (HasRun coverage.now) text.items) }
 {
     let files = named_files(alloc, object.files.as_slice())?;

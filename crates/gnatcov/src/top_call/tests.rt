@@ -1,5 +1,6 @@
 //! Tests of the public call over files and a sink in memory.
 
+mod decisions;
 mod endings;
 mod refused_sources;
 mod rules;

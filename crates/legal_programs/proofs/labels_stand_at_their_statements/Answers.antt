@@ -1,4 +1,4 @@
-use Rattle.legal_programs.proofs.Programs.{labels_law, places_law}
+use Rattle.legal_programs.proofs.ListedLaws.{labels_law, places_law}
 use Rattle.legal_programs.proofs.labels_stand_at_their_statements.Goals as goal
 
 pub returns : goal.returns

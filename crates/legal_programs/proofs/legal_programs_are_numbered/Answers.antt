@@ -1,6 +1,12 @@
-use Rattle.legal_programs.proofs.Numbered.{numbered_law, stay_law, resolved_law}
-use Rattle.legal_programs.proofs.Objects.{declared_once_law}
+use Rattle.legal_programs.proofs.ListedLaws.{declared_once_law}
+use Rattle.legal_programs.proofs.Numbered.{numbered_law, stay_law, decisions_stay_law, resolved_law}
 use Rattle.legal_programs.proofs.legal_programs_are_numbered.Goals as goal
 
 pub returns : goal.returns
-returns c = record { numbered = numbered_law; in_order = stay_law; resolved = resolved_law; declared_once = declared_once_law }
+returns c = record {
+  numbered = numbered_law;
+  in_order = stay_law;
+  decisions_in_order = decisions_stay_law;
+  resolved = resolved_law;
+  declared_once = declared_once_law;
+}

@@ -404,6 +404,25 @@ pub(crate) static TWO_BRANCHES: [&[u8]; 10] = [
     b"\xc4\xd72.)OD`",
 ];
 
+/// An object with a decision of one condition, made by hand.
+pub(crate) static ONE_DECISION: [&[u8]; 15] = [
+    b"GCOB\x01\0\0\0\0\0\x01\0\x09\0\0\0\x13\0\0\0\x13\x05\0\0\x93\x08\x10\0s\0\0\0c\x04\x05\0\x13\0\0\0",
+    b"\x13\x05\0\0\x93\x080\0s\0\0\0",
+    b"\0\x10\x01\0\0\0\0\0",
+    b"\x01\0\0\0\x05\0\0\0d.adb\xac\xd4&-\xce\x08\xe0iu\x02d\xb8\x1d\xc7\x07\x89\xb4M\xa7W\x140|\x97\xe43\xcf",
+    b"\xbd\xda\xea\x84\xed",
+    b"\x01\0\0\0\0\0\0\0\0\0\0\0\0\0\0\0\0\0\0\0",
+    b"\x04\0\0\0\x10\0\0\0constraint_error\x0d\0\0\0program_erro",
+    b"r\x0d\0\0\0storage_error\x11\0\0\0test_io.end_error",
+    b"\x02\0\0\0\0\0\0\0\x03\0\0\0\x04\0\0\0\0\0\0\0\x04\0\0\0\x07\0\0\0",
+    b"\x01\0\0\0\0\0\0\0\0\0\0\0\x03\0\0\0\x07\0\0\0I\x01\x01\0\x03\0\0\0\x07\0\0\0",
+    b"\0\0\0\0",
+    b"\x02\0\0\0\0\0\x01\0\0\0\0\0\0\0\0\0\x14\0\x01\0\x01\0\0\0\0\0\0\0",
+    b"\x01\0\0\0\x10\0\x01\0\x02\0\0\0\0\0\0\0\0\0\0",
+    b"\xa8\x8b}\xb6w\xf4\xe4M\xe0;\x17\x05\x0d\xb2\xe9G\xf3\xfbvY\x88\x14\xb2\xe4",
+    b"R\xbbBN\x99\xbc\xc3\xd9",
+];
+
 /// An object with a region.
 pub(crate) static ONE_REGION: [&[u8]; 16] = [
     b"GCOB\x01\0\0\0\0\0\x01\0\x0d\0\0\0\x13\0\0\0\x13\x05\x10\0",

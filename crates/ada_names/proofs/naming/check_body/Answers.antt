@@ -1,32 +1,37 @@
-use Rattle.std.proofs.Common.{rules, ◌≡◌, [], ◌∷◌, subst, true}
+use Rattle.std.proofs.Common.{◌≡◌, [], ◌∷◌, ap, rules, ◌∙◌, subst, true}
 use Rattle.ada_syntax.specs.StatementView.{statements_of}
-use Rattle.ada_names.specs.Library.{regions_in, declarations_of_item}
-use Rattle.ada_names.specs.Naming.{inside, declarations_known, body_regions, after_all}
+use Rattle.ada_names.specs.Library.{declarations_of_item}
+use Rattle.ada_names.specs.Naming.{Surroundings, declarations_known, of_unit, of_body, after_all}
+use Rattle.ada_names.specs.ScopeView.{surroundings}
 use Rattle.ada_names.specs.Rules as rules_on
 use Rattle.ada_names.specs.Answer.{Refused, Passes}
 use Rattle.ada_names.proofs.UnitLaws.{body_by_declarations, body_passes}
 use Rattle.ada_names.proofs.naming.check_body.Goals as goal
 
-pub returns-in_err-local : goal.returns-in_err-local
-returns-in_err-local c =
+pub returns-in_err-objects : goal.returns-in_err-objects
+returns-in_err-objects c =
     let seen = c.args.seen.now in
-    let f = c.in_err-local.field-0.0 in
-    let one : Refused (rules_on.declarations (regions_in seen) [] (declarations_of_item c.args.item.now)) f =
-    subst (λ ds. Refused (rules_on.declarations (regions_in seen) [] ds) f) c.declarations_of.ensures c.in_err-local.ensures.refused in
-    let r = body_by_declarations seen c.args.item.now one in
+    let f = c.in_err-objects.field-0.0 in
+    let unit : surroundings seen c.open.new.self 0 ≡ of_unit seen = ap (λ q. surroundings seen q 0) (c.in_ok-open.ensures ∙ ap (λ q. [] ∷ q) c.new-locals.ensures) in
+    let one : Refused (rules_on.declarations (of_unit seen) c.declarations_of-declarations.result.now) f =
+    subst (λ (q : Surroundings). Refused (rules_on.declarations q c.declarations_of-declarations.result.now) f) unit c.in_err-objects.ensures.refused in
+    let r = body_by_declarations seen c.args.item.now (subst (λ ds. Refused (rules_on.declarations (of_unit seen) ds) f) c.declarations_of-declarations.ensures one) in
     search (rules, r)
 
 pub returns : goal.returns
 returns c =
     let seen = c.args.seen.now in
     let item = c.args.item.now in
-    let outer = regions_in seen in
+    let ds = c.declarations_of-declarations.result.now in
+    let ss = statements_of c.statements_of.result.now in
     let r = c.check_statements.result in
-    let known : declarations_known outer [] (declarations_of_item item) ≡ true = subst (λ ds. declarations_known outer [] ds ≡ true) c.declarations_of.ensures
-    c.in_ok-local.ensures.known in
-    let local : Passes (rules_on.sequence (inside outer c.in_ok-local.local []) (statements_of c.statements_of.result.now)) r =
-    subst (λ hidden. Passes (rules_on.sequence (hidden ∷ c.in_ok-local.local ∷ outer) (statements_of c.statements_of.result.now)) r) c.new-nothing.ensures c.check_statements.ensures in
-    let after : Passes (rules_on.sequence (inside outer (after_all [] c.declarations_of.result.now) []) (statements_of c.statements_of.result.now)) r =
-    subst (λ q. Passes (rules_on.sequence (inside outer q []) (statements_of c.statements_of.result.now)) r) c.in_ok-local.ensures.after local in
-    body_passes seen item r known (subst (λ ss. Passes (rules_on.sequence (body_regions seen item) ss) r) c.statements_of.ensures
-    (subst (λ ds. Passes (rules_on.sequence (inside outer (after_all [] ds) []) (statements_of c.statements_of.result.now)) r) c.declarations_of.ensures after))
+    let unit : surroundings seen c.open.new.self 0 ≡ of_unit seen = ap (λ q. surroundings seen q 0) (c.in_ok-open.ensures ∙ ap (λ q. [] ∷ q) c.new-locals.ensures) in
+    let here : declarations_known (of_unit seen) ds ≡ true =
+    subst (λ (q : Surroundings). declarations_known q ds ≡ true) unit c.in_ok-objects.ensures.known in
+    let known : declarations_known (of_unit seen) (declarations_of_item item) ≡ true =
+    subst (λ xs. declarations_known (of_unit seen) xs ≡ true) c.declarations_of-declarations.ensures here in
+    let behind : surroundings seen c.check_declarations.new.locals c.in_ok-objects.objects ≡ of_body seen item =
+    c.in_ok-objects.ensures.after ∙ (ap (λ (q : Surroundings). after_all q ds) unit ∙ ap (λ xs. after_all (of_unit seen) xs) c.declarations_of-declarations.ensures) in
+    let body : Passes (rules_on.sequence (of_body seen item) ss) r =
+    subst (λ (q : Surroundings). Passes (rules_on.sequence q ss) r) behind c.check_statements.ensures.checked in
+    body_passes seen item r known (subst (λ xs. Passes (rules_on.sequence (of_body seen item) xs) r) c.statements_of.ensures body)

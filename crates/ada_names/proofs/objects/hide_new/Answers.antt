@@ -1,5 +1,6 @@
 use Rattle.std.proofs.Common.{◌+◌, ◌∙◌, ap, arith, drop, rules, subst, sym}
-use Rattle.ada_names.specs.Names.{hide_all, declare_object}
+use Rattle.ada_names.specs.Names.{hide, hide_all}
+use Rattle.ada_names.specs.ScopeView.{innermost}
 use Rattle.ada_names.specs.NameCode.{Joins}
 use Rattle.ada_names.proofs.DeclarationLaws.{fresh_more, new_first, new_later}
 use Rattle.ada_names.proofs.HiddenNames.{hidden_more, new_in_both, joins_more, declared_before, hidden_before}
@@ -9,14 +10,14 @@ pub returns-in_err-check_new-clause-refused : goal.returns-in_err-check_new-clau
 returns-in_err-check_new-clause-refused c =
     let i = c.name-item.result in
     let r = c.loop-name.invariant.refused c.in_err-check_new.field-0.0 (λ region joins. new_first region c.args.names.now c.loop-name.name-index i
-    (omega arith) c.name-item.is (declared_before region c.args.local.now c.loop-name.hidden i joins c.in_err-check_new.ensures)) in
+    (omega arith) c.name-item.is (declared_before region (innermost c.args.locals.now) c.loop-name.hidden i joins c.in_err-check_new.ensures)) in
     search (rules, r)
 
 pub returns-in_err-check_new-2-clause-refused : goal.returns-in_err-check_new-2-clause-refused
 returns-in_err-check_new-2-clause-refused c =
     let i = c.name-item.result in
     let r = c.loop-name.invariant.refused c.in_err-check_new-2.field-0.0 (λ region joins. new_first region c.args.names.now c.loop-name.name-index i
-    (omega arith) c.name-item.is (hidden_before region c.args.local.now c.loop-name.hidden i joins c.in_err-check_new-2.ensures)) in
+    (omega arith) c.name-item.is (hidden_before region (innermost c.args.locals.now) c.loop-name.hidden i joins c.in_err-check_new-2.ensures)) in
     search (rules, r)
 
 pub loop-name-preserved : goal.loop-name-preserved
@@ -24,7 +25,7 @@ loop-name-preserved c =
     let is = c.args.names.now in
     let n = c.loop-name.name-index in
     let i = c.name-item.result in
-    let local = c.args.local.now in
+    let local = innermost c.args.locals.now in
     let hidden = c.loop-name.hidden in
     let in_local = c.in_ok-check_new.ensures in
     let in_hidden = c.in_ok-check_new-2.ensures in
@@ -32,8 +33,8 @@ loop-name-preserved c =
     record {
       fresh = λ h. c.loop-name.invariant.fresh (λ region joins.
           sym (fresh_more region is n i (omega arith) c.name-item.is (new_in_both region local hidden i joins in_local in_hidden))
-          ∙ h (declare_object region i) (subst (λ q. Joins (declare_object region i) local q) (sym next) (joins_more region local hidden i joins in_local in_hidden)));
+          ∙ h (hide region i) (subst (λ q. Joins (hide region i) local q) (sym next) (joins_more region local hidden i joins in_local in_hidden)));
       hidden = ap (λ q. hide_all q (drop (n + 1) is)) next ∙ (hidden_more hidden is n i (omega arith) c.name-item.is ∙ c.loop-name.invariant.hidden);
       refused = λ f h. c.loop-name.invariant.refused f (λ region joins. new_later region is n i (omega arith) c.name-item.is
-          (h (declare_object region i) (subst (λ q. Joins (declare_object region i) local q) (sym next) (joins_more region local hidden i joins in_local in_hidden))));
+          (h (hide region i) (subst (λ q. Joins (hide region i) local q) (sym next) (joins_more region local hidden i joins in_local in_hidden))));
     }

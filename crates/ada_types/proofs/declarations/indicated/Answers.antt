@@ -3,13 +3,14 @@ use Rattle.std.specs.Option.{option_and_then}
 use Rattle.ada_names.specs.ScopeView.{regions_of}
 use Rattle.ada_types.specs.Typing as spec
 use Rattle.ada_types.specs.Rules as rule
-use Rattle.ada_types.specs.Answer.{Refused, mistyped}
-use Rattle.ada_types.proofs.Blame.{up, shows_or}
+use Rattle.ada_expressions.specs.Answer.{mistyped}
+use Rattle.ada_types.specs.Answer.{Refused}
+use Rattle.ada_types.proofs.Blame.{up, in_phrase, shows_or}
 use Rattle.ada_types.proofs.declarations.indicated.Goals as goal
 
 pub returns-in_err-mark : goal.returns-in_err-mark
 returns-in_err-mark c =
-    let r : Refused (rule.indication (regions_of c.args.scope.now) c.args.objects.now c.args.indication.now) c.in_err-mark.field-0.0 = up rule.here c.in_err-mark.ensures in
+    let r : Refused (rule.indication (regions_of c.args.scope.now) c.args.objects.now c.args.indication.now) c.in_err-mark.field-0.0 = up rule.here (in_phrase c.in_err-mark.ensures) in
     search (rules, r)
 
 pub returns : goal.returns

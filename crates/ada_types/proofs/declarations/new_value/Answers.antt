@@ -4,13 +4,14 @@ use Rattle.ada_tree.specs.View.{value_of}
 use Rattle.ada_names.specs.ScopeView.{regions_of}
 use Rattle.ada_types.specs.Typing as spec
 use Rattle.ada_types.specs.Rules as rule
-use Rattle.ada_types.specs.Answer.{Refused, mistyped}
-use Rattle.ada_types.proofs.Blame.{up, shows_viewed}
+use Rattle.ada_expressions.specs.Answer.{mistyped}
+use Rattle.ada_types.specs.Answer.{Refused}
+use Rattle.ada_types.proofs.Blame.{up, in_phrase, shows_viewed}
 use Rattle.ada_types.proofs.declarations.new_value.Goals as goal
 
 pub returns-in_err-value : goal.returns-in_err-value
 returns-in_err-value c =
-    let r : Refused (rule.value (regions_of c.args.scope.now) c.args.objects.now c.args.subtype c.args.initial.now) c.in_err-value.field-0.0 = up rule.here c.in_err-value.ensures in
+    let r : Refused (rule.value (regions_of c.args.scope.now) c.args.objects.now c.args.subtype c.args.initial.now) c.in_err-value.field-0.0 = up rule.here (in_phrase c.in_err-value.ensures) in
     search (rules, r)
 
 pub returns : goal.returns

@@ -1,46 +1,23 @@
-use Rattle.std.proofs.Common.{◌≡◌, rules, Some, false, sym, ◌∙◌, subst}
-use Rattle.ada_names.specs.Names.{Region}
-use Rattle.ada_names.specs.Library as library_spec
+use Rattle.std.proofs.Common.{◌≡◌, rules, Some, sym, ◌∙◌}
 use Rattle.ada_names.specs.Library.{declarations_of_item, statements_of_item}
-use Rattle.ada_types.specs.Typing as spec
-use Rattle.ada_types.specs.Typing.{typed_declarations, typed_statements}
-use Rattle.ada_types.specs.Rules as rule
-use Rattle.ada_types.specs.TypingCode.{context, start, elaborated}
-use Rattle.ada_types.specs.Answer.{Refused}
+use Rattle.ada_types.specs.Typing.{context_of}
+use Rattle.ada_types.specs.Rules.{parts_of_block}
+use Rattle.ada_types.specs.TypingCode.{SomeRefused, typed_parts}
+use Rattle.ada_types.proofs.BodyLaws.{moved}
 use Rattle.ada_types.proofs.UnitLaws as law
 use Rattle.ada_types.proofs.units.typed_unit.Goals as goal
 
-pub returns-in_err-declared : goal.returns-in_err-declared
-returns-in_err-declared c =
+pub returns-in_err-body : goal.returns-in_err-body
+returns-in_err-body c =
     let library = c.args.library.now in
     let places = c.args.places.now in
     let n = c.args.number in
     let u = c.args.unit.now in
-    let f = c.in_err-declared.field-0.0 in
-    let there : Refused (rule.declarations (start c.in_ok-seen.seen places) (declarations_of_item u.item)) f = subst
-    (λ ds. Refused (rule.declarations (start c.in_ok-seen.seen places) ds) f) c.declarations_of.ensures c.in_err-declared.ensures in
-    let r = law.in_declarations library places n u (subst (λ (s : Region). Refused
-    (rule.declarations (start s places) (declarations_of_item u.item)) f) c.in_ok-seen.ensures there) in
-    search (rules, r)
-
-pub returns-in_err-statements : goal.returns-in_err-statements
-returns-in_err-statements c =
-    let library = c.args.library.now in
-    let places = c.args.places.now in
-    let n = c.args.number in
-    let u = c.args.unit.now in
-    let ds = declarations_of_item u.item in
-    let ss = statements_of_item u.item in
-    let d = c.in_ok-declared.declared in
-    let seen : Region = c.in_ok-seen.seen in
-    let f = c.in_err-statements.field-0.0 in
-    let own : Region = library_spec.seen library n u in
-    let declared : typed_declarations (start own places) ds ≡ Some (elaborated own places d) = subst
-    (λ (s : Region). typed_declarations (start s places) ds ≡ Some (elaborated s places d)) c.in_ok-seen.ensures
-    (subst (λ xs. typed_declarations (start seen places) xs ≡ Some (elaborated seen places d)) c.declarations_of.ensures c.in_ok-declared.ensures) in
-    let stated : Refused (rule.sequence (context own places d) ss) f = subst (λ (s : Region). Refused (rule.sequence (context s places d) ss) f) c.in_ok-seen.ensures
-    (subst (λ xs. Refused (rule.sequence (context seen places d) xs) f) c.statements_of.ensures c.in_err-statements.ensures) in
-    let r = law.in_statements library places n u (elaborated own places d) declared stated in
+    let f = c.in_err-body.field-0.0 in
+    let start = law.start_is library places n u c.new.result c.in_ok-seen.seen c.new-2.result.items c.new.ensures c.in_ok-seen.ensures c.new-2.ensures.items in
+    let one : SomeRefused (parts_of_block (context_of library places n u) (declarations_of_item u.item) (statements_of_item u.item)) f =
+    moved (λ k ds ss. SomeRefused (parts_of_block k ds ss) f) start c.declarations_of-declarations.ensures c.statements_of-statements.ensures c.in_err-body.ensures in
+    let r = law.in_body library places n u one in
     search (rules, r)
 
 pub returns-then-not-is_plain : goal.returns-then-not-is_plain
@@ -49,16 +26,20 @@ returns-then-not-is_plain c =
     let places = c.args.places.now in
     let n = c.args.number in
     let u = c.args.unit.now in
-    let ds = declarations_of_item u.item in
-    let ss = statements_of_item u.item in
-    let d = c.in_ok-declared.declared in
-    let xs = c.in_ok-statements.statements.items in
-    let seen : Region = c.in_ok-seen.seen in
-    let own : Region = library_spec.seen library n u in
-    let declared : typed_declarations (start own places) ds ≡ Some (elaborated own places d) = subst
-    (λ (s : Region). typed_declarations (start s places) ds ≡ Some (elaborated s places d)) c.in_ok-seen.ensures
-    (subst (λ ys. typed_declarations (start seen places) ys ≡ Some (elaborated seen places d)) c.declarations_of.ensures c.in_ok-declared.ensures) in
-    let stated : typed_statements (context own places d) ss ≡ Some xs = subst (λ (s : Region). typed_statements (context s places d) ss ≡ Some xs) c.in_ok-seen.ensures
-    (subst (λ ys. typed_statements (context seen places d) ys ≡ Some xs) c.statements_of.ensures c.in_ok-statements.ensures) in
-    let crooked : spec.is_plain_item u.item ≡ false = sym c.is_plain.ensures ∙ search rules in
-    law.not_plain library places n u (elaborated own places d) declared xs stated crooked c.mistyped.ensures
+    let b = c.in_ok-body.body in
+    let start = law.start_is library places n u c.new.result c.in_ok-seen.seen c.new-2.result.items c.new.ensures c.in_ok-seen.ensures c.new-2.ensures.items in
+    let typed : typed_parts (context_of library places n u) (declarations_of_item u.item) (statements_of_item u.item) ≡ Some b =
+    moved (λ k ds ss. typed_parts k ds ss ≡ Some b) start c.declarations_of-declarations.ensures c.statements_of-statements.ensures c.in_ok-body.ensures.form in
+    law.not_plain library places n u b typed (sym c.is_plain.ensures ∙ c.if-not-is_plain.true) c.mistyped.ensures
+
+pub returns : goal.returns
+returns c =
+    let library = c.args.library.now in
+    let places = c.args.places.now in
+    let n = c.args.number in
+    let u = c.args.unit.now in
+    let b = c.in_ok-body.body in
+    let start = law.start_is library places n u c.new.result c.in_ok-seen.seen c.new-2.result.items c.new.ensures c.in_ok-seen.ensures c.new-2.ensures.items in
+    let typed : typed_parts (context_of library places n u) (declarations_of_item u.item) (statements_of_item u.item) ≡ Some b =
+    moved (λ k ds ss. typed_parts k ds ss ≡ Some b) start c.declarations_of-declarations.ensures c.statements_of-statements.ensures c.in_ok-body.ensures.form in
+    law.a_plain_unit library places n u b typed (sym c.is_plain.ensures ∙ c.if-not-is_plain.false)

@@ -1,7 +1,7 @@
 -- The units so far and those of the rest are all, and a refusal of the rest is one of all.
 use Rattle.std.proofs.Common.{◌≡◌, drop, ◌++◌, option_map}
 use Rattle.cov_base.specs.declared.failure.Failure.{Failure}
-use Rattle.ada_types.specs.declared.fault.TypeFault.{TypeFault}
+use Rattle.ada_expressions.specs.declared.fault.TypeFault.{TypeFault}
 use Rattle.ada_types.specs.Typing as spec
 use Rattle.ada_types.specs.Rules.{units_from}
 use Rattle.ada_types.specs.TypingCode.{SomeRefused, subprograms_view}

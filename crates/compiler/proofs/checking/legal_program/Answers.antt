@@ -28,5 +28,5 @@ returns-in_err-check_size-clause-refused c =
 pub returns-clause-legal : goal.returns-clause-legal
 returns-clause-legal c =
     legal_of c.args.files.now c.in_ok-units.units.items c.as_slice.result.now c.args.main.now (program_of c.in_ok-program.program) c.in_ok-units.ensures.units c.in_ok-units.ensures.rising
-    c.in_ok-units.ensures.in_files c.as_slice.ensures.value c.in_ok-program.ensures.legal
+    c.in_ok-units.ensures.decisions_rising c.in_ok-units.ensures.in_files c.in_ok-units.ensures.decisions_in_files c.in_ok-units.ensures.conditions_in_files c.as_slice.ensures.value c.in_ok-program.ensures.legal
     (ap (first_past 0) (sym c.in_ok-program.ensures.entries) ∙ c.in_ok-check_size.ensures.small)

@@ -1,12 +1,9 @@
 use Rattle.ada_tree.specs.View.{program_of}
-use Rattle.compiler.proofs.Core.{able_law, undecided_law, written_law, made_law}
+use Rattle.compiler.proofs.Core.{able_law, written_law, made_law}
 use Rattle.compiler.proofs.compiling.compile.Goals as goal
 
-pub object_of-requires-clause-compilable : goal.object_of-requires-clause-compilable
-object_of-requires-clause-compilable c = able_law c.args.files.now c.args.main.now (program_of c.in_ok-program.program) c.in_ok-program.ensures.legal
-
-pub object_of-requires-clause-undecided : goal.object_of-requires-clause-undecided
-object_of-requires-clause-undecided c = undecided_law c.args.files.now c.args.main.now (program_of c.in_ok-program.program) c.in_ok-program.ensures.legal
+pub object_of-requires : goal.object_of-requires
+object_of-requires c = able_law c.args.files.now c.args.main.now (program_of c.in_ok-program.program) c.in_ok-program.ensures.legal
 
 pub closed-requires : goal.closed-requires
 closed-requires c =

@@ -19,7 +19,7 @@ struct Rule {
 }
 
 /// The declarations round statements.
-const OBJECTS: &str = "X : Integer; C : constant Integer := 1;";
+const OBJECTS: &str = "X : Integer; C : constant Integer := 1; B : Boolean;";
 
 /// Rules that are broken in declarations, in line 3.
 static DECLARED: [Rule; 12] = [
@@ -64,21 +64,22 @@ static DECLARED: [Rule; 12] = [
     // Predefined names of what is to come denote nothing yet.
     Rule {
         kept: "X : Integer;",
-        broken: "X : Boolean;",
-        col: 8,
-        why: Why::Naming,
-    },
-    Rule {
-        kept: "X : Integer;",
         broken: "X : Natural;",
         col: 8,
         why: Why::Naming,
     },
+    // An initial value is of the object's type (RM 3.3.1).
     Rule {
-        kept: "X : Integer := 1;",
+        kept: "B : Boolean := True;",
+        broken: "B : Boolean := 1;",
+        col: 19,
+        why: Why::Typing,
+    },
+    Rule {
+        kept: "B : constant Boolean := not False;",
         broken: "X : Integer := True;",
         col: 19,
-        why: Why::Naming,
+        why: Why::Typing,
     },
     // What a name denotes is of the kind that its use asks for (RM 4.1, 4.4, 5.2, 6.4).
     Rule {
@@ -103,7 +104,7 @@ static DECLARED: [Rule; 12] = [
 ];
 
 /// Rules that are broken in statements, in line 5, over a variable and a constant.
-static STATED: [Rule; 29] = [
+static STATED: [Rule; 54] = [
     // A name denotes what is declared, in any case, and each name once (RM 8.3).
     Rule {
         kept: "x := C;",
@@ -280,10 +281,166 @@ static STATED: [Rule; 29] = [
         col: 15,
         why: Why::Syntax,
     },
-    // Relations come later.
+    // A relation takes two operands of one type and is Boolean, `not` takes a Boolean (RM 4.5.2, 4.5.6).
     Rule {
-        kept: "X := X - C;",
+        kept: "B := X = C;",
+        broken: "B := X = B;",
+        col: 9,
+        why: Why::Typing,
+    },
+    Rule {
+        kept: "B := (X < C) = B;",
         broken: "X := X = C;",
+        col: 9,
+        why: Why::Typing,
+    },
+    Rule {
+        kept: "B := not B;",
+        broken: "B := not X;",
+        col: 9,
+        why: Why::Typing,
+    },
+    Rule {
+        kept: "B := True /= False;",
+        broken: "B := B - True;",
+        col: 9,
+        why: Why::Typing,
+    },
+    Rule {
+        kept: "B := Boolean'First;",
+        broken: "X := Boolean'Last;",
+        col: 9,
+        why: Why::Typing,
+    },
+    // `and`, `or` and `xor` are no part of the language (RM 4.5.1).
+    Rule {
+        kept: "if X = 1 then null; end if;",
+        broken: "if X = 1 and C = 1 then null; end if;",
+        col: 7,
+        why: Why::Typing,
+    },
+    Rule {
+        kept: "B := B;",
+        broken: "B := B or B;",
+        col: 9,
+        why: Why::Typing,
+    },
+    Rule {
+        kept: "B := (B);",
+        broken: "B := (B xor B);",
+        col: 10,
+        why: Why::Typing,
+    },
+    // The short-circuit forms come later.
+    Rule {
+        kept: "if B then null; end if;",
+        broken: "if B and then B then null; end if;",
+        col: 13,
+        why: Why::Syntax,
+    },
+    Rule {
+        kept: "if not B then null; end if;",
+        broken: "if B or else B then null; end if;",
+        col: 12,
+        why: Why::Syntax,
+    },
+    // Conditions are Boolean (RM 5.3, 5.5, 5.7), and their names are visible.
+    Rule {
+        kept: "if B then null; else null; end if;",
+        broken: "if X then null; else null; end if;",
+        col: 7,
+        why: Why::Typing,
+    },
+    Rule {
+        kept: "if B then null; elsif B then null; end if;",
+        broken: "if B then null; elsif Y then null; end if;",
+        col: 26,
+        why: Why::Naming,
+    },
+    Rule {
+        kept: "while X > C loop null; end loop;",
+        broken: "while C loop null; end loop;",
+        col: 10,
+        why: Why::Typing,
+    },
+    Rule {
+        kept: "while not (B) loop null; end loop;",
+        broken: "while not (X) loop null; end loop;",
+        col: 10,
+        why: Why::Typing,
+    },
+    Rule {
+        kept: "loop exit when B; end loop;",
+        broken: "loop exit when X; end loop;",
+        col: 19,
+        why: Why::Typing,
+    },
+    // `exit` stands in a loop (RM 5.7).
+    Rule {
+        kept: "loop exit; end loop;",
+        broken: "exit;",
+        col: 4,
+        why: Why::Typing,
+    },
+    Rule {
+        kept: "loop if B then exit; end if; end loop;",
+        broken: "if B then exit; end if;",
+        col: 14,
+        why: Why::Typing,
+    },
+    Rule {
+        kept: "loop begin exit when B; end; end loop;",
+        broken: "begin exit when B; end;",
+        col: 10,
+        why: Why::Typing,
+    },
+    // The declarations of a block are visible in it alone, and hide outer ones (RM 5.6, 8.3).
+    Rule {
+        kept: "declare D : Integer; begin D := 1; end;",
+        broken: "declare D : Integer; begin null; end; D := 1;",
+        col: 42,
+        why: Why::Naming,
+    },
+    Rule {
+        kept: "declare X : Boolean; begin X := True; end;",
+        broken: "declare X : Boolean; begin X := 1; end;",
+        col: 36,
+        why: Why::Typing,
+    },
+    Rule {
+        kept: "declare D : Integer; begin null; end; declare D : Boolean; begin null; end;",
+        broken: "declare D : Integer; D : Boolean; begin null; end;",
+        col: 25,
+        why: Why::Naming,
+    },
+    Rule {
+        kept: "declare D : constant Integer := X; begin X := D; end;",
+        broken: "declare D : constant Integer := X; begin D := X; end;",
+        col: 45,
+        why: Why::Typing,
+    },
+    // Other compound statements come later.
+    Rule {
+        kept: "begin null; end;",
+        broken: "for I in 1 .. 2 loop null; end loop;",
+        col: 4,
+        why: Why::Syntax,
+    },
+    Rule {
+        kept: "loop exit; null; end loop;",
+        broken: "case X is when others => null; end case;",
+        col: 4,
+        why: Why::Syntax,
+    },
+    Rule {
+        kept: "begin null; begin null; end; end;",
+        broken: "begin null; exception when others => null; end;",
+        col: 16,
+        why: Why::Syntax,
+    },
+    Rule {
+        kept: "return;",
+        broken: "return B;",
         col: 11,
         why: Why::Syntax,
     },
@@ -445,13 +602,13 @@ fn an_inner_name_hides_an_outer_one(rt: HostRuntime) -> Result<(), Fail> {
     Ok(())
 }
 
-/// A procedure that declares so many words.
+/// A procedure that declares so many words, and a block in it that declares one more.
 fn words(alloc: Global, count: usize) -> Result<String, Fail> {
     let mut text = String::from_str(alloc, "procedure P1 is A")?;
     for index in 1..count {
         text.push_str(format!(in alloc; ", A{index}")?.as_str())?;
     }
-    text.push_str(" : Integer; begin null; end P1;")?;
+    text.push_str(" : Integer; begin declare B : Boolean; begin null; end; end P1;")?;
     Ok(text)
 }
 
@@ -459,9 +616,9 @@ fn words(alloc: Global, count: usize) -> Result<String, Fail> {
 fn a_procedure_declares_2048_words_at_most(rt: HostRuntime) -> Result<(), Fail> {
     let alloc = rt.alloc();
     let mut files = sources(alloc)?;
-    let most = words(alloc, 2048)?;
+    let most = words(alloc, 2047)?;
     assert!(rt; status_of(alloc, &mut files, most.as_str())? == Status::Done);
-    let more = words(alloc, 2049)?;
+    let more = words(alloc, 2048)?;
     let refused = Status::SourceRefused {
         file: 0,
         line: 1,

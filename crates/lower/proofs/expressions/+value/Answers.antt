@@ -1,10 +1,10 @@
 use Rattle.std.proofs.Common.{◌+◌, refl, sym, ap, ◌∙◌, arith}
 use Rattle.ada_tree.specs.declared.expr.Operand.{Operand}
 use Rattle.ada_tree.specs.Sizes.{expr_size}
-use Rattle.ada_tree.specs.View.{expr_at, sign_of, operator_of}
+use Rattle.ada_tree.specs.View.{expr_at, sign_of, operator_of, relation_of}
 use Rattle.lower.specs.Chain.{number_of, bounds_of, operand_code, operands_code, end_of_operands}
-use Rattle.lower.specs.Lowered.{one, sign_on, operator_on, end_of, expr_code}
-use Rattle.lower.proofs.Building.{two_put, chain_code, chain_end, chain_size, operands_size, operand_within, operands_above, expr_positive, one_more, none_left, one_further}
+use Rattle.lower.specs.Lowered.{one, sign_on, operator_on, relation_on, complement_on, end_of, expr_code}
+use Rattle.lower.proofs.Building.{two_put, three_put, chain_code, chain_end, chain_size, operands_size, operand_within, operands_above, expr_positive, one_more, none_left, one_further}
 use Rattle.lower.proofs.expressions.+value.Goals as goal
 
 pub put_expr-put_operands-requires : goal.put_expr-put_operands-requires
@@ -20,6 +20,13 @@ put_expr-returns-in_ok-push_simple-in-Signed-clause-code t c =
     rw (← c.expr.view_is, c.in-Signed.is)
     (two_put _ _ _ (expr_code number_of bounds_of c.args.to c.in-Signed.operand.value) (one (sign_on c.args.to (sign_of c.in-Signed.sign)))
     (rw c.deref.ensures at c.in_ok-end-in-Signed.ensures.code) (rw c.sign_on.ensures at c.in_ok-push_simple-in-Signed.ensures.ok))
+
+pub put_expr-returns-in_ok-push_simple-in-Complement-clause-code :
+    goal.put_expr-returns-in_ok-push_simple-in-Complement-clause-code
+put_expr-returns-in_ok-push_simple-in-Complement-clause-code t c =
+    rw (← c.expr.view_is, c.in-Complement.is)
+    (two_put _ _ _ (expr_code number_of bounds_of c.args.to c.in-Complement.operand.value) (one (complement_on c.args.to))
+    (rw c.deref-in-Complement.ensures at c.in_ok-end-in-Complement.ensures.code) c.in_ok-push_simple-in-Complement.ensures.ok)
 
 pub put_expr-returns-in_ok-others_end-in-Operations-clause-code :
     goal.put_expr-returns-in_ok-others_end-in-Operations-clause-code
@@ -81,3 +88,9 @@ put_operands-loop-operand-preserved t c =
 pub put_operands-returns-clause-code : goal.put_operands-returns-clause-code
 put_operands-returns-clause-code t c =
     none_left (operands_code c.args.to) refl c.args.operands.now c.loop-operand.operand-index _ _ (omega (arith, c.loop-operand-test.false)) c.loop-operand.invariant.0
+
+pub put_relation-returns-clause-code : goal.put_relation-returns-clause-code
+put_relation-returns-clause-code t c =
+    let k = c.args.to in
+    three_put _ _ _ _ (expr_code number_of bounds_of k c.args.left.now) (expr_code number_of bounds_of (k + 1) c.args.right.now) (one (relation_on k (relation_of c.args.relation)))
+    c.in_ok-left_end.ensures.code (rw c.in_ok-behind.ensures at c.in_ok-right_end.ensures.code) (rw (c.relation_for.ensures, c.in_ok-behind.ensures) at c.in_ok-push_simple.ensures.ok)

@@ -17,3 +17,6 @@ invariant-put_operands-loop-operand l =
     (joined l.code (operands_code l.to (drop l.operand-index l.operands)) ≡ joined l.fn.code (operands_code l.fn.to l.fn.operands))
     × (max l.end (end_of_operands l.to (drop l.operand-index l.operands)) ≡ end_of_operands l.fn.to l.fn.operands)
     × (l.right ≡ l.to + 1) × (l.right ≤ l.end)
+
+abbrev pub decreases-put_relation : goal.decreases-put_relation
+decreases-put_relation l = 2 * (expr_size l.left.now + expr_size l.right.now) + 1

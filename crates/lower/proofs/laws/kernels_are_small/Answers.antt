@@ -1,4 +1,4 @@
-use Rattle.lower.proofs.Fits.{short_law, within_law}
+use Rattle.lower.proofs.Small.{short_law, within_law}
 use Rattle.lower.proofs.laws.kernels_are_small.Goals as goal
 
 pub returns : goal.returns

@@ -1,5 +1,5 @@
-use Rattle.parsed_programs.proofs.Files.{files_rise}
+use Rattle.parsed_programs.proofs.Files.{statements_rise}
 use Rattle.parsed_programs.proofs.laws.statements_of_files_rise.Goals as goal
 
 pub returns : goal.returns
-returns c = files_rise
+returns c = statements_rise

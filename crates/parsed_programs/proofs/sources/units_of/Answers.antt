@@ -1,7 +1,7 @@
 use Rattle.std.proofs.lemmas.Result.{IfOk-weaker, IfErr-weaker}
 use Rattle.parsed_programs.specs.Sources.{open_extent}
-use Rattle.parsed_programs.proofs.Files.{files_rise}
-use Rattle.parsed_programs.proofs.Within.{files_within}
+use Rattle.parsed_programs.proofs.Files.{statements_rise, decisions_rise}
+use Rattle.parsed_programs.proofs.Within.{statements_within, decisions_within, conditions_within}
 use Rattle.parsed_programs.proofs.SourceLaws.{lists_of_files, are_of_files, only_of_files, parsed_refused}
 use Rattle.parsed_programs.proofs.sources.units_of.Goals as goal
 
@@ -17,13 +17,31 @@ returns-clause-only_units c =
 pub returns-clause-rising : goal.returns-clause-rising
 returns-clause-rising c =
     IfOk-weaker c.units_of_tokens.result _ _
-    (λ units h. files_rise open_extent _ _ (are_of_files c.args.files.now c.in_ok-tokens.tokens.items units.items c.in_ok-tokens.ensures.lexed (rw c.as_slice.ensures.value at h)))
+    (λ units h. statements_rise open_extent _ _ (are_of_files c.args.files.now c.in_ok-tokens.tokens.items units.items c.in_ok-tokens.ensures.lexed (rw c.as_slice.ensures.value at h)))
     c.units_of_tokens.ensures.units
 
 pub returns-clause-in_files : goal.returns-clause-in_files
 returns-clause-in_files c =
     IfOk-weaker c.units_of_tokens.result _ _
-    (λ units h. files_within open_extent _ _ (are_of_files c.args.files.now c.in_ok-tokens.tokens.items units.items c.in_ok-tokens.ensures.lexed (rw c.as_slice.ensures.value at h)))
+    (λ units h. statements_within open_extent _ _ (are_of_files c.args.files.now c.in_ok-tokens.tokens.items units.items c.in_ok-tokens.ensures.lexed (rw c.as_slice.ensures.value at h)))
+    c.units_of_tokens.ensures.units
+
+pub returns-clause-decisions_rising : goal.returns-clause-decisions_rising
+returns-clause-decisions_rising c =
+    IfOk-weaker c.units_of_tokens.result _ _
+    (λ units h. decisions_rise open_extent _ _ (are_of_files c.args.files.now c.in_ok-tokens.tokens.items units.items c.in_ok-tokens.ensures.lexed (rw c.as_slice.ensures.value at h)))
+    c.units_of_tokens.ensures.units
+
+pub returns-clause-decisions_in_files : goal.returns-clause-decisions_in_files
+returns-clause-decisions_in_files c =
+    IfOk-weaker c.units_of_tokens.result _ _
+    (λ units h. decisions_within open_extent _ _ (are_of_files c.args.files.now c.in_ok-tokens.tokens.items units.items c.in_ok-tokens.ensures.lexed (rw c.as_slice.ensures.value at h)))
+    c.units_of_tokens.ensures.units
+
+pub returns-clause-conditions_in_files : goal.returns-clause-conditions_in_files
+returns-clause-conditions_in_files c =
+    IfOk-weaker c.units_of_tokens.result _ _
+    (λ units h. conditions_within open_extent _ _ (are_of_files c.args.files.now c.in_ok-tokens.tokens.items units.items c.in_ok-tokens.ensures.lexed (rw c.as_slice.ensures.value at h)))
     c.units_of_tokens.ensures.units
 
 pub returns-clause-refused : goal.returns-clause-refused

@@ -1,10 +1,11 @@
 use Rattle.std.proofs.Common.{◌∙◌, List, ℕ, map, subst, sym}
 use Rattle.std.proofs.lemmas.Result.{err_from_is_err_and}
 use Rattle.gnatcov.specs.Content.{IsFileOf, RefusesObject}
-use Rattle.gnatcov.specs.Covering.{IsReportOf}
+use Rattle.gnatcov.specs.Covering.{HasPaths, IsReportOf}
 use Rattle.gnatcov.specs.Reading.{UnlessMemory}
 use Rattle.gnatcov.specs.Ready.{verdict_view}
 use Rattle.object_format.specs.declared.object.Object.{Object}
+use Rattle.gnatcov.proofs.DecisionLaws.{added_paths}
 use Rattle.gnatcov.proofs.ObjectLaws.{has_map}
 use Rattle.gnatcov.proofs.StopLaws.{coverage_no_object, coverage_stops, coverage_made}
 use Rattle.gnatcov.proofs.ready.coverage.prepare.Goals as goal
@@ -28,6 +29,12 @@ returns-in_err-add_traces-clause-prepares g c =
     rw (p.1, p.2) (coverage_stops _ _ _ _ _ c.args.level c.args.annotate c.args.object.now c.in_ok-bytes.bytes.items
     (map (λ name. name.now) c.args.traces.now) c.in_ok-decisions.decisions c.in_err-add_traces.field-0.0
     c.in_ok-bytes.ensures.same c.in_ok-bytes.ensures.reads c.in_ok-bytes.ensures.read is c.in_err-add_traces.ensures.stopped)
+
+pub reported-requires-clause-paths : goal.reported-requires-clause-paths
+reported-requires-clause-paths g c =
+    let traces = c.in_ok-add_traces.ensures.read in
+    subst (λ (o : Object). HasPaths o c.add_traces.new.coverage) c.in_ok-decisions.ensures
+    (added_paths c.in_ok-decisions.decisions _ c.add_traces.new.coverage traces.0 c.new-coverage.ensures.events traces.2)
 
 pub returns-clause-prepares : goal.returns-clause-prepares
 returns-clause-prepares g c =

@@ -5,6 +5,7 @@ use Rattle.decision_meaning.specs.Pair.{Somewhere}
 use Rattle.std.proofs.lemmas.Result.{IfOk-weaker}
 use Rattle.cov_base.specs.declared.event.Event.{Event}
 use Rattle.gnatcov.proofs.CoveringLaws.{report_made}
+use Rattle.gnatcov.proofs.DecisionLaws.{statements_known, evaluations_known}
 use Rattle.object_format.specs.declared.object.FileEntry.{FileEntry}
 use Rattle.gnatcov.proofs.ready.coverage.report_of.Goals as goal
 
@@ -16,3 +17,11 @@ returns c = IfOk-weaker c.report.result _ _ (λ text told.
     (ap (λ (files : List SourceFile). map (λ file. file.name) files) c.as_slice-3.ensures.value ∙ c.in_ok-files.ensures
     ∙ ap (λ (entries : List FileEntry). map (λ entry. entry.name) entries) c.as_slice.ensures)
     told) c.report.ensures
+
+pub report-requires-clause-statements : goal.report-requires-clause-statements
+report-requires-clause-statements c = statements_known c.args.object.now c.requires.sound
+
+pub report-requires-clause-evaluated : goal.report-requires-clause-evaluated
+report-requires-clause-evaluated c =
+    evaluations_known c.args.object.now c.args.coverage.now c.as_slice-2.result.now c.requires.sound c.requires.paths
+    (λ e there. (c.in_ok-events.ensures.all e).0 (subst (λ (events : List Event). Somewhere (λ x. x ≡ e) events) c.as_slice-2.ensures.value there))

@@ -1,0 +1,5 @@
+pub mod Blame
+pub mod Chains
+pub mod ExpressionLaws
+pub mod Laws
+pub mod TestLaws

@@ -1,0 +1,5 @@
+pub mod Kinds
+pub mod Expressions
+pub mod Phrases
+pub mod Answer
+pub mod ExpressionCode

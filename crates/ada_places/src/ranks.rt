@@ -1,0 +1,109 @@
+//! Places in the order of the text, and the numbers of the obligations that stand there.
+
+ghost use Rattle.std.specs.Prelude.{◌≡◌, ◌<◌, ◌^◌, length, true, IfOk};
+ghost use Rattle.std.specs.List.{count_by};
+ghost use Rattle.ada_meaning.specs.Obligations.{precedes};
+ghost use Rattle.ada_tree.specs.View.{label_of};
+ghost use Rattle.ada_places.specs.Order.{AreOrdered};
+ghost use Rattle.ada_places.specs.Places.{label_at};
+
+use ada_tree::Label;
+use cov_base::Pos;
+use std::alloc::AllocError;
+use std::marker::Model;
+
+/// Whether a place comes before another.
+fn precedes(a: Pos, b: Pos) -> bool
+    ensures { result ≡ precedes a b }
+{
+    a.file < b.file || a.file == b.file && (a.line < b.line || a.line == b.line && a.col < b.col)
+}
+
+/// Places in the order of the text, by which obligations are numbered, and whether each comes before
+/// the next. In sources that are read from the left it does. There are fewer than 2^32.
+#[derive(Drop)]
+pub struct Ranks {
+    all: Vec<Pos>,
+    rising: bool,
+}
+
+impl Model for Ranks {
+    ghost use Rattle.std.specs.Prelude.{◌≡◌, ◌<◌, ◌^◌, true, List, length};
+    ghost use Rattle.ada_places.specs.Order.{AreOrdered};
+    ghost use Rattle.cov_base.specs.declared.position.Pos.{Pos as Place};
+
+    ghost Value = { List Place };
+
+    ghost view = { λ r. r.all.items };
+
+    ghost invariant = { λ r. (length r.all.items < 2 ^ 32) × (r.rising ≡ true → AreOrdered r.all.items) };
+}
+
+impl Ranks {
+    /// Places in the order of the text. Where there are more than numbers for them, there is no memory
+    /// for the program.
+    pub fn new(places: Vec<Pos>) -> Result<Ranks, AllocError>
+        ensures { IfOk result (λ r. r ≡ places.items) }
+    {
+        if places.len() > u32::MAX as usize {
+            return Err(AllocError);
+        }
+        let rising = are_ordered(places.as_slice());
+        Ok(Ranks {
+            all: places,
+            rising,
+        })
+    }
+
+    /// How many places come before one.
+    fn rank(&self, place: Pos) -> u32
+        ensures { result ≡ count_by (λ q. precedes q place) self.now }
+    {
+        if self.rising {
+            rank_in_order(self.all.as_slice(), place)
+        } else {
+            rank(self.all.as_slice(), place)
+        }
+    }
+
+    /// The label of the obligation at this place: its number is how many places come before it.
+    pub fn label_at(&self, place: Pos) -> Label
+        ensures { label_of result ≡ label_at self.now place }
+    {
+        Label {
+            number: self.rank(place),
+            place,
+        }
+    }
+}
+
+/// Whether each place comes before the next.
+fn are_ordered(places: &[Pos]) -> bool
+    ensures { result ≡ true → AreOrdered places.now }
+{
+    places.is_sorted_by(|one, next| precedes(*one, *next))
+}
+
+/// How many places come before one, where they are in order: found by halving.
+fn rank_in_order(places: &[Pos], place: Pos) -> u32
+    requires few { length places.now < 2 ^ 32 }
+    requires ordered { AreOrdered places.now }
+    ensures { result ≡ count_by (λ q. precedes q place) places.now }
+{
+    places.partition_point(|other| precedes(*other, place)) as u32
+}
+
+/// How many places come before one.
+fn rank(places: &[Pos], place: Pos) -> u32
+    requires { length places.now < 2 ^ 32 }
+    ensures { result ≡ count_by (λ q. precedes q place) places.now }
+{
+    let mut before = 0;
+    for other in places {
+        if !precedes(*other, place) {
+            continue;
+        }
+        before += 1;
+    }
+    before
+}

@@ -1,0 +1,148 @@
+use Rattle.std.proofs.Common.{refl, sym, ap, ◌∙◌, arith}
+use Rattle.ada_meaning.specs.Collected.{after_if, after_while, after_exit}
+use Rattle.ada_tree.specs.Sizes.{stmt_size, stmts_size}
+use Rattle.ada_tree.specs.View.{label_of, statements_of, statement_at}
+use Rattle.obligations.specs.Entries.{of_label, of_decision, of_declarations, of_statement, of_statements, of_branch, of_branches}
+use Rattle.obligations.proofs.Lists.{then_added, three_added, same_added, one_more, none_left, nothing_listed, statements_front, loop_parts, while_parts, exit_parts, if_parts, block_parts}
+use Rattle.obligations.proofs.Sizes.{statement_within, branch_within, else_behind, branch_size, all_branches_size}
+use Rattle.obligations.proofs.statements.+statements.Goals as goal
+
+pub add_block-returns : goal.add_block-returns
+add_block-returns t c =
+    let ds = c.block.inside.declarations in
+    let ss = statements_of c.block.inside.statements.items in
+    rw (← c.block.view_is)
+    (same_added c.add_statements.result _ _ _ _ (block_parts ds ss)
+    (then_added c.add_statements.result _ _ _ (of_declarations ds) (of_statements ss)
+    (rw c.as_slice.ensures at c.in_ok-add_declarations.ensures) (rw c.as_slice-2.ensures.value at c.add_statements.ensures)))
+
+pub add_branch-add_statements-requires : goal.add_branch-add_statements-requires
+add_branch-add_statements-requires t c =
+    (omega (arith, c.decreases, ap (λ ss. stmts_size (statements_of ss)) c.as_slice.ensures.value), tt)
+
+pub add_branch-returns : goal.add_branch-returns
+add_branch-returns t c =
+    let b = c.args.branch.now in
+    then_added c.add_statements.result _ _ _
+    (of_decision after_if c.args.statement (label_of b.decision.label) b.decision.test) (of_statements (statements_of b.statements.items))
+    (c.in_ok-add_decision.ensures after_if refl) (rw c.as_slice.ensures.value at c.add_statements.ensures)
+
+pub add_statement-add_branches-requires : goal.add_statement-add_branches-requires
+add_statement-add_branches-requires t c =
+    let is = ap stmt_size (sym c.statement.view_is ∙ ap statement_at c.in-If.is) in
+    let bs = c.in-If.branches.items in
+    (omega (arith, c.decreases, is, else_behind bs (statements_of c.in-If.otherwise.items), ap all_branches_size c.as_slice-in-If.ensures.value), tt)
+
+pub add_statement-add_statements-requires : goal.add_statement-add_statements-requires
+add_statement-add_statements-requires t c =
+    let is = ap stmt_size (sym c.statement.view_is ∙ ap statement_at c.in-If.is) in
+    let bs = c.in-If.branches.items in (
+      omega (
+        arith,
+        c.decreases,
+        is,
+        else_behind bs (statements_of c.in-If.otherwise.items),
+        ap
+            (λ ss. stmts_size (statements_of ss)) c.as_slice-in-If-2.ensures.value,
+      ),
+      tt,
+    )
+
+pub add_statement-add_statements-requires-in-Loop : goal.add_statement-add_statements-requires-in-Loop
+add_statement-add_statements-requires-in-Loop t c =
+    let is = ap stmt_size (sym c.statement.view_is ∙ ap statement_at c.in-Loop.is) in
+    (omega (arith, c.decreases, is, ap (λ ss. stmts_size (statements_of ss)) c.as_slice-in-Loop.ensures.value), tt)
+
+pub add_statement-add_statements-requires-in-While : goal.add_statement-add_statements-requires-in-While
+add_statement-add_statements-requires-in-While t c =
+    let is = ap stmt_size (sym c.statement.view_is ∙ ap statement_at c.in-While.is) in
+    (omega (arith, c.decreases, is, ap (λ ss. stmts_size (statements_of ss)) c.as_slice-in-While.ensures.value), tt)
+
+pub add_statement-returns-in_ok-add_branches-in-If : goal.add_statement-returns-in_ok-add_branches-in-If
+add_statement-returns-in_ok-add_branches-in-If t c =
+    let l = label_of c.in-If.label in
+    let bs = c.in-If.branches.items in
+    let other = statements_of c.in-If.otherwise.items in
+    rw (← c.statement.view_is, c.in-If.is)
+    (same_added c.add_statements.result _ _ _ _ (if_parts l bs other)
+    (three_added c.add_statements.result _ _ _ _ (of_label l) (of_branches l.number bs) (of_statements other)
+    c.in_ok-add_statement-in-If.ensures (rw c.as_slice-in-If.ensures.value at c.in_ok-add_branches-in-If.ensures) (rw c.as_slice-in-If-2.ensures.value at c.add_statements.ensures)))
+
+pub add_statement-returns-in_ok-add_statement-in-Loop : goal.add_statement-returns-in_ok-add_statement-in-Loop
+add_statement-returns-in_ok-add_statement-in-Loop t c =
+    let l = label_of c.in-Loop.label in
+    let ss = statements_of c.in-Loop.body.items in
+    rw (← c.statement.view_is, c.in-Loop.is)
+    (same_added c.add_statements-in-Loop.result _ _ _ _ (loop_parts l ss)
+    (then_added c.add_statements-in-Loop.result _ _ _ (of_label l) (of_statements ss)
+    c.in_ok-add_statement-in-Loop.ensures (rw c.as_slice-in-Loop.ensures.value at c.add_statements-in-Loop.ensures)))
+
+pub add_statement-returns-in_ok-add_decision-in-While : goal.add_statement-returns-in_ok-add_decision-in-While
+add_statement-returns-in_ok-add_decision-in-While t c =
+    let l = label_of c.in-While.label in
+    let d = label_of c.in-While.decision.label in
+    let test = c.in-While.decision.test in
+    let ss = statements_of c.in-While.body.items in
+    rw (← c.statement.view_is, c.in-While.is)
+    (same_added c.add_statements-in-While.result _ _ _ _ (while_parts l d test ss)
+    (three_added c.add_statements-in-While.result _ _ _ _ (of_label l) (of_decision after_while l.number d test) (of_statements ss)
+    c.in_ok-add_statement-in-While.ensures (c.in_ok-add_decision-in-While.ensures after_while refl) (rw c.as_slice-in-While.ensures.value at c.add_statements-in-While.ensures)))
+
+pub add_statement-returns-in_ok-add_statement-in-ExitWhen : goal.add_statement-returns-in_ok-add_statement-in-ExitWhen
+add_statement-returns-in_ok-add_statement-in-ExitWhen t c =
+    let l = label_of c.in-ExitWhen.label in
+    let d = label_of c.in-ExitWhen.decision.label in
+    let test = c.in-ExitWhen.decision.test in
+    rw (← c.statement.view_is, c.in-ExitWhen.is)
+    (same_added c.add_decision-in-ExitWhen.result _ _ _ _ (exit_parts l d test)
+    (then_added c.add_decision-in-ExitWhen.result _ _ _ (of_label l) (of_decision after_exit l.number d test)
+    c.in_ok-add_statement-in-ExitWhen.ensures (c.add_decision-in-ExitWhen.ensures after_exit refl)))
+
+pub add_branches-add_branch-requires : goal.add_branches-add_branch-requires
+add_branches-add_branch-requires t c = (
+  omega (
+    arith,
+    c.decreases,
+    branch_within c.args.branches.now c.loop-branch.branch-index c.branch-item.result (omega arith),
+    ap
+        branch_size c.branch-item.is,
+  ),
+  tt,
+)
+
+pub add_branches-loop-branch-preserved : goal.add_branches-loop-branch-preserved
+add_branches-loop-branch-preserved t c =
+    let b = c.branch-item.result in
+    let n = c.args.statement in
+    one_more (of_branches n) (of_branch n) (λ x xs. refl)
+    c.args.branches.now c.loop-branch.branch-index b b _ _ c.loop-branch-test.true c.branch-item.is c.in_ok-add_branch.ensures
+    ∙ c.loop-branch.invariant
+
+pub add_branches-returns : goal.add_branches-returns
+add_branches-returns t c =
+    none_left (of_branches c.args.statement) refl
+    c.args.branches.now c.loop-branch.branch-index _ _ (omega (arith, c.loop-branch-test.false)) c.loop-branch.invariant
+
+pub add_statements-add_statement-requires : goal.add_statements-add_statement-requires
+add_statements-add_statement-requires t c = (
+  omega (
+    arith,
+    c.decreases,
+    statement_within c.args.statements.now c.loop-statement.statement-index c.statement-item.result (omega arith),
+    ap
+        stmt_size c.statement-item.is,
+  ),
+  tt,
+)
+
+pub add_statements-loop-statement-preserved : goal.add_statements-loop-statement-preserved
+add_statements-loop-statement-preserved t c =
+    let s = c.statement-item.result in
+    one_more (λ ss. of_statements (statements_of ss)) of_statement statements_front
+    c.args.statements.now c.loop-statement.statement-index s s _ _ c.loop-statement-test.true c.statement-item.is c.in_ok-add_statement.ensures
+    ∙ c.loop-statement.invariant
+
+pub add_statements-returns : goal.add_statements-returns
+add_statements-returns t c =
+    none_left (λ ss. of_statements (statements_of ss)) nothing_listed
+    c.args.statements.now c.loop-statement.statement-index _ _ (omega (arith, c.loop-statement-test.false)) c.loop-statement.invariant

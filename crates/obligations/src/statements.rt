@@ -1,0 +1,119 @@
+//! A walk over statements, in the order of the text.
+
+ghost use Rattle.std.specs.Prelude.{◌≡◌, [], ◌∷◌, OnOk};
+ghost use Rattle.ada_tree.specs.View.{statements_of};
+ghost use Rattle.obligations.specs.Entries.{joined, of_declarations, of_statement, of_statements, of_branch, of_branches, of_block};
+
+use crate::listing::Listing;
+use crate::nested::{none_in_actuals, none_in_value};
+use ada_tree::{Block, Branch, Declaration, Statement, StatementKind};
+use cov_base::Letter;
+use std::alloc::AllocError;
+
+/// Adds the entries of a body or of a block statement: of its declarations, and of its statements. A
+/// block statement is itself no obligation.
+#[cycle(statements)]
+pub(crate) fn add_block(listing: &mut Listing, block: &Block) -> Result<(), AllocError>
+    ensures { OnOk result (listing.new ≡ joined listing.old (of_block block.now)) }
+{
+    add_declarations(listing, block.declarations.as_slice())?;
+    add_statements(listing, block.statements.as_slice())
+}
+
+/// Adds the entries of statements.
+#[cycle(statements)]
+fn add_statements(listing: &mut Listing, statements: &[Statement]) -> Result<(), AllocError>
+    ensures { OnOk result (listing.new ≡ joined listing.old (of_statements (statements_of statements.now))) }
+{
+    for statement in statements {
+        add_statement(listing, statement)?;
+    }
+    Ok(())
+}
+
+/// Adds the entries of a statement: its own, those of its decisions, and those of the statements in
+/// it.
+#[cycle(statements)]
+fn add_statement(listing: &mut Listing, statement: &Statement) -> Result<(), AllocError>
+    ensures { OnOk result (listing.new ≡ joined listing.old (of_statement statement.now)) }
+{
+    match &statement.kind {
+        StatementKind::Null(label) | StatementKind::Exit(label) | StatementKind::Return(label) => {
+            listing.add_statement(*label)
+        }
+        StatementKind::Assignment(label, _, value) => {
+            none_in_value(value);
+            listing.add_statement(*label)
+        }
+        StatementKind::Call(label, _, actuals) => {
+            none_in_actuals(actuals.as_slice());
+            listing.add_statement(*label)
+        }
+        StatementKind::If(label, branches, otherwise) => {
+            listing.add_statement(*label)?;
+            add_branches(listing, label.number, branches.as_slice())?;
+            add_statements(listing, otherwise.as_slice())
+        }
+        StatementKind::Loop(label, body) => {
+            listing.add_statement(*label)?;
+            add_statements(listing, body.as_slice())
+        }
+        StatementKind::While(label, decision, body) => {
+            listing.add_statement(*label)?;
+            listing.add_decision(Letter::WHILE, label.number, decision)?;
+            add_statements(listing, body.as_slice())
+        }
+        StatementKind::ExitWhen(label, decision) => {
+            listing.add_statement(*label)?;
+            listing.add_decision(Letter::EXIT, label.number, decision)
+        }
+        StatementKind::Block(block) => add_block(listing, block),
+    }
+}
+
+/// Adds the entries of the branches of the if statement with this number.
+#[cycle(statements)]
+fn add_branches(
+    listing: &mut Listing,
+    statement: u32,
+    branches: &[Branch],
+) -> Result<(), AllocError>
+    ensures { OnOk result (listing.new ≡ joined listing.old (of_branches statement branches.now)) }
+{
+    for branch in branches {
+        add_branch(listing, statement, branch)?;
+    }
+    Ok(())
+}
+
+/// Adds the entries of a branch: that of its decision, and those of its statements.
+#[cycle(statements)]
+fn add_branch(listing: &mut Listing, statement: u32, branch: &Branch) -> Result<(), AllocError>
+    ensures { OnOk result (listing.new ≡ joined listing.old (of_branch statement branch.now)) }
+{
+    listing.add_decision(Letter::IF, statement, &branch.decision)?;
+    add_statements(listing, branch.statements.as_slice())
+}
+
+/// Adds the entries of declarations: those with an initial value have one.
+fn add_declarations(listing: &mut Listing, declarations: &[Declaration]) -> Result<(), AllocError>
+    ensures { OnOk result (listing.new ≡ joined listing.old (of_declarations declarations.now)) }
+{
+    for declaration in declarations {
+        add_declaration(listing, declaration)?;
+    }
+    Ok(())
+}
+
+/// Adds the entry of a declaration, where it has an initial value.
+fn add_declaration(listing: &mut Listing, declaration: &Declaration) -> Result<(), AllocError>
+    ensures { OnOk result (listing.new ≡ joined listing.old (of_declarations (declaration.now ∷ []))) }
+{
+    match declaration {
+        Declaration::Initialized(label, _, value) => {
+            none_in_value(value);
+            listing.add_statement(*label)
+        }
+        Declaration::WithoutValue(_, _) => Ok(()),
+    }
+}
