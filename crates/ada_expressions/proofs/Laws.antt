@@ -47,31 +47,32 @@ operands_there : {A B C : Type 0} (f : A → B → Option C) (o : Option A) (p :
 operands_there f None p h = h
 operands_there f (Some x) p h = and_true (is_some p) ∙ first_there (f x) p h
 
-call_parts : (regions : List Region) (objects : List DeclaredObject) (o : Option Denoted) (es : source.Exprs) →
-    is_some (option_and_then (λ d. option_and_then (spec.call_of d (spec.count_of es)) (spec.typed_actuals regions objects (spec.parameters_of d) es)) o) ≡ true →
-    (is_some o && (is_some (spec.typed_actuals regions objects (rule.parameters_behind o) es) && true)) ≡ true
-call_parts regions objects None es h = h
-call_parts regions objects (Some d) es h = one_there (spec.call_of d (spec.count_of es)) (spec.typed_actuals regions objects (spec.parameters_of d) es) h
+call_parts : (places : List Pos) (regions : List Region) (objects : List DeclaredObject) (o : Option Denoted) (es : source.Exprs) →
+    is_some (option_and_then (λ d. option_and_then (spec.call_of d (spec.count_of es)) (spec.typed_actuals places regions objects (spec.parameters_of d) es)) o) ≡ true →
+    (is_some o && (is_some (spec.typed_actuals places regions objects (rule.parameters_behind o) es) && true)) ≡ true
+call_parts places regions objects None es h = h
+call_parts places regions objects (Some d) es h = one_there (spec.call_of d (spec.count_of es)) (spec.typed_actuals places regions objects (spec.parameters_of d) es) h
 
 pub pass : (c : Phrase) → holds c ≡ true → list_all holds (parts c) ≡ true
-pass (rule.name regions objects (source.simple i)) h = refl
-pass (rule.name regions objects (source.selected n i)) h = one_there _ (spec.denoted regions objects n) h
-pass (rule.name regions objects (source.attribute n i)) h = one_there (spec.attribute_of (key i)) (spec.denoted regions objects n) h
-pass (rule.name regions objects (source.applied n es)) h = call_parts regions objects (spec.denoted regions objects n) es h
-pass (rule.arguments regions objects qs source.no_exprs) h = refl
-pass (rule.arguments regions objects qs (source.also e es)) h = both_there spec.with_front (spec.typed_actual regions objects (spec.first_parameter qs) e)
-    (spec.typed_actuals regions objects (drop 1 qs) es) h
-pass (rule.argument regions objects q e) h = one_there (spec.actual_for objects q) (spec.judged regions objects e) h
-pass (rule.expression regions objects (source.numeral p n)) h = refl
-pass (rule.expression regions objects (source.named p n)) h = one_there (spec.value_of objects) (spec.denoted regions objects n) h
-pass (rule.expression regions objects (source.parenthesized p e)) h = and_true (is_some (spec.judged regions objects e))
-    ∙ mapped_there spec.enclosed (spec.judged regions objects e) h
-pass (rule.expression regions objects (source.unary p op e)) h = one_there (spec.unary_of op) (spec.judged regions objects e) h
-pass (rule.expression regions objects (source.binary p a op b)) h = operands_there (spec.operation_of op) (spec.judged regions objects a) (spec.judged regions objects b) h
-pass (rule.expression regions objects (source.relation p a op b)) h = operands_there (spec.relation_between op) (spec.judged regions objects a)
-    (spec.judged regions objects b) h
-pass (rule.expression regions objects (source.logical p a op b)) h = absurd (false≢true h)
-pass (rule.decision regions objects e) h = one_there (spec.test_at (condition_place e)) (spec.judged regions objects e) h
+pass (rule.name places regions objects (source.simple i)) h = refl
+pass (rule.name places regions objects (source.selected n i)) h = one_there _ (spec.denoted places regions objects n) h
+pass (rule.name places regions objects (source.attribute n i)) h = one_there (spec.attribute_of (key i)) (spec.denoted places regions objects n) h
+pass (rule.name places regions objects (source.applied n es)) h = call_parts places regions objects (spec.denoted places regions objects n) es h
+pass (rule.arguments places regions objects qs source.no_exprs) h = refl
+pass (rule.arguments places regions objects qs (source.also e es)) h = both_there spec.with_front (spec.typed_actual places regions objects (spec.first_parameter qs) e)
+    (spec.typed_actuals places regions objects (drop 1 qs) es) h
+pass (rule.argument places regions objects q e) h = one_there (spec.actual_for objects q) (spec.judged places regions objects e) h
+pass (rule.expression places regions objects (source.numeral p n)) h = refl
+pass (rule.expression places regions objects (source.named p n)) h = one_there (spec.value_of objects) (spec.denoted places regions objects n) h
+pass (rule.expression places regions objects (source.parenthesized p e)) h = and_true (is_some (spec.judged places regions objects e))
+    ∙ mapped_there (spec.enclosed places p) (spec.judged places regions objects e) h
+pass (rule.expression places regions objects (source.unary p op e)) h = one_there (spec.unary_of places p op) (spec.judged places regions objects e) h
+pass (rule.expression places regions objects (source.binary p a op b)) h = operands_there (spec.operation_of op) (spec.judged places regions objects a) (spec.judged places regions objects b) h
+pass (rule.expression places regions objects (source.relation p a op b)) h = operands_there (spec.relation_between op) (spec.judged places regions objects a)
+    (spec.judged places regions objects b) h
+pass (rule.expression places regions objects (source.logical p a op b)) h = operands_there (spec.circuit_of places p op (condition_place a) (condition_place b))
+    (spec.judged places regions objects a) (spec.judged places regions objects b) h
+pass (rule.decision places regions objects e) h = one_there (spec.test_at (condition_place e)) (spec.judged places regions objects e) h
 
 among_passes : (d : Phrase) (cs : List Phrase) → Among d cs → list_all holds cs ≡ true → holds d ≡ true
 among_passes d [] a h = elim a [ ]

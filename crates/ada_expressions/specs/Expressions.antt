@@ -1,12 +1,14 @@
 -- The typed forms of names and expressions (Ada RM 2012, 4.1, 4.4, 4.5, 6.4.1): None where a rule on types is broken. There is none of what
 -- is not there yet.
-use Rattle.std.specs.Prelude.{ℕ, pos, nat_eq, nat_lt, drop, ◌+◌, Bool, ◌&&◌, List, [], ◌∷◌, codes, length, Option, Some, None, option_map, slice_get, if◌then◌else◌}
+use Rattle.std.specs.Prelude.{ℕ, pos, nat_eq, nat_lt, drop, ◌+◌, Bool, true, false, ◌&&◌, List, [], ◌∷◌, codes, length, Option, Some, None, option_map, slice_get, if◌then◌else◌}
 use Rattle.std.specs.Option.{option_and_then}
 use Rattle.ada_syntax.specs.Tree as source
 use Rattle.ada_syntax.specs.declared.expr.UnaryOperator.{UnaryOperator}
 use Rattle.ada_syntax.specs.declared.expr.UnaryOperator.TheVariants as unary
 use Rattle.ada_syntax.specs.declared.expr.BinaryOperator.{BinaryOperator}
 use Rattle.ada_syntax.specs.declared.expr.BinaryOperator.TheVariants as binary
+use Rattle.ada_syntax.specs.declared.expr.LogicalOperator.{LogicalOperator}
+use Rattle.ada_syntax.specs.declared.expr.LogicalOperator.TheVariants as logical
 use Rattle.ada_syntax.specs.declared.expr.RelationalOperator.{RelationalOperator}
 use Rattle.ada_syntax.specs.declared.expr.RelationalOperator.TheVariants as relational
 use Rattle.ada_syntax.specs.declared.unit.Mode.{Mode}
@@ -14,7 +16,7 @@ use Rattle.ada_syntax.specs.declared.unit.Mode.TheVariants as mode
 use Rattle.cov_base.specs.declared.position.Pos.{Pos}
 use Rattle.ada_meaning.specs.Arithmetic.{number_of_truth}
 use Rattle.ada_meaning.specs.Tree as tree
-use Rattle.ada_places.specs.Places.{condition_place}
+use Rattle.ada_places.specs.Places.{label_at, inner_label_at, condition_place}
 use Rattle.ada_tree.specs.declared.types.Operator.{Operator}
 use Rattle.ada_tree.specs.declared.types.Operator.TheVariants as operator
 use Rattle.ada_tree.specs.declared.types.Relation.{Relation}
@@ -96,9 +98,18 @@ value_of objects (denotes.Entity (entity.Truth b)) = Some (truth_of b)
 value_of objects (denotes.Attribute e t) = Some (record { expr = tree.constant (static_of e); kind = fit.Of t; object = None })
 value_of objects _ = None
 
--- an expression in parentheses is no name
-abbrev pub enclosed : Judged → Judged
-enclosed x = record { expr = x.expr; kind = x.kind; object = None }
+-- an expression in parentheses: it is no name, and where it is a decision, this begins with the parenthesis
+abbrev pub relabelled : tree.Label → tree.Expr → tree.Expr
+relabelled l (tree.decision m t) = tree.decision l t
+relabelled l e = e
+
+abbrev pub enclosed : List Pos → Pos → Judged → Judged
+enclosed places p x = record { expr = relabelled (inner_label_at places p) x.expr; kind = x.kind; object = None }
+
+-- `not` of a test: two in succession cancel
+abbrev pub negated : tree.Test → tree.Test
+negated (tree.negation t) = t
+negated t = tree.negation t
 
 -- the operators on one integer
 abbrev pub sign_for : UnaryOperator → Option Sign
@@ -114,14 +125,19 @@ with_sign x s = if is_integral x.kind then Some (record { expr = tree.signed (si
 abbrev pub signed_of : UnaryOperator → Judged → Option Judged
 signed_of op x = option_and_then (with_sign x) (sign_for op)
 
--- `not` of a Boolean (RM 4.5.6)
-abbrev pub complement_of : Judged → Option Judged
-complement_of x = if is_boolean x.kind then Some (record { expr = tree.complement x.expr; kind = x.kind; object = None }) else None
+-- `not` of an expression: where this is a decision, it is one that begins with `not`
+abbrev pub complemented : tree.Label → tree.Expr → tree.Expr
+complemented l (tree.decision m t) = tree.decision l (negated t)
+complemented l e = tree.complement e
 
--- an operator and its one operand
-abbrev pub unary_of : UnaryOperator → Judged → Option Judged
-unary_of unary.Not x = complement_of x
-unary_of op x = signed_of op x
+-- `not` of a Boolean (RM 4.5.6)
+abbrev pub complement_of : List Pos → Pos → Judged → Option Judged
+complement_of places p x = if is_boolean x.kind then Some (record { expr = complemented (inner_label_at places p) x.expr; kind = x.kind; object = None }) else None
+
+-- an operator at this place, and its one operand
+abbrev pub unary_of : List Pos → Pos → UnaryOperator → Judged → Option Judged
+unary_of places p unary.Not x = complement_of places p x
+unary_of places p op x = signed_of op x
 
 abbrev pub operator_for : BinaryOperator → Operator
 operator_for binary.Add = operator.Add
@@ -187,21 +203,33 @@ abbrev pub first_parameter : List Parameter → Option Parameter
 first_parameter [] = None
 first_parameter (q ∷ qs) = Some q
 
--- `not` of a test: two in succession cancel
-abbrev pub negated : tree.Test → tree.Test
-negated (tree.negation t) = t
-negated t = tree.negation t
-
--- an expression as a test, whose condition begins at this place: `not` is taken off
+-- an expression as a test: the one that it is a decision of, or a condition that begins at this place; `not` is taken off
 abbrev pub test_of : Pos → tree.Expr → tree.Test
 test_of at (tree.complement e) = negated (test_of at e)
+test_of at (tree.decision l t) = t
 test_of at e = tree.condition at e
 
 abbrev pub test_at : Pos → Judged → Option tree.Test
 test_at at x = if is_boolean x.kind then Some (test_of at x.expr) else None
 
--- where these regions and these objects are visible
-module _ (regions : List Region) (objects : List DeclaredObject) where
+-- the neutral value of a short-circuit control form (RM 4.5.1)
+abbrev pub neutral_for : LogicalOperator → Option Bool
+neutral_for logical.AndThen = Some true
+neutral_for logical.OrElse = Some false
+neutral_for _ = None
+
+-- a decision that begins at this place: a form with this neutral value, and its two operands as tests
+abbrev pub decided : List Pos → Pos → (left right : tree.Test) → (neutral : Bool) → Judged
+decided places p t u neutral =
+    record { expr = tree.decision (label_at places p) (tree.operator neutral t u); kind = fit.Of scalar.Boolean; object = None }
+
+-- a short-circuit control form and its two operands, which are Boolean and whose conditions begin there (RM 4.5.1)
+abbrev pub circuit_of : List Pos → Pos → LogicalOperator → (left right : Pos) → Judged → Judged → Option Judged
+circuit_of places p op left right x y =
+    option_and_then (λ t. option_and_then (λ u. option_map (decided places p t u) (neutral_for op)) (test_at right y)) (test_at left x)
+
+-- where all decisions stand at these places, and these regions and these objects are visible
+module _ (places : List Pos) (regions : List Region) (objects : List DeclaredObject) where
   abbrev mutual
     -- what a name denotes (RM 4.1)
     pub denoted : source.Name → Option Denoted
@@ -210,15 +238,16 @@ module _ (regions : List Region) (objects : List DeclaredObject) where
     denoted (source.attribute n i) = option_and_then (attribute_of (key i)) (denoted n)
     denoted (source.applied n es) = option_and_then (λ d. option_and_then (call_of d (count_of es)) (typed_actuals (parameters_of d) es)) (denoted n)
 
-    -- an expression (RM 4.4). `and`, `or` and `xor` are no part of this language; `and then` and `or else` come later.
+    -- an expression (RM 4.4). `and`, `or` and `xor` are no part of this language.
     pub judged : source.Expr → Option Judged
     judged (source.numeral p n) = numeral_of n
     judged (source.named p n) = option_and_then (value_of objects) (denoted n)
-    judged (source.parenthesized p e) = option_map enclosed (judged e)
-    judged (source.unary p op e) = option_and_then (unary_of op) (judged e)
+    judged (source.parenthesized p e) = option_map (enclosed places p) (judged e)
+    judged (source.unary p op e) = option_and_then (unary_of places p op) (judged e)
     judged (source.binary p a op b) = option_and_then (λ x. option_and_then (operation_of op x) (judged b)) (judged a)
     judged (source.relation p a op b) = option_and_then (λ x. option_and_then (relation_between op x) (judged b)) (judged a)
-    judged (source.logical p a op b) = None
+    judged (source.logical p a op b) =
+        option_and_then (λ x. option_and_then (circuit_of places p op (condition_place a) (condition_place b) x) (judged b)) (judged a)
 
     -- actuals against parameters
     pub typed_actuals : List Parameter → source.Exprs → Option (List Actual)
@@ -230,6 +259,6 @@ module _ (regions : List Region) (objects : List DeclaredObject) where
   abbrev pub typed_actual : Option Parameter → source.Expr → Option (Option Actual)
   typed_actual q e = option_and_then (actual_for objects q) (judged e)
 
-  -- The expression of a decision (RM 5.3): of type Boolean. Its condition begins at the operand that is left without `not` and parentheses.
+  -- The expression of a decision (RM 5.3): of type Boolean. A condition begins at the operand that is left without `not` and parentheses.
   abbrev pub tested : source.Expr → Option tree.Test
   tested e = option_and_then (test_at (condition_place e)) (judged e)

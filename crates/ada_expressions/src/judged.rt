@@ -6,7 +6,7 @@ ghost use Rattle.ada_expressions.specs.ExpressionCode.{judged_chain};
 ghost use Rattle.ada_expressions.specs.declared.denoted.Denoted.TheVariants as denotes;
 
 use crate::denoted::Denoted;
-use crate::kind::{DeclaredObject, Kind, ScalarType, common, is_boolean, is_integral};
+use crate::kind::{DeclaredObject, Kind, ScalarType, common, is_integral};
 use ada_names::Entity;
 use ada_syntax::{BinaryOperator, RelationalOperator, UnaryOperator};
 use ada_tree::{Expr, Object, Operand, Operator, Relation, Sign};
@@ -86,17 +86,6 @@ pub fn value_of(objects: &[DeclaredObject], denoted: &Denoted) -> Option<Judged>
     }
 }
 
-/// An expression in parentheses, which is no name.
-pub fn enclosed(inner: Judged) -> Judged
-    ensures { result ≡ spec.enclosed inner }
-{
-    Judged {
-        expr: inner.expr,
-        kind: inner.kind,
-        object: None,
-    }
-}
-
 /// The operators on one integer.
 fn sign_for(operator: UnaryOperator) -> Option<Sign>
     ensures { result ≡ spec.sign_for operator }
@@ -110,7 +99,7 @@ fn sign_for(operator: UnaryOperator) -> Option<Sign>
 }
 
 /// An operator and its one operand, which is an integer (RM 4.5.4, 4.5.6).
-fn signed_of(
+pub fn signed_of(
     alloc: Global,
     operator: UnaryOperator,
     operand: Judged,
@@ -128,36 +117,6 @@ fn signed_of(
         kind: operand.kind,
         object: None,
     }))
-}
-
-/// `not` of a Boolean (RM 4.5.6).
-fn complement_of(alloc: Global, operand: Judged) -> Result<Option<Judged>, AllocError>
-    ensures { IfOk result (λ x. x ≡ spec.complement_of operand) }
-{
-    if !is_boolean(operand.kind) {
-        return Ok(None);
-    }
-    Ok(Some(Judged {
-        expr: Expr::complement(alloc, operand.expr)?,
-        kind: operand.kind,
-        object: None,
-    }))
-}
-
-/// An operator and its one operand (RM 4.5.4, 4.5.6).
-pub fn unary_of(
-    alloc: Global,
-    operator: UnaryOperator,
-    operand: Judged,
-) -> Result<Option<Judged>, AllocError>
-    ensures { IfOk result (λ x. x ≡ spec.unary_of operator operand) }
-{
-    match operator {
-        UnaryOperator::Not => complement_of(alloc, operand),
-        UnaryOperator::Plus | UnaryOperator::Minus | UnaryOperator::Abs => {
-            signed_of(alloc, operator, operand)
-        }
-    }
 }
 
 fn relation_for(operator: RelationalOperator) -> Relation

@@ -5,10 +5,13 @@ use crate::expressions::{denoted, judged, tested};
 use crate::kind::{BOOLEAN, INTEGER};
 use crate::{DeclaredObject, Denoted, Judged, Kind, ScalarType, TypeFault};
 use ada_names::{Entity, Locals, Region, Scope};
+use ada_places::Ranks;
 use ada_syntax::{
     Constancy, Expr, Identifier, LogicalOperator, Name, RelationalOperator, Suffix, UnaryOperator,
 };
-use ada_tree::{Actual, Callee, ExprKind, Object, Relation, Test, TestKind};
+use ada_tree::{
+    Actual, Callee, Expr as Typed, ExprKind, Object, Relation, ShortCircuit, Test, TestKind,
+};
 use cov_base::{Bytes, Failure, Pos};
 use std::alloc::{AllocError, Global};
 use std::test::Fail;
@@ -107,19 +110,27 @@ impl Visible {
     }
 }
 
+/// Two decisions that begin at column 1, one in a condition of the other.
+fn places(alloc: Global) -> Result<Ranks, AllocError> {
+    let mut places = Vec::new(alloc);
+    places.push(at(1))?;
+    places.push(at(1))?;
+    Ranks::new(places)
+}
+
 fn expression(alloc: Global, expr: &Expr) -> Result<Judged, Failure<TypeFault>> {
     let visible = Visible::new(alloc)?;
-    judged(alloc, &visible.scope(), &OBJECTS, expr)
+    judged(alloc, &visible.scope(), &OBJECTS, &places(alloc)?, expr)
 }
 
 fn name(alloc: Global, name: &Name) -> Result<Denoted, Failure<TypeFault>> {
     let visible = Visible::new(alloc)?;
-    denoted(alloc, &visible.scope(), &OBJECTS, name)
+    denoted(alloc, &visible.scope(), &OBJECTS, &places(alloc)?, name)
 }
 
 fn decision(alloc: Global, expr: &Expr) -> Result<Test, Failure<TypeFault>> {
     let visible = Visible::new(alloc)?;
-    tested(alloc, &visible.scope(), &OBJECTS, expr)
+    tested(alloc, &visible.scope(), &OBJECTS, &places(alloc)?, expr)
 }
 
 /// The column of a refusal.
@@ -193,14 +204,88 @@ fn operands_are_of_one_type(rt: HostRuntime) -> Result<(), Fail> {
     Ok(())
 }
 
+/// Two operands of a logical operator or a short-circuit control form.
+fn logical(
+    alloc: Global,
+    left: Expr,
+    operator: LogicalOperator,
+    right: Expr,
+) -> Result<Expr, AllocError> {
+    let mut others = Vec::new(alloc);
+    others.push(right)?;
+    Expr::logical(alloc, operator, left, others)
+}
+
 #[test]
 fn refusals_stand_at_the_smallest_phrase(rt: HostRuntime) -> Result<(), Fail> {
     let alloc = rt.alloc();
-    let mut others = Vec::new(alloc);
-    others.push(complement(alloc, 7, named(alloc, 12, "C")?)?)?;
-    let first = named(alloc, 1, "B")?;
-    let both = Expr::logical(alloc, LogicalOperator::And, first, others)?;
+    let right = complement(alloc, 7, named(alloc, 12, "C")?)?;
+    let both = logical(alloc, named(alloc, 1, "B")?, LogicalOperator::And, right)?;
     assert!(rt; refused_at(expression(alloc, &both)) == Some(7));
+    Ok(())
+}
+
+#[test]
+fn operands_of_forms_are_boolean(rt: HostRuntime) -> Result<(), Fail> {
+    let alloc = rt.alloc();
+    let form = LogicalOperator::AndThen;
+    let left = logical(alloc, named(alloc, 3, "X")?, form, named(alloc, 14, "B")?)?;
+    assert!(rt; refused_at(expression(alloc, &left)) == Some(3));
+    let right = logical(alloc, named(alloc, 3, "B")?, form, named(alloc, 14, "X")?)?;
+    assert!(rt; refused_at(expression(alloc, &right)) == Some(3));
+    Ok(())
+}
+
+/// `(B or else B) = B and then B`
+fn with_nested_decision(alloc: Global) -> Result<Expr, AllocError> {
+    let (first, second) = (named(alloc, 2, "B")?, named(alloc, 12, "B")?);
+    let inner = logical(alloc, first, LogicalOperator::OrElse, second)?;
+    let left = Expr::parenthesized(alloc, at(1), inner)?;
+    let right = named(alloc, 17, "B")?;
+    let relation = Expr::relation(alloc, left, RelationalOperator::Equal, right)?;
+    let last = named(alloc, 28, "B")?;
+    logical(alloc, relation, LogicalOperator::AndThen, last)
+}
+
+/// Whether an expression is a decision with this number, which has this form.
+fn is_decision(expr: &Typed, number: u32, form: ShortCircuit) -> bool {
+    match &expr.kind {
+        ExprKind::Decision(label, test) => label.number == number && has_form(test, form),
+        _ => false,
+    }
+}
+
+fn has_form(test: &Test, form: ShortCircuit) -> bool {
+    match &test.kind {
+        TestKind::ShortCircuit(own, _, _) => *own == form,
+        _ => false,
+    }
+}
+
+/// The left operand of the relation that is the first condition of a decision.
+fn first_operand(expr: &Typed) -> Option<&Typed> {
+    let ExprKind::Decision(_, test) = &expr.kind else {
+        return None;
+    };
+    let TestKind::ShortCircuit(_, first, _) = &test.kind else {
+        return None;
+    };
+    let TestKind::Condition(Pos { col: 1, .. }, operand) = &first.kind else {
+        return None;
+    };
+    let ExprKind::Relation(_, left, _) = &operand.kind else {
+        return None;
+    };
+    Some(left)
+}
+
+#[test]
+fn operands_of_relations_have_decisions_of_their_own(rt: HostRuntime) -> Result<(), Fail> {
+    let value = expression(rt.alloc(), &with_nested_decision(rt.alloc())?)?;
+    assert!(rt; is_decision(&value.expr, 0, ShortCircuit::AndThen));
+    assert!(rt;
+        first_operand(&value.expr).is_some_and(|left| is_decision(left, 1, ShortCircuit::OrElse))
+    );
     Ok(())
 }
 

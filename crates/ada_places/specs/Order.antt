@@ -1,10 +1,10 @@
 -- Places in the order of the text.
-use Rattle.std.specs.Prelude.{◌≡◌, true, List, [], ◌∷◌}
+use Rattle.std.specs.Prelude.{◌≡◌, false, List, [], ◌∷◌}
 use Rattle.ada_meaning.specs.Obligations.{precedes}
 use Rattle.cov_base.specs.declared.position.Pos.{Pos}
 use Rattle.decision_meaning.specs.Pair.{Everywhere}
 
--- each place comes before all later ones
+-- no later place comes before an earlier one
 abbrev pub AreOrdered : List Pos → Type 0
 AreOrdered [] = Unit {0}
-AreOrdered (p ∷ ps) = Everywhere (λ q. precedes p q ≡ true) ps × AreOrdered ps
+AreOrdered (p ∷ ps) = Everywhere (λ q. precedes q p ≡ false) ps × AreOrdered ps

@@ -1,22 +1,25 @@
 //! The places of all obligations of a program.
 
 ghost use Rattle.std.specs.Prelude.{◌≡◌, ◌++◌, map, IfOk, OnOk};
-ghost use Rattle.ada_syntax.specs.Tree.{expr_pos};
-ghost use Rattle.ada_names.specs.Library.{statements_of_item};
 ghost use Rattle.ada_places.specs.Places as spec;
+ghost use Rattle.ada_places.specs.Seen.{seen};
 
+use crate::decisions;
+use crate::found::{FoundDecision, first_wide, ranks_of};
 use crate::ranks::Ranks;
-use crate::walk::{push_decisions, push_declarations, push_statements};
+use crate::walk::{push_declarations, push_statements};
 use ada_names::{declarations_of, statements_of};
 use ada_syntax::{LibraryItem, Unit};
 use cov_base::Pos;
 use std::alloc::{AllocError, Global};
 
-/// The places of all statement obligations and of all decisions of a program.
+/// The places of all statement obligations and of all decisions of a program, and where the first
+/// decision stands that has too many conditions, if one has.
 #[derive(Drop)]
 pub struct Places {
     pub statements: Ranks,
     pub decisions: Ranks,
+    pub wide: Option<Pos>,
 }
 
 /// Adds the places of the statement obligations of a unit.
@@ -40,23 +43,25 @@ fn statement_places(alloc: Global, units: &[Unit]) -> Result<Ranks, AllocError>
     Ranks::new(places)
 }
 
-/// Adds the places of the decisions of a unit.
-fn push_unit_decisions(item: &LibraryItem, decisions: &mut Vec<Pos>) -> Result<(), AllocError>
-    ensures { OnOk result (decisions.new.items ≡ decisions.old.items ++ map expr_pos (spec.all_decisions (statements_of_item item.now))) }
+/// Adds the decisions of a unit.
+#[tactic(auto, using(crate::proofs::Steps::appended, crate::proofs::Steps::mapped))]
+fn push_unit_decisions(item: &LibraryItem, found: &mut Vec<FoundDecision>) -> Result<(), AllocError>
+    ensures { OnOk result (found.new.items ≡ found.old.items ++ map seen (spec.item_decisions item.now)) }
 {
-    push_decisions(statements_of(item), decisions)
+    decisions::push_declarations(declarations_of(item), found)?;
+    decisions::push_statements(statements_of(item), found)
 }
 
-/// The places of all decisions.
+/// All decisions.
 #[tactic(auto, using(crate::proofs::Steps::appended, crate::proofs::Steps::mapped))]
-fn decision_places(alloc: Global, units: &[Unit]) -> Result<Ranks, AllocError>
-    ensures { IfOk result (λ places. places ≡ spec.decision_places units.now) }
+fn all_decisions(alloc: Global, units: &[Unit]) -> Result<Vec<FoundDecision>, AllocError>
+    ensures { IfOk result (λ found. found.items ≡ map seen (spec.decisions_of_units units.now)) }
 {
-    let mut decisions = Vec::new(alloc);
+    let mut found = Vec::new(alloc);
     for unit in units {
-        push_unit_decisions(&unit.item, &mut decisions)?;
+        push_unit_decisions(&unit.item, &mut found)?;
     }
-    Ranks::new(decisions)
+    Ok(found)
 }
 
 /// The places of all statement obligations and of all decisions, in the order of the text. Where there
@@ -64,8 +69,10 @@ fn decision_places(alloc: Global, units: &[Unit]) -> Result<Ranks, AllocError>
 pub fn places_of(alloc: Global, units: &[Unit]) -> Result<Places, AllocError>
     ensures { IfOk result (λ places. places ≡ spec.all_places_of units.now) }
 {
+    let found = all_decisions(alloc, units)?;
     Ok(Places {
         statements: statement_places(alloc, units)?,
-        decisions: decision_places(alloc, units)?,
+        decisions: ranks_of(alloc, found.as_slice())?,
+        wide: first_wide(found.as_slice()),
     })
 }

@@ -1,11 +1,11 @@
 //! Places in the order of the text, and the numbers of the obligations that stand there.
 
-ghost use Rattle.std.specs.Prelude.{◌≡◌, ◌<◌, ◌^◌, length, true, IfOk};
+ghost use Rattle.std.specs.Prelude.{◌≡◌, ◌<◌, ◌^◌, ◌-◌, length, true, not, IfOk};
 ghost use Rattle.std.specs.List.{count_by};
 ghost use Rattle.ada_meaning.specs.Obligations.{precedes};
 ghost use Rattle.ada_tree.specs.View.{label_of};
 ghost use Rattle.ada_places.specs.Order.{AreOrdered};
-ghost use Rattle.ada_places.specs.Places.{label_at};
+ghost use Rattle.ada_places.specs.Places.{label_at, inner_label_at};
 
 use ada_tree::Label;
 use cov_base::Pos;
@@ -19,8 +19,8 @@ fn precedes(a: Pos, b: Pos) -> bool
     a.file < b.file || a.file == b.file && (a.line < b.line || a.line == b.line && a.col < b.col)
 }
 
-/// Places in the order of the text, by which obligations are numbered, and whether each comes before
-/// the next. In sources that are read from the left it does. There are fewer than 2^32.
+/// Places in the order of the text, by which obligations are numbered, and whether none comes before
+/// an earlier one. In sources that are read from the left none does. There are fewer than 2^32.
 #[derive(Drop)]
 pub struct Ranks {
     all: Vec<Pos>,
@@ -66,6 +66,17 @@ impl Ranks {
         }
     }
 
+    /// How many places don't come behind one.
+    fn rank_behind(&self, place: Pos) -> u32
+        ensures { result ≡ count_by (λ q. not (precedes place q)) self.now }
+    {
+        if self.rising {
+            rank_behind_in_order(self.all.as_slice(), place)
+        } else {
+            rank_behind(self.all.as_slice(), place)
+        }
+    }
+
     /// The label of the obligation at this place: its number is how many places come before it.
     pub fn label_at(&self, place: Pos) -> Label
         ensures { label_of result ≡ label_at self.now place }
@@ -75,13 +86,24 @@ impl Ranks {
             place,
         }
     }
+
+    /// The label of the last of the decisions that begin at this place: of one that begins with a
+    /// parenthesis or with `not`, in which no other begins there.
+    pub fn inner_label_at(&self, place: Pos) -> Label
+        ensures { label_of result ≡ inner_label_at self.now place }
+    {
+        Label {
+            number: self.rank_behind(place).saturating_sub(1),
+            place,
+        }
+    }
 }
 
-/// Whether each place comes before the next.
+/// Whether no place comes before an earlier one.
 fn are_ordered(places: &[Pos]) -> bool
     ensures { result ≡ true → AreOrdered places.now }
 {
-    places.is_sorted_by(|one, next| precedes(*one, *next))
+    places.is_sorted_by(|one, next| !precedes(*next, *one))
 }
 
 /// How many places come before one, where they are in order: found by halving.
@@ -91,6 +113,15 @@ fn rank_in_order(places: &[Pos], place: Pos) -> u32
     ensures { result ≡ count_by (λ q. precedes q place) places.now }
 {
     places.partition_point(|other| precedes(*other, place)) as u32
+}
+
+/// How many places don't come behind one, where they are in order: found by halving.
+fn rank_behind_in_order(places: &[Pos], place: Pos) -> u32
+    requires few { length places.now < 2 ^ 32 }
+    requires ordered { AreOrdered places.now }
+    ensures { result ≡ count_by (λ q. not (precedes place q)) places.now }
+{
+    places.partition_point(|other| !precedes(place, *other)) as u32
 }
 
 /// How many places come before one.
@@ -106,4 +137,19 @@ fn rank(places: &[Pos], place: Pos) -> u32
         before += 1;
     }
     before
+}
+
+/// How many places don't come behind one.
+fn rank_behind(places: &[Pos], place: Pos) -> u32
+    requires { length places.now < 2 ^ 32 }
+    ensures { result ≡ count_by (λ q. not (precedes place q)) places.now }
+{
+    let mut up_to = 0;
+    for other in places {
+        if precedes(place, *other) {
+            continue;
+        }
+        up_to += 1;
+    }
+    up_to
 }

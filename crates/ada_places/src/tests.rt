@@ -3,8 +3,8 @@
 use crate::*;
 use ada_syntax::{
     Branch, Constancy, Declaration, DeclarationKind, Expr, HandledStatements, Identifier, Initial,
-    LibraryItem, LoopScheme, Name, Specification, Statement, StatementKind, SubprogramBody,
-    SubtypeIndication, UnaryOperator, Unit,
+    LibraryItem, LogicalOperator, LoopScheme, Name, RelationalOperator, Specification, Statement,
+    StatementKind, SubprogramBody, SubtypeIndication, UnaryOperator, Unit,
 };
 use cov_base::{Bytes, Pos, Seq};
 use std::alloc::{AllocError, Global};
@@ -95,8 +95,18 @@ fn block(alloc: Global) -> Result<Statement, AllocError> {
     ))
 }
 
-/// A procedure of that choice, of `while 1 loop null; end loop;` in lines 6 and 7, and of that block.
-fn unit(alloc: Global) -> Result<Unit, AllocError> {
+/// `exit when (1 and then 1) = 1;` in line 1.
+fn nested(alloc: Global) -> Result<Statement, AllocError> {
+    let mut others = Vec::new(alloc);
+    others.push(condition(1))?;
+    let form = Expr::logical(alloc, LogicalOperator::AndThen, condition(1), others)?;
+    let inner = Expr::parenthesized(alloc, at(1, 8), form)?;
+    let test = Expr::relation(alloc, inner, RelationalOperator::Equal, condition(1))?;
+    Ok(statement(1, StatementKind::Exit(Some(test))))
+}
+
+/// That choice, `while 1 loop null; end loop;` in lines 6 and 7, and that block.
+fn several(alloc: Global) -> Result<Vec<Statement>, AllocError> {
     let mut statements = Vec::new(alloc);
     statements.push(choice(alloc)?)?;
     statements.push(statement(
@@ -104,6 +114,11 @@ fn unit(alloc: Global) -> Result<Unit, AllocError> {
         StatementKind::Loop(LoopScheme::While(condition(6)), null(alloc, 7)?),
     ))?;
     statements.push(block(alloc)?)?;
+    Ok(statements)
+}
+
+/// A procedure of these statements.
+fn unit(alloc: Global, statements: Vec<Statement>) -> Result<Unit, AllocError> {
     Ok(Unit {
         pos: at(0, 1),
         withs: Seq::from(Vec::new(alloc)),
@@ -126,9 +141,9 @@ fn unit(alloc: Global) -> Result<Unit, AllocError> {
 }
 
 /// The places of that unit's obligations.
-fn places(alloc: Global) -> Result<Places, AllocError> {
+fn places(alloc: Global, statements: Vec<Statement>) -> Result<Places, AllocError> {
     let mut units = Vec::new(alloc);
-    units.push(unit(alloc)?)?;
+    units.push(unit(alloc, statements)?)?;
     places_of(alloc, units.as_slice())
 }
 
@@ -137,7 +152,9 @@ fn a_number_is_how_many_stand_before(rt: HostRuntime) -> Result<(), Fail> {
     let Places {
         statements,
         decisions,
-    } = places(rt.alloc())?;
+        wide,
+    } = places(rt.alloc(), several(rt.alloc())?)?;
+    assert!(rt; wide.is_none());
     assert_eq!(rt; statements.label_at(at(1, 1)).number, 0);
     assert_eq!(rt; statements.label_at(at(4, 1)).number, 2);
     assert_eq!(rt; statements.label_at(at(8, 9)).number, 5);
@@ -152,5 +169,15 @@ fn a_condition_stands_behind_not_and_parentheses(rt: HostRuntime) -> Result<(), 
     let decision = negation(rt.alloc(), 3)?;
     assert_eq!(rt; decision.pos(), at(3, 9));
     assert_eq!(rt; condition_place(&decision), at(3, 14));
+    Ok(())
+}
+
+#[test]
+fn an_inner_decision_has_the_number_behind_its_outer_one(rt: HostRuntime) -> Result<(), Fail> {
+    let mut statements = Vec::new(rt.alloc());
+    statements.push(nested(rt.alloc())?)?;
+    let Places { decisions, .. } = places(rt.alloc(), statements)?;
+    assert_eq!(rt; decisions.label_at(at(1, 8)).number, 0);
+    assert_eq!(rt; decisions.inner_label_at(at(1, 8)).number, 1);
     Ok(())
 }

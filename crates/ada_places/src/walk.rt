@@ -1,15 +1,12 @@
-//! The places of obligations in declarations and statements, in the order of the text (Ada RM 2012,
-//! 3.3.1, 5.1).
+//! The places of statement obligations in declarations and statements, in the order of the text (Ada RM
+//! 2012, 3.3.1, 5.1).
 
-ghost use Rattle.std.specs.Prelude.{◌≡◌, ◌++◌, map, OnOk};
-ghost use Rattle.ada_syntax.specs.Tree.{expr_pos};
+ghost use Rattle.std.specs.Prelude.{◌≡◌, ◌++◌, OnOk};
 ghost use Rattle.ada_syntax.specs.StatementView.{statements_of, branches_of};
 ghost use Rattle.ada_names.specs.Naming.{declarations_in};
 ghost use Rattle.ada_places.specs.Places as spec;
 
-use ada_syntax::{
-    Branch, Declaration, DeclarationKind, Expr, LoopScheme, Statement, StatementKind,
-};
+use ada_syntax::{Branch, Declaration, DeclarationKind, Statement, StatementKind};
 use cov_base::{Pos, Seq};
 use std::alloc::AllocError;
 
@@ -41,38 +38,12 @@ pub fn push_declarations(
 }
 
 /// The declarations of a block, if there are any.
-fn declared(declarations: &Option<Seq<Declaration>>) -> &[Declaration]
+pub fn declared(declarations: &Option<Seq<Declaration>>) -> &[Declaration]
     ensures { result.now ≡ declarations_in declarations.now }
 {
     match declarations {
         Some(declarations) => declarations.as_slice(),
         None => &[],
-    }
-}
-
-/// Adds the place of a loop's decision, if it has one.
-fn push_scheme(scheme: &LoopScheme, decisions: &mut Vec<Pos>) -> Result<(), AllocError>
-    ensures { OnOk result (decisions.new.items ≡ decisions.old.items ++ map expr_pos (spec.scheme_decisions scheme.now)) }
-{
-    match scheme {
-        LoopScheme::While(condition) => {
-            decisions.push(condition.pos())?;
-            Ok(())
-        }
-        LoopScheme::Forever | LoopScheme::For(_, _, _) => Ok(()),
-    }
-}
-
-/// Adds the place of the decision behind `exit when`, if there is one.
-fn push_exit(condition: &Option<Expr>, decisions: &mut Vec<Pos>) -> Result<(), AllocError>
-    ensures { OnOk result (decisions.new.items ≡ decisions.old.items ++ map expr_pos (spec.exit_decisions condition.now)) }
-{
-    match condition {
-        Some(condition) => {
-            decisions.push(condition.pos())?;
-            Ok(())
-        }
-        None => Ok(()),
     }
 }
 
@@ -130,54 +101,6 @@ fn push_branches(branches: &[Branch], places: &mut Vec<Pos>) -> Result<(), Alloc
 {
     for branch in branches {
         push_statements(&branch.statements, places)?;
-    }
-    Ok(())
-}
-
-/// Adds the places of the decisions in a statement.
-#[cycle(statement_decisions)]
-#[tactic(auto, using(crate::proofs::Steps::appended, crate::proofs::Steps::mapped))]
-fn push_inner_decisions(statement: &Statement, decisions: &mut Vec<Pos>) -> Result<(), AllocError>
-    ensures { OnOk result (decisions.new.items ≡ decisions.old.items ++ map expr_pos (spec.statement_decisions statement.now)) }
-{
-    match &statement.kind {
-        StatementKind::If(first, others, else_part) => {
-            decisions.push(first.condition.pos())?;
-            push_decisions(&first.statements, decisions)?;
-            push_branch_decisions(others, decisions)?;
-            push_decisions(else_part, decisions)
-        }
-        StatementKind::Loop(scheme, statements) => {
-            push_scheme(scheme, decisions)?;
-            push_decisions(statements, decisions)
-        }
-        StatementKind::Exit(condition) => push_exit(condition, decisions),
-        StatementKind::Block(_, handled) => push_decisions(&handled.statements, decisions),
-        _ => Ok(()),
-    }
-}
-
-/// Adds the places of the decisions in statements.
-#[cycle(statement_decisions)]
-#[tactic(auto, using(crate::proofs::Steps::appended, crate::proofs::Steps::mapped))]
-pub fn push_decisions(statements: &[Statement], decisions: &mut Vec<Pos>) -> Result<(), AllocError>
-    ensures { OnOk result (decisions.new.items ≡ decisions.old.items ++ map expr_pos (spec.all_decisions (statements_of statements.now))) }
-{
-    for statement in statements {
-        push_inner_decisions(statement, decisions)?;
-    }
-    Ok(())
-}
-
-/// Adds the places of the decisions after `elsif`, and of those under it.
-#[cycle(statement_decisions)]
-#[tactic(auto, using(crate::proofs::Steps::appended, crate::proofs::Steps::mapped))]
-fn push_branch_decisions(branches: &[Branch], decisions: &mut Vec<Pos>) -> Result<(), AllocError>
-    ensures { OnOk result (decisions.new.items ≡ decisions.old.items ++ map expr_pos (spec.branch_decisions (branches_of branches.now))) }
-{
-    for branch in branches {
-        decisions.push(branch.condition.pos())?;
-        push_decisions(&branch.statements, decisions)?;
     }
     Ok(())
 }

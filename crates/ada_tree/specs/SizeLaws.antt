@@ -3,16 +3,16 @@ use Rattle.std.specs.Prelude.{◌+◌, ◌≤◌, max, List, [], ◌∷◌, IsTr
 use Rattle.std.proofs.Common.{arith}
 use Rattle.std.proofs.lemmas.Bool.{false≢true}
 use denote.Param.Weighed.{most}
-use Rattle.ada_meaning.specs.Tree.{Expr, Stmt, Stmts}
+use Rattle.std.specs.Prelude.{Bool}
+use Rattle.ada_meaning.specs.Tree.{Expr, Test, operator, Stmt, Stmts}
 use Rattle.ada_tree.specs.Sizes.{expr_size, test_size, stmt_size, stmts_size, branches_size, block_size}
-use Rattle.ada_tree.specs.View.{with_operand, with_operands, is_filled, has_operators, expr_at, expr_of, test_at, test_of, statements_of, branches_of, statement_at, statement_of, block_of}
+use Rattle.ada_tree.specs.View.{with_operand, with_operands, with_tests, neutral_of, is_filled, has_operators, has_forms, expr_at, expr_of, test_at, test_of, statements_of, branches_of, statement_at, statement_of, block_of}
 use Rattle.ada_tree.specs.declared.expr.Expr.TheInside.{Inside}
-use Rattle.ada_tree.specs.declared.expr.Expr.TheDeep.{deep-Expr, deep-ExprKind, deep-Operand}
+use Rattle.ada_tree.specs.declared.expr.Expr.TheDeep.{deep-Expr, deep-ExprKind, deep-Operand, deep-Test, deep-TestKind}
 use Rattle.ada_tree.specs.declared.expr.Operand.{Operand}
 use Rattle.ada_tree.specs.declared.expr.ExprKind.{ExprKind}
 use Rattle.ada_tree.specs.declared.expr.ExprKind.TheVariants as kind
 use Rattle.ada_tree.specs.declared.expr.Test.TheInside.{Inside as InsideTest}
-use Rattle.ada_tree.specs.declared.expr.Test.TheDeep.{deep-Test, deep-TestKind}
 use Rattle.ada_tree.specs.declared.expr.TestKind.{TestKind}
 use Rattle.ada_tree.specs.declared.expr.TestKind.TheVariants as test
 use Rattle.ada_tree.specs.declared.statement.Branch.{Branch}
@@ -42,13 +42,24 @@ expr_is_larger e f = omega (arith, of_kind e.kind f)
     of_kind (kind.Operations a os) h = omega (arith, operations_below a.value os.items h)
     of_kind (kind.Relation r a b) h = omega arith
     of_kind (kind.Complement a) h = omega arith
+    of_kind (kind.Decision l t) h = omega arith
 
-pub test_is_larger : (t : InsideTest) → deep-Test t ≤ test_size (test_of t)
-test_is_larger t = omega (arith, of_kind t.kind)
+tests_below : (neutral : Bool) (t : Test) (us : List Test) →
+    (test_size t ≤ test_size (with_tests neutral t us)) × (most (λ u. test_size u + 1) us ≤ test_size (with_tests neutral t us))
+tests_below neutral t [] = (omega arith, omega arith)
+tests_below neutral t (u ∷ us) = let h = tests_below neutral (operator neutral t u) us in (omega (arith, h.0), omega (arith, h.0, h.1))
+
+forms_below : (neutral : Bool) (t : Test) (us : List Test) → IsTrue (is_filled us) → max (test_size t + 1) (most (λ u. test_size u + 1) us) ≤ test_size (with_tests neutral t us)
+forms_below neutral t [] h = absurd (false≢true h)
+forms_below neutral t (u ∷ us) h = omega (arith, (tests_below neutral t (u ∷ us)).1, (tests_below neutral (operator neutral t u) us).0)
+
+pub test_is_larger : (t : InsideTest) → IsTrue (has_forms t.kind) → deep-Test t ≤ test_size (test_of t)
+test_is_larger t f = omega (arith, of_kind t.kind f)
   where
-    of_kind : (k : TestKind) → deep-TestKind k ≤ test_size (test_at k)
-    of_kind (test.Condition at e) = omega arith
-    of_kind (test.Negation u) = omega arith
+    of_kind : (k : TestKind) → IsTrue (has_forms k) → deep-TestKind k ≤ test_size (test_at k)
+    of_kind (test.Condition at e) h = omega arith
+    of_kind (test.Negation u) h = omega arith
+    of_kind (test.ShortCircuit s u us) h = omega (arith, forms_below (neutral_of s) u.value us.items h)
 
 statements_below : (ss : List Stmt) → most (λ s. stmt_size s + 1) ss ≤ stmts_size (statements_of ss) + 1
 statements_below [] = omega arith

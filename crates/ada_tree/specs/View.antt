@@ -29,7 +29,9 @@ use Rattle.ada_tree.specs.declared.expr.TestKind.{TestKind}
 use Rattle.ada_tree.specs.declared.expr.TestKind.TheVariants as test
 use Rattle.ada_tree.specs.declared.expr.Actual.{Actual}
 use Rattle.ada_tree.specs.declared.expr.Actual.TheVariants as actual
-use Rattle.ada_tree.specs.declared.statement.Label.{Label}
+use Rattle.ada_tree.specs.declared.expr.ShortCircuit.{ShortCircuit}
+use Rattle.ada_tree.specs.declared.expr.ShortCircuit.TheVariants as form
+use Rattle.ada_tree.specs.declared.label.Label.{Label}
 use Rattle.ada_tree.specs.declared.statement.NewValue.{NewValue}
 use Rattle.ada_tree.specs.declared.statement.NewValue.TheVariants as value
 use Rattle.ada_tree.specs.declared.statement.Declaration.{Declaration}
@@ -105,6 +107,24 @@ abbrev pub has_operators : ExprKind → Bool
 has_operators (expr.Operations e os) = is_filled os.items
 has_operators _ = true
 
+abbrev pub label_of : Label → tree.Label
+label_of l = record { number = l.number; place = l.place }
+
+-- the neutral value of a form: the one of the left operand with which the right one is evaluated
+abbrev pub neutral_of : ShortCircuit → Bool
+neutral_of form.AndThen = true
+neutral_of form.OrElse = false
+
+-- a test, and those that a form joins to it, from the left
+abbrev pub with_tests : (neutral : Bool) → tree.Test → List tree.Test → tree.Test
+with_tests neutral t [] = t
+with_tests neutral t (u ∷ us) = with_tests neutral (tree.operator neutral t u) us
+
+-- a form has at least two operands
+abbrev pub has_forms : TestKind → Bool
+has_forms (test.ShortCircuit f t us) = is_filled us.items
+has_forms _ = true
+
 abbrev pub expr_at : ExprKind → tree.Expr
 expr_at (expr.Literal x) = tree.literal x
 expr_at (expr.Constant e) = tree.constant (static_of e)
@@ -113,6 +133,7 @@ expr_at (expr.Signed s e) = tree.signed (sign_of s) e.value
 expr_at (expr.Operations e os) = with_operands e.value os.items
 expr_at (expr.Relation r a b) = tree.relation (relation_of r) a.value b.value
 expr_at (expr.Complement e) = tree.complement e.value
+expr_at (expr.Decision l t) = tree.decision (label_of l) t.value
 
 abbrev pub expr_of : InsideExpr → tree.Expr
 expr_of e = expr_at e.kind
@@ -120,6 +141,7 @@ expr_of e = expr_at e.kind
 abbrev pub test_at : TestKind → tree.Test
 test_at (test.Condition at e) = tree.condition at e
 test_at (test.Negation t) = tree.negation t.value
+test_at (test.ShortCircuit f t us) = with_tests (neutral_of f) t.value us.items
 
 abbrev pub test_of : InsideTest → tree.Test
 test_of t = test_at t.kind
@@ -132,9 +154,6 @@ with_actual (actual.Variable o r) rest = tree.by_variable (object_of o) tree.who
 abbrev pub actuals_of : List Actual → tree.Actuals
 actuals_of [] = tree.no_actual
 actuals_of (a ∷ rest) = with_actual a (actuals_of rest)
-
-abbrev pub label_of : Label → tree.Label
-label_of l = record { number = l.number; place = l.place }
 
 abbrev pub value_of : NewValue → tree.NewValue
 value_of (value.Scalar r e) = tree.scalar_value (range_of r) e

@@ -1,5 +1,6 @@
 //! Expressions and calls (Ada RM 2012, 4.4, 6.4).
 
+use crate::label::Label;
 use crate::types::{Operator, Range, Relation, Sign, Static};
 use cov_base::Pos;
 use std::alloc::{AllocError, Global};
@@ -67,7 +68,7 @@ impl Model for Expr {
 impl Expr {
     ghost use Rattle.std.specs.Prelude.{◌≡◌, IfOk};
     ghost use Rattle.ada_meaning.specs.Tree as tree;
-    ghost use Rattle.ada_tree.specs.View.{static_of, object_of, sign_of, relation_of, with_operands};
+    ghost use Rattle.ada_tree.specs.View.{static_of, object_of, sign_of, relation_of, label_of, with_operands};
 
     /// A numeral, or an enumeration literal by its position number.
     pub fn literal(value: i32) -> Expr
@@ -132,6 +133,16 @@ impl Expr {
         })
     }
 
+    /// A decision that stands in no condition of a statement, with its label.
+    pub fn decision(alloc: Global, label: Label, test: Test) -> Result<Expr, AllocError>
+        ensures { IfOk result (λ e. e ≡ tree.decision (label_of label) test) }
+    {
+        let test = Box::new(alloc, test)?;
+        Ok(Expr {
+            kind: ExprKind::Decision(label, test),
+        })
+    }
+
     /// A first operand, and the operators and operands right of it, if there are any.
     pub fn operations(alloc: Global, first: Expr, others: Vec<Operand>) -> Result<Expr, AllocError>
         ensures { IfOk result (λ e. e ≡ with_operands first others.items) }
@@ -163,8 +174,10 @@ pub enum ExprKind {
     Operations(Box<Expr>, Vec<Operand>),
     /// A relation of two operands (RM 4.5.2).
     Relation(Relation, Box<Expr>, Box<Expr>),
-    /// `not` of what holds no short-circuit control form (RM 4.5.6).
+    /// `not` of what is no short-circuit control form (RM 4.5.6).
     Complement(Box<Expr>),
+    /// A decision: a maximal Boolean expression with at least one short-circuit control form (RM 4.5.1).
+    Decision(Label, Box<Test>),
 }
 
 /// An operator and what stands right of it.
@@ -177,7 +190,7 @@ pub struct Operand {
 
 /// The expression of a decision.
 #[derive(Debug, Drop)]
-#[cycle(test)]
+#[cycle(expr)]
 pub struct Test {
     pub kind: TestKind,
 }
@@ -190,22 +203,25 @@ impl Model for Test {
 
     ghost coded = { coded_test };
 
-    ghost use Rattle.ada_tree.specs.View.{test_of};
+    ghost use Rattle.std.specs.Prelude.{IsTrue};
+    ghost use Rattle.ada_tree.specs.Sizes.{test_size};
+    ghost use Rattle.ada_tree.specs.View.{test_of, has_forms};
 
     ghost view = { test_of };
 
-    ghost use Rattle.ada_tree.specs.Sizes.{test_size};
+    ghost invariant = { λ t. IsTrue (has_forms t.kind) };
 
     ghost size = { test_size };
 
     ghost use Rattle.ada_tree.specs.SizeLaws.{test_is_larger};
 
-    ghost size_decreases = { λ a h. test_is_larger a };
+    ghost size_decreases = { λ a h. test_is_larger a h };
 }
 
 impl Test {
     ghost use Rattle.std.specs.Prelude.{◌≡◌, IfOk};
     ghost use Rattle.ada_meaning.specs.Tree as tree;
+    ghost use Rattle.ada_tree.specs.View.{neutral_of, with_tests};
 
     /// A condition, which begins at this place.
     pub fn condition(pos: Pos, operand: Expr) -> Test
@@ -225,16 +241,44 @@ impl Test {
             kind: TestKind::Negation(operand),
         })
     }
+
+    /// A first operand, and those that a short-circuit control form joins to it, if there are any.
+    pub fn short_circuit(
+        alloc: Global,
+        form: ShortCircuit,
+        first: Test,
+        others: Vec<Test>,
+    ) -> Result<Test, AllocError>
+        ensures { IfOk result (λ t. t ≡ with_tests (neutral_of form) first others.items) }
+    {
+        if others.is_empty() {
+            return Ok(first);
+        }
+        let first = Box::new(alloc, first)?;
+        Ok(Test {
+            kind: TestKind::ShortCircuit(form, first, others),
+        })
+    }
 }
 
 /// The forms of a decision's expression.
 #[derive(Debug, Drop)]
-#[cycle(test)]
+#[cycle(expr)]
 pub enum TestKind {
     /// A condition: an operand without `not` and parentheses, and the place of its first token.
     Condition(Pos, Expr),
     /// `not` of what holds a short-circuit control form, or of a condition.
     Negation(Box<Test>),
+    /// Operands of one short-circuit control form, which group to the left (RM 4.5): the first, and at
+    /// least one more. So a long chain nests no deeper than a short one.
+    ShortCircuit(ShortCircuit, Box<Test>, Vec<Test>),
+}
+
+/// A short-circuit control form (RM 4.5.1).
+#[derive(Clone, Copy, Debug, PartialEq, Eq)]
+pub enum ShortCircuit {
+    AndThen,
+    OrElse,
 }
 
 /// An actual parameter (RM 6.4.1).

@@ -1,22 +1,23 @@
 //! What the view of a program keeps of it.
 
-ghost use Rattle.std.specs.Prelude.{◌≡◌, ◌∷◌, [], ℕ, List, length};
+ghost use Rattle.std.specs.Prelude.{◌≡◌, ◌∷◌, [], ℕ, Bool, true, false, List, length};
 ghost use Rattle.ada_meaning.specs.Tree as tree;
 ghost use Rattle.ada_meaning.specs.Types as type;
 ghost use Rattle.ada_tree.specs.declared.expr.Actual.TheVariants as actual;
 ghost use Rattle.ada_tree.specs.declared.expr.Object.{Object};
 ghost use Rattle.ada_tree.specs.declared.expr.Object.TheVariants as object;
 ghost use Rattle.ada_tree.specs.declared.expr.Operand.{Operand};
+ghost use Rattle.ada_tree.specs.declared.expr.ShortCircuit.TheVariants as form;
 ghost use Rattle.ada_tree.specs.declared.program.Program.{Program};
 ghost use Rattle.ada_tree.specs.declared.statement.Declaration.TheVariants as declaration;
-ghost use Rattle.ada_tree.specs.declared.statement.Label.{Label};
+ghost use Rattle.ada_tree.specs.declared.label.Label.{Label};
 ghost use Rattle.ada_tree.specs.declared.statement.NewValue.{NewValue};
 ghost use Rattle.ada_tree.specs.declared.statement.NewValue.TheVariants as value;
 ghost use Rattle.ada_tree.specs.declared.statement.StatementKind.TheVariants as kind;
 ghost use Rattle.ada_tree.specs.declared.types.Operator.TheVariants as operator;
 ghost use Rattle.ada_tree.specs.declared.types.Range.{Range};
 ghost use Rattle.ada_tree.specs.declared.types.Subtype.TheVariants as subtype;
-ghost use Rattle.ada_tree.specs.View.{actuals_of, declaration_of, label_of, object_of, operator_of, program_of, range_of, statement_at, statements_of, value_of, with_operands};
+ghost use Rattle.ada_tree.specs.View.{actuals_of, declaration_of, label_of, neutral_of, object_of, operator_of, program_of, range_of, statement_at, statements_of, value_of, with_operands, with_tests};
 
 /// A program's view has as many subprograms and the same main procedure; a statement's label and the
 /// order of statements are kept.
@@ -51,4 +52,13 @@ pub fn expressions_keep_their_parts()
     ensures expression { (e : tree.Expr) → actuals_of (actual.Expression e ∷ []) ≡ tree.by_expression e tree.no_actual }
     ensures variable { (o : Object) (r : Range)
         → actuals_of (actual.Variable o r ∷ []) ≡ tree.by_variable (object_of o) tree.whole (range_of r) tree.no_actual }
+{}
+
+/// `and then` goes on where its left operand is True, `or else` where it is False; operands group to the
+/// left (RM 4.5, 4.5.1).
+pub fn forms_keep_their_parts()
+    ensures and_then { neutral_of form.AndThen ≡ true }
+    ensures or_else { neutral_of form.OrElse ≡ false }
+    ensures operands { (neutral : Bool) (t u : tree.Test) (us : List tree.Test)
+        → with_tests neutral t (u ∷ us) ≡ with_tests neutral (tree.operator neutral t u) us }
 {}

@@ -1,16 +1,10 @@
 //! Declarations, statements and blocks (Ada RM 2012, 3.3.1, 5, 6.3).
 
 use crate::expr::{Actual, Callee, Expr, Object, Test};
+use crate::label::Label;
 use crate::types::{Range, Subtype};
-use cov_base::{Pos, Seq};
+use cov_base::Seq;
 use std::marker::Model;
-
-/// The number of a statement obligation or of a decision, and the place of its first token.
-#[derive(Clone, Copy, Debug, PartialEq, Eq)]
-pub struct Label {
-    pub number: u32,
-    pub place: Pos,
-}
 
 /// What an object is set to.
 #[derive(Debug, Drop)]

@@ -1,9 +1,9 @@
-//! A chain of operators, and the objects of a block.
+//! Chains of operators and of short-circuit control forms, and the objects of a block.
 
 use crate::{
-    Block, Declaration, Expr, ExprKind, Label, Operand, Operator, Range, Sign, Statement,
-    StatementKind, Subtype, declarations_keep_their_parts, expressions_keep_their_parts,
-    views_keep_their_parts,
+    Block, Declaration, Expr, ExprKind, Label, Operand, Operator, Range, ShortCircuit, Sign,
+    Statement, StatementKind, Subtype, Test, TestKind, declarations_keep_their_parts,
+    expressions_keep_their_parts, forms_keep_their_parts, views_keep_their_parts,
 };
 use cov_base::{Pos, Seq};
 use std::alloc::{AllocError, Global};
@@ -30,6 +30,39 @@ fn laws_are_called() {
     views_keep_their_parts();
     declarations_keep_their_parts();
     expressions_keep_their_parts();
+    forms_keep_their_parts();
+}
+
+const PLACE: Pos = Pos {
+    file: 0,
+    line: 1,
+    col: 1,
+};
+
+/// `True`, as a condition.
+fn condition() -> Test {
+    Test::condition(PLACE, Expr::literal(1))
+}
+
+#[test]
+fn operands_of_a_form_stand_in_a_chain(rt: HostRuntime) -> Result<(), Fail> {
+    let negated = Test::negation(rt.alloc(), condition())?;
+    let others = vec![in rt.alloc(); negated, condition()]?;
+    let test = Test::short_circuit(rt.alloc(), ShortCircuit::OrElse, condition(), others)?;
+    let label = Label {
+        number: 0,
+        place: PLACE,
+    };
+    let decision = Expr::decision(rt.alloc(), label, test)?;
+    let operands = match &decision.kind {
+        ExprKind::Decision(_, test) => match &test.kind {
+            TestKind::ShortCircuit(_, _, others) => others.len(),
+            _ => 0,
+        },
+        _ => 0,
+    };
+    assert_eq!(rt; operands, 2);
+    Ok(())
 }
 
 /// A block with one object, and this statement in it.
@@ -45,14 +78,9 @@ fn block(alloc: Global, kind: StatementKind) -> Result<Block, AllocError> {
 #[test]
 fn objects_of_inner_blocks_count(rt: HostRuntime) -> Result<(), Fail> {
     let alloc = rt.alloc();
-    let pos = Pos {
-        file: 0,
-        line: 1,
-        col: 1,
-    };
     let label = Label {
         number: 0,
-        place: pos,
+        place: PLACE,
     };
     let inner = block(alloc, StatementKind::Return(label))?;
     let inner = vec![in alloc;

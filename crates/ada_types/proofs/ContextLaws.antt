@@ -77,21 +77,21 @@ module _ (a : Around) (d : Declared) (hidden : Region) (none : hidden ≡ []) (o
   move P h = subst (λ xs. P (regions_of (context a d)) xs) same (subst (λ rs. P rs os) scope_is h)
 
   pub name_in : (n : Name) (r : Result Denoted (Failure TypeFault)) →
-      phrases.Shows (λ x. x) (denoted (hidden ∷ visible_regions a d) os n) (name (hidden ∷ visible_regions a d) os n) r →
-      Shows (λ x. x) (denoted (regions_of (context a d)) d.objects.items n) (phrase (name (regions_of (context a d)) d.objects.items n)) r
-  name_in n r h = move (λ rs xs. Shows (λ x. x) (denoted rs xs n) (phrase (name rs xs n)) r)
-      (phrase_shown (λ x. x) (denoted (hidden ∷ visible_regions a d) os n) (name (hidden ∷ visible_regions a d) os n) r h)
+      phrases.Shows (λ x. x) (denoted a.places.now.decisions (hidden ∷ visible_regions a d) os n) (name a.places.now.decisions (hidden ∷ visible_regions a d) os n) r →
+      Shows (λ x. x) (denoted a.places.now.decisions (regions_of (context a d)) d.objects.items n) (phrase (name a.places.now.decisions (regions_of (context a d)) d.objects.items n)) r
+  name_in n r h = move (λ rs xs. Shows (λ x. x) (denoted a.places.now.decisions rs xs n) (phrase (name a.places.now.decisions rs xs n)) r)
+      (phrase_shown (λ x. x) (denoted a.places.now.decisions (hidden ∷ visible_regions a d) os n) (name a.places.now.decisions (hidden ∷ visible_regions a d) os n) r h)
 
   pub value_in : (t : ScalarSubtype) (i : Initial) (r : Result NewValue (Failure TypeFault)) →
-      Shows value_of (new_value (hidden ∷ visible_regions a d) os t i) (value (hidden ∷ visible_regions a d) os t i) r →
-      Shows value_of (new_value (regions_of (context a d)) d.objects.items t i) (value (regions_of (context a d)) d.objects.items t i) r
-  value_in t i r h = move (λ rs xs. Shows value_of (new_value rs xs t i) (value rs xs t i) r) h
+      Shows value_of (new_value a.places.now.decisions (hidden ∷ visible_regions a d) os t i) (value a.places.now.decisions (hidden ∷ visible_regions a d) os t i) r →
+      Shows value_of (new_value a.places.now.decisions (regions_of (context a d)) d.objects.items t i) (value a.places.now.decisions (regions_of (context a d)) d.objects.items t i) r
+  value_in t i r h = move (λ rs xs. Shows value_of (new_value a.places.now.decisions rs xs t i) (value a.places.now.decisions rs xs t i) r) h
 
-  pub decision_refused : (e : Expr) {f : Failure TypeFault} → phrases.Refused (decision (hidden ∷ visible_regions a d) os e) f → Refused (decision_in (context a d) e) f
-  decision_refused e {f} h = move (λ rs xs. Refused (phrase (decision rs xs e)) f) (in_phrase h)
+  pub decision_refused : (e : Expr) {f : Failure TypeFault} → phrases.Refused (decision a.places.now.decisions (hidden ∷ visible_regions a d) os e) f → Refused (decision_in (context a d) e) f
+  decision_refused e {f} h = move (λ rs xs. Refused (phrase (decision a.places.now.decisions rs xs e)) f) (in_phrase h)
 
-  pub decision_typed : (e : Expr) (t : Test) → tested (hidden ∷ visible_regions a d) os e ≡ Some t → tested_in (context a d) e ≡ Some t
-  decision_typed e t h = move (λ rs xs. tested rs xs e ≡ Some t) h
+  pub decision_typed : (e : Expr) (t : Test) → tested a.places.now.decisions (hidden ∷ visible_regions a d) os e ≡ Some t → tested_in (context a d) e ≡ Some t
+  decision_typed e t h = move (λ rs xs. tested a.places.now.decisions rs xs e ≡ Some t) h
 
 -- inside a declaration, which hides its names
 module _ (a : Around) (d : Declared) (is js : List Identifier) (hidden : Region) (own : hidden ≡ hiding js) (names : js ≡ is) (os : List DeclaredObject) (same : os ≡ d.objects.items) where

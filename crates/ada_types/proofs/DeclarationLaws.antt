@@ -44,14 +44,14 @@ abbrev pub first_of : Context → Constancy → ScalarSubtype → DeclaredObject
 first_of k c t = record { number = k.next; constancy = c; subtype = t }
 
 as_objects : (k : Context) (p : Pos) (is : List Identifier) (c : Constancy) (t : ScalarSubtype) (i : Option Initial) →
-    declared_as k p is c t i ≡ option_map (comes_to k is c t) (declared_objects (inner k is) k.objects (statement_label k p) is (first_of k c t) i)
+    declared_as k p is c t i ≡ option_map (comes_to k is c t) (declared_objects k.places.decisions (inner k is) k.objects (statement_label k p) is (first_of k c t) i)
 as_objects k p is c t None = by (is_variable c) (without_values k.next t.range is)
   where
     by : (b : Bool) (ds : List tree.Declaration) → if◌then◌else◌ {A = Option Elaborated} b (Some (comes_to k is c t ds)) None ≡ option_map (comes_to k is c t)
         (if b then Some ds else None)
     by true ds = refl
     by false ds = refl
-as_objects k p is c t (Some i) = by_value (new_value (inner k is) k.objects t i)
+as_objects k p is c t (Some i) = by_value (new_value k.places.decisions (inner k is) k.objects t i)
   where
     by_count : (b : Bool) (ds : List tree.Declaration) → if◌then◌else◌ {A = Option Elaborated} b (Some (comes_to k is c t ds)) None ≡ option_map (comes_to k is c t)
         (if b then Some ds else None)
@@ -65,32 +65,32 @@ as_objects k p is c t (Some i) = by_value (new_value (inner k is) k.objects t i)
 
 -- a declaration of objects
 module _ (k : Context) (d : Declaration) (is : List Identifier) (c : Constancy) (s : SubtypeIndication) (i : Option Initial) (kind : d.kind ≡ declares.Object is c s i) where
-  pub in_indication : {f : Failure TypeFault} → Refused (indication (inner k is) k.objects s) f → Refused (declaration k d) f
-  in_indication r = up (subst (λ x. Among (indication (inner k is) k.objects s) (parts_of_kind k x)) (sym kind) here) r
+  pub in_indication : {f : Failure TypeFault} → Refused (indication k.places.decisions (inner k is) k.objects s) f → Refused (declaration k d) f
+  in_indication r = up (subst (λ x. Among (indication k.places.decisions (inner k is) k.objects s) (parts_of_kind k x)) (sym kind) here) r
 
-  module _ (t : ScalarSubtype) (typed : indicated (inner k is) k.objects s ≡ Some t) where
-    parts_are : parts (declaration k d) ≡ indication (inner k is) k.objects s ∷ value_behind (inner k is) k.objects (Some t) i
-    parts_are = ap (λ x. parts_of_kind k x) kind ∙ ap (λ x. indication (inner k is) k.objects s ∷ value_behind (inner k is) k.objects x i) typed
+  module _ (t : ScalarSubtype) (typed : indicated k.places.decisions (inner k is) k.objects s ≡ Some t) where
+    parts_are : parts (declaration k d) ≡ indication k.places.decisions (inner k is) k.objects s ∷ value_behind k.places.decisions (inner k is) k.objects (Some t) i
+    parts_are = ap (λ x. parts_of_kind k x) kind ∙ ap (λ x. indication k.places.decisions (inner k is) k.objects s ∷ value_behind k.places.decisions (inner k is) k.objects x i) typed
 
-    pub in_initial : {f : Failure TypeFault} → SomeRefused (value_behind (inner k is) k.objects (Some t) i) f → Refused (declaration k d) f
+    pub in_initial : {f : Failure TypeFault} → SomeRefused (value_behind k.places.decisions (inner k is) k.objects (Some t) i) f → Refused (declaration k d) f
     in_initial (one_of {c = e} a r) = up (subst (λ cs. Among e cs) (sym parts_are) (rule.behind a)) r
     in_initial memory_refused = no_memory
 
-    typed_as : typed_declaration k d ≡ option_map (comes_to k is c t) (declared_objects (inner k is) k.objects (statement_label k d.pos) is (first_of k c t) i)
+    typed_as : typed_declaration k d ≡ option_map (comes_to k is c t) (declared_objects k.places.decisions (inner k is) k.objects (statement_label k d.pos) is (first_of k c t) i)
     typed_as = ap (λ x. typed_kind k d.pos x) kind ∙ (ap (λ x. option_and_then (λ t. declared_as k d.pos is c t i) x) typed ∙ as_objects k d.pos is c t i)
 
-    pub not_declared : (l : tree.Label) {f : Failure TypeFault} → l ≡ statement_label k d.pos → list_all holds (value_behind (inner k is) k.objects (Some t) i) ≡ true →
-        declared_objects (inner k is) k.objects l is (first_of k c t) i ≡ None → f ≡ mistyped d.pos → Refused (declaration k d) f
+    pub not_declared : (l : tree.Label) {f : Failure TypeFault} → l ≡ statement_label k d.pos → list_all holds (value_behind k.places.decisions (inner k is) k.objects (Some t) i) ≡ true →
+        declared_objects k.places.decisions (inner k is) k.objects l is (first_of k c t) i ≡ None → f ≡ mistyped d.pos → Refused (declaration k d) f
     not_declared l label all none at =
-        let some : is_some (indicated (inner k is) k.objects s) ≡ true = ap (λ x. is_some x) typed in
+        let some : is_some (indicated k.places.decisions (inner k is) k.objects s) ≡ true = ap (λ x. is_some x) typed in
         let test : is_some (typed_declaration k d) ≡ false = ap (λ x. is_some x)
-        (typed_as ∙ ap (λ x. option_map (comes_to k is c t) x) (ap (λ m. declared_objects (inner k is) k.objects m is (first_of k c t) i) (sym label) ∙ none)) in
+        (typed_as ∙ ap (λ x. option_map (comes_to k is c t) x) (ap (λ m. declared_objects k.places.decisions (inner k is) k.objects m is (first_of k c t) i) (sym label) ∙ none)) in
         breaks (declaration k d) at (ap (λ cs. list_all holds cs) parts_are ∙ rw (some, all) refl) test
 
     pub now_declared : (l : tree.Label) (ds : List tree.Declaration) → l ≡ statement_label k d.pos →
-        declared_objects (inner k is) k.objects l is (first_of k c t) i ≡ Some ds → typed_declaration k d ≡ Some (comes_to k is c t ds)
+        declared_objects k.places.decisions (inner k is) k.objects l is (first_of k c t) i ≡ Some ds → typed_declaration k d ≡ Some (comes_to k is c t ds)
     now_declared l ds label some = typed_as ∙ ap (λ x. option_map (comes_to k is c t) x)
-        (ap (λ m. declared_objects (inner k is) k.objects m is (first_of k c t) i) (sym label) ∙ some)
+        (ap (λ m. declared_objects k.places.decisions (inner k is) k.objects m is (first_of k c t) i) (sym label) ∙ some)
 
 -- a context with objects in its innermost region
 placed : (seen : Region) (ls : List Region) (n : ℕ) (is : List Identifier) (os : List DeclaredObject) (m : ℕ) (l : Looping) (places : Places) → IsOpen ls →

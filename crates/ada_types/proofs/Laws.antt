@@ -29,10 +29,10 @@ use Rattle.ada_types.specs.declared.fault.CheckFault.{CheckFault}
 use Rattle.ada_types.specs.declared.statements.Target.{Target}
 use Rattle.ada_types.specs.Typing as spec
 use Rattle.ada_types.specs.Typing.{Context, Elaborated, Chosen, inner, regions_of, past, in_loop, of_block, statement_label, decision_label, tested_in, objects_in, objects_in_all, objects_in_branches}
-use Rattle.ada_types.specs.Legal.{typed, program_of_main, elaborated}
+use Rattle.ada_types.specs.Legal.{typed, past_limits, program_of_main, elaborated}
 use Rattle.ada_types.specs.Rules as rule
 use Rattle.ada_types.specs.Rules.{Construct, parts, holds, Among, here, Offends, itself, within}
-use Rattle.ada_types.specs.Checked.{Refuses, breaks_names, breaks_types, declares_too_much}
+use Rattle.ada_types.specs.Checked.{Refuses, breaks_names, breaks_types, passes_a_limit}
 use Rattle.ada_expressions.proofs.Laws as phrase
 
 and_left : (a b : Bool) → (a && b) ≡ true → a ≡ true
@@ -90,31 +90,31 @@ declarations_parts (Some x) ds h = and_true (is_some (spec.typed_declarations x.
     ∙ mapped_there (spec.with_earlier x) (spec.typed_declarations x.context ds) h
 
 kind_parts : (k : Context) (p : Pos) (x : DeclarationKind) → is_some (spec.typed_kind k p x) ≡ true → list_all holds (rule.parts_of_kind k x) ≡ true
-kind_parts k p (declares.Object is c s i) h = by (spec.indicated (inner k is) k.objects s) i h
+kind_parts k p (declares.Object is c s i) h = by (spec.indicated k.places.decisions (inner k is) k.objects s) i h
   where
     by : (o : Option ScalarSubtype) (i : Option Initial) → is_some (option_and_then (λ t. spec.declared_as k p is c t i) o) ≡ true →
-        (is_some o && list_all holds (rule.value_behind (inner k is) k.objects o i)) ≡ true
+        (is_some o && list_all holds (rule.value_behind k.places.decisions (inner k is) k.objects o i)) ≡ true
     by None i h = h
     by (Some t) None h = refl
-    by (Some t) (Some j) h = and_true (is_some (spec.new_value (inner k is) k.objects t j))
-        ∙ first_there (spec.declared_set k p is c t) (spec.new_value (inner k is) k.objects t j) h
+    by (Some t) (Some j) h = and_true (is_some (spec.new_value k.places.decisions (inner k is) k.objects t j))
+        ∙ first_there (spec.declared_set k p is c t) (spec.new_value k.places.decisions (inner k is) k.objects t j) h
 kind_parts k p (declares.Type n t) h = refl
 kind_parts k p (declares.Subtype n s) h = refl
 kind_parts k p (declares.Exception is) h = refl
 kind_parts k p (declares.Pragma a) h = refl
 
 assignment_parts : (k : Context) (p : Pos) (o : Option Denoted) (i : Initial) →
-    is_some (option_and_then (λ t. option_map (spec.assigned (statement_label k p) t) (spec.new_value (regions_of k) k.objects t.subtype i))
+    is_some (option_and_then (λ t. option_map (spec.assigned (statement_label k p) t) (spec.new_value k.places.decisions (regions_of k) k.objects t.subtype i))
     (option_and_then (spec.target_of k.objects) o)) ≡ true →
     (is_some o && list_all holds (rule.value_assigned k (option_and_then (spec.target_of k.objects) o) i)) ≡ true
 assignment_parts k p None i h = h
 assignment_parts k p (Some d) i h = by (spec.target_of k.objects d) h
   where
     by : (t : Option Target) → is_some (option_and_then (λ t. option_map (spec.assigned (statement_label k p) t)
-        (spec.new_value (regions_of k) k.objects t.subtype i)) t) ≡ true → list_all holds (rule.value_assigned k t i) ≡ true
+        (spec.new_value k.places.decisions (regions_of k) k.objects t.subtype i)) t) ≡ true → list_all holds (rule.value_assigned k t i) ≡ true
     by None h = absurd (false≢true h)
-    by (Some t) h = and_true (is_some (spec.new_value (regions_of k) k.objects t.subtype i))
-        ∙ mapped_there (spec.assigned (statement_label k p) t) (spec.new_value (regions_of k) k.objects t.subtype i) h
+    by (Some t) h = and_true (is_some (spec.new_value k.places.decisions (regions_of k) k.objects t.subtype i))
+        ∙ mapped_there (spec.assigned (statement_label k p) t) (spec.new_value k.places.decisions (regions_of k) k.objects t.subtype i) h
 
 -- an if statement, and what follows `elsif`
 conditional_parts : {A B : Type 0} (l : tree.Label) (f : A → B → Chosen) (test : Option A) (first : Option B) (others : Option (List Chosen)) (other : Option (List tree.Stmt)) →
@@ -147,8 +147,8 @@ block_parts (Some x) g h = and_true (is_some (spec.typed_statements x.context (s
     ∙ handled_there x.context g (mapped_there (λ ss. tree.block_statement (spec.block_of x.declarations ss)) (spec.typed_handled x.context g) h)
 
 pass_statement : (k : Context) (s : source_statement.Statement) → is_some (spec.typed_statement k s) ≡ true → list_all holds (rule.parts_of_statement k s) ≡ true
-pass_statement k (source_statement.call p n) h = one_there (spec.called (statement_label k p)) (denoted (regions_of k) k.objects n) h
-pass_statement k (source_statement.assignment p n i) h = assignment_parts k p (denoted (regions_of k) k.objects n) i h
+pass_statement k (source_statement.call p n) h = one_there (spec.called (statement_label k p)) (denoted k.places.decisions (regions_of k) k.objects n) h
+pass_statement k (source_statement.assignment p n i) h = assignment_parts k p (denoted k.places.decisions (regions_of k) k.objects n) i h
 pass_statement k (source_statement.conditional p e ss bs es) h = conditional_parts (statement_label k p) (spec.chosen (decision_label k e)) (tested_in k e)
     (spec.typed_statements k ss) (spec.typed_branches (past k (objects_in_all ss)) bs) (spec.typed_statements (past k (objects_in_all ss + objects_in_branches bs)) es) h
 pass_statement k (source_statement.repeat p scheme.Forever ss) h = and_true (is_some (spec.typed_statements (in_loop k) ss))
@@ -172,8 +172,8 @@ pass (rule.unit library places n u) h = unit_parts (spec.is_plain_item u.item)
 pass (rule.declarations k []) h = refl
 pass (rule.declarations k (d ∷ ds)) h = declarations_parts (spec.typed_declaration k d) ds h
 pass (rule.declaration k d) h = kind_parts k d.pos d.kind h
-pass (rule.indication regions objects s) h = one_there (spec.unconstrained s.constraint) (denoted regions objects s.mark) h
-pass (rule.value regions objects s i) h = one_there (spec.value_for s i.others) (judged regions objects i.value) h
+pass (rule.indication places regions objects s) h = one_there (spec.unconstrained s.constraint) (denoted places regions objects s.mark) h
+pass (rule.value places regions objects s i) h = one_there (spec.value_for s i.others) (judged places regions objects i.value) h
 pass (rule.sequence k source_statement.no_statements) h = refl
 pass (rule.sequence k (source_statement.then_also s ss)) h = both_there (λ x xs. x ∷ xs) (spec.typed_statement k s) (spec.typed_statements (past k (objects_in s)) ss) h
 pass (rule.statement k s) h = pass_statement k s h
@@ -208,13 +208,13 @@ untyped : (units : List LibraryUnit) (o : Option ℕ) → typed units ≡ None �
 untyped units None h = refl
 untyped units (Some m) h = rw h refl
 
-too_large : (units : List LibraryUnit) (o : Option ℕ) (ss : List Subprogram) (p : Pos) → typed units ≡ Some ss → spec.too_many_words units ss ≡ Some p →
+past_one : (units : List LibraryUnit) (o : Option ℕ) (ss : List Subprogram) (p : Pos) → typed units ≡ Some ss → past_limits units ss ≡ Some p →
     option_and_then (program_of_main units) o ≡ None
-too_large units None ss p all h = refl
-too_large units (Some m) ss p all h = rw (all, h) refl
+past_one units None ss p all h = refl
+past_one units (Some m) ss p all h = rw (all, h) refl
 
 pub refused_is_illegal : ((units : List LibraryUnit) (main : List ℕ) (p : Pos) → BreaksNames units main p → named units main ≡ false) →
     (units : List LibraryUnit) (main : List ℕ) (fault : CheckFault) → Refuses units (str_to_ascii_lowercase main) (Fault fault) → elaborated units main ≡ None
 refused_is_illegal unnamed units main _ (breaks_names {p = p} o) = rw (unnamed units (str_to_ascii_lowercase main) p o) refl
 refused_is_illegal unnamed units main _ (breaks_types h o) = rw h (untyped units (main_from 0 units (str_to_ascii_lowercase main)) (none_where (typed units) (offends_fails o)))
-refused_is_illegal unnamed units main _ (declares_too_much {ss = ss} {p = p} h all large) = rw h (too_large units (main_from 0 units (str_to_ascii_lowercase main)) ss p all large)
+refused_is_illegal unnamed units main _ (passes_a_limit {ss = ss} {p = p} h all large) = rw h (past_one units (main_from 0 units (str_to_ascii_lowercase main)) ss p all large)

@@ -10,7 +10,7 @@ use Rattle.ada_names.specs.Rules as names
 use Rattle.ada_names.specs.Answer as naming
 use Rattle.ada_expressions.specs.declared.fault.TypeFault.{TypeFault}
 use Rattle.ada_types.specs.Typing.{too_many_words, block_words, word_limit}
-use Rattle.ada_types.specs.Legal.{typed, program_with, typed_program}
+use Rattle.ada_types.specs.Legal.{typed, past_limits, program_with, typed_program}
 use Rattle.ada_types.specs.Rules.{program}
 use Rattle.ada_types.specs.Answer.{Refused, breaks_a_rule, no_memory}
 use Rattle.ada_types.specs.CheckCode.{naming_of, typing_of}
@@ -24,7 +24,7 @@ pub refused_by_types : (us : List LibraryUnit) (main : List ℕ) (f : Failure Ty
 refused_by_types us main _ h (breaks_a_rule o) = breaks_types h o
 refused_by_types us main _ h no_memory = memory_is_out
 
-pub a_program : (us : List LibraryUnit) (main : List ℕ) (m : ℕ) (ss : List Subprogram) → main_from 0 us main ≡ Some m → typed us ≡ Some ss → too_many_words us ss ≡ None →
+pub a_program : (us : List LibraryUnit) (main : List ℕ) (m : ℕ) (ss : List Subprogram) → main_from 0 us main ≡ Some m → typed us ≡ Some ss → past_limits us ss ≡ None →
     typed_program us main ≡ Some (program_with m ss)
 a_program us main m ss first all few = rw (first, all, few) refl
 

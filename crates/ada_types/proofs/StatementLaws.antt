@@ -38,26 +38,26 @@ use Rattle.ada_types.proofs.Blame.{up, breaks, drop_item}
 use Rattle.ada_types.proofs.ContextLaws.{past_is, nothing_passed, then_passed, shown}
 
 module _ (k : Context) (p : Pos) (n : Name) where
-  pub in_call : {f : Failure TypeFault} → Refused (phrase (phrases.name (regions_of k) k.objects n)) f → Refused (statement k (source.call p n)) f
+  pub in_call : {f : Failure TypeFault} → Refused (phrase (phrases.name k.places.decisions (regions_of k) k.objects n)) f → Refused (statement k (source.call p n)) f
   in_call r = up here r
 
   module _ (i : Initial) where
-    pub in_target : {f : Failure TypeFault} → Refused (phrase (phrases.name (regions_of k) k.objects n)) f → Refused (statement k (source.assignment p n i)) f
+    pub in_target : {f : Failure TypeFault} → Refused (phrase (phrases.name k.places.decisions (regions_of k) k.objects n)) f → Refused (statement k (source.assignment p n i)) f
     in_target r = up here r
 
-    module _ (d : Denoted) (means : denoted (regions_of k) k.objects n ≡ Some d) where
+    module _ (d : Denoted) (means : denoted k.places.decisions (regions_of k) k.objects n ≡ Some d) where
       pub no_target : {f : Failure TypeFault} → target_of k.objects d ≡ None → f ≡ mistyped p → Refused (statement k (source.assignment p n i)) f
       no_target none at = breaks (statement k (source.assignment p n i)) at (rw (means, none) refl) (rw (means, none) refl)
 
-      pub in_new_value : (t : Target) {f : Failure TypeFault} → target_of k.objects d ≡ Some t → Refused (value (regions_of k) k.objects t.subtype i) f →
+      pub in_new_value : (t : Target) {f : Failure TypeFault} → target_of k.objects d ≡ Some t → Refused (value k.places.decisions (regions_of k) k.objects t.subtype i) f →
           Refused (statement k (source.assignment p n i)) f
       in_new_value t some r =
           let target : target_in k n ≡ Some t = ap (λ o. option_and_then (target_of k.objects) o) means ∙ some in
-          let among : Among (value (regions_of k) k.objects t.subtype i) (parts (statement k (source.assignment p n i))) = rule.behind
-          (subst (λ o. Among (value (regions_of k) k.objects t.subtype i) (value_assigned k o i)) (sym target) here) in
+          let among : Among (value k.places.decisions (regions_of k) k.objects t.subtype i) (parts (statement k (source.assignment p n i))) = rule.behind
+          (subst (λ o. Among (value k.places.decisions (regions_of k) k.objects t.subtype i) (value_assigned k o i)) (sym target) here) in
           up among r
 
-      pub an_assignment : (t : Target) (v : tree.NewValue) → target_of k.objects d ≡ Some t → new_value (regions_of k) k.objects t.subtype i ≡ Some v →
+      pub an_assignment : (t : Target) (v : tree.NewValue) → target_of k.objects d ≡ Some t → new_value k.places.decisions (regions_of k) k.objects t.subtype i ≡ Some v →
           typed_statement k (source.assignment p n i) ≡ Some (assigned (statement_label k p) t v)
       an_assignment t v some typed = rw (means, some, typed) refl
 

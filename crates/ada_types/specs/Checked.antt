@@ -11,16 +11,15 @@ use Rattle.ada_names.specs.Naming.{named}
 use Rattle.ada_names.specs.Rules.{BreaksNames}
 use Rattle.ada_types.specs.declared.fault.CheckFault.{CheckFault}
 use Rattle.ada_types.specs.declared.fault.CheckFault.TheVariants.{Naming, Typing, Limit}
-use Rattle.ada_types.specs.Legal.{typed}
+use Rattle.ada_types.specs.Legal.{typed, past_limits}
 use Rattle.ada_types.specs.Rules.{BreaksTypes}
-use Rattle.ada_types.specs.Typing.{too_many_words}
 
 -- units with this main procedure, whose name is in lower case, are refused: by the rules on names; or, where these hold, by those on types;
--- or, where these hold too, by the limit on declared words
+-- or, where these hold too, by the limits on declared words and on conditions
 pub data Refuses (units : List LibraryUnit) (main : List ℕ) : Failure CheckFault → Type 0 where
   breaks_names : {p : Pos} → BreaksNames units main p → Refuses units main (Fault (Naming (record { pos = p })))
   breaks_types : {p : Pos} → named units main ≡ true → BreaksTypes units p → Refuses units main (Fault (Typing (record { pos = p })))
-  declares_too_much : {ss : List Subprogram} {p : Pos} → named units main ≡ true → typed units ≡ Some ss → too_many_words units ss ≡ Some p → Refuses units main (Fault (Limit (record { pos = p })))
+  passes_a_limit : {ss : List Subprogram} {p : Pos} → named units main ≡ true → typed units ≡ Some ss → past_limits units ss ≡ Some p → Refuses units main (Fault (Limit (record { pos = p })))
   memory_is_out : Refuses units main WantOfMemory
 
 -- what the limits ask of a unit

@@ -28,16 +28,17 @@ use Rattle.ada_expressions.specs.Phrases.{first_token as phrase_pos, holds as ph
 use Rattle.ada_types.specs.declared.statements.Target.{Target}
 use Rattle.ada_types.specs.Typing.{Context, inner, regions_of, past, in_loop, of_block, indicated, new_value, Elaborated, typed_declaration, typed_declarations, target_in, objects_in, objects_in_all, objects_in_branches, typed_statement, typed_statements, typed_branches, context_of, typed_unit, typed_units}
 
--- the parts of a text that a rule on types speaks of, with the regions that are visible there and the objects that are declared
+-- the parts of a text that a rule on types speaks of, with the places of all decisions, the regions that are visible there and the objects
+-- that are declared
 pub data Construct : Type 0 where
   program : List LibraryUnit → Construct
   -- a unit by its number, in a library; with the places of all obligations
   unit : Region → Places → ℕ → LibraryUnit → Construct
   declarations : Context → List Declaration → Construct
   declaration : Context → Declaration → Construct
-  indication : List Region → List DeclaredObject → SubtypeIndication → Construct
+  indication : List Pos → List Region → List DeclaredObject → SubtypeIndication → Construct
   -- what an object of this subtype is set to
-  value : List Region → List DeclaredObject → ScalarSubtype → Initial → Construct
+  value : List Pos → List Region → List DeclaredObject → ScalarSubtype → Initial → Construct
   sequence : Context → source_statement.Statements → Construct
   statement : Context → source_statement.Statement → Construct
   -- `elsif` and what follows it
@@ -72,8 +73,8 @@ first_token (program units) = beginning
 first_token (unit library places n u) = u.pos
 first_token (declarations k ds) = first_of_declarations ds
 first_token (declaration k d) = d.pos
-first_token (indication regions objects s) = name_pos s.mark
-first_token (value regions objects s i) = first_of_value i.others i.value
+first_token (indication places regions objects s) = name_pos s.mark
+first_token (value places regions objects s i) = first_of_value i.others i.value
 first_token (sequence k ss) = first_of_statements ss
 first_token (statement k s) = statement_pos s
 first_token (branches k bs) = first_of_branches bs
@@ -92,22 +93,22 @@ abbrev pub parts_of_declarations : Context → List Declaration → List Constru
 parts_of_declarations k [] = []
 parts_of_declarations k (d ∷ ds) = declaration k d ∷ declarations_behind (typed_declaration k d) ds
 
-abbrev pub value_behind : List Region → List DeclaredObject → Option ScalarSubtype → Option Initial → List Construct
-value_behind regions objects None i = []
-value_behind regions objects (Some s) None = []
-value_behind regions objects (Some s) (Some i) = value regions objects s i ∷ []
+abbrev pub value_behind : List Pos → List Region → List DeclaredObject → Option ScalarSubtype → Option Initial → List Construct
+value_behind places regions objects None i = []
+value_behind places regions objects (Some s) None = []
+value_behind places regions objects (Some s) (Some i) = value places regions objects s i ∷ []
 
 abbrev pub parts_of_kind : Context → DeclarationKind → List Construct
 parts_of_kind k (declares.Object is c s i) =
-    indication (inner k is) k.objects s ∷ value_behind (inner k is) k.objects (indicated (inner k is) k.objects s) i
+    indication k.places.decisions (inner k is) k.objects s ∷ value_behind k.places.decisions (inner k is) k.objects (indicated k.places.decisions (inner k is) k.objects s) i
 parts_of_kind k _ = []
 
 abbrev pub value_assigned : Context → Option Target → Initial → List Construct
 value_assigned k None i = []
-value_assigned k (Some t) i = value (regions_of k) k.objects t.subtype i ∷ []
+value_assigned k (Some t) i = value k.places.decisions (regions_of k) k.objects t.subtype i ∷ []
 
 abbrev pub decision_in : Context → source.Expr → Construct
-decision_in k e = phrase (decision (regions_of k) k.objects e)
+decision_in k e = phrase (decision k.places.decisions (regions_of k) k.objects e)
 
 abbrev pub parts_of_scheme : Context → LoopScheme → List Construct
 parts_of_scheme k scheme.Forever = []
@@ -126,8 +127,8 @@ abbrev pub parts_of_block : Context → List Declaration → source_statement.St
 parts_of_block k ds ss = declarations k ds ∷ sequence_behind (typed_declarations k ds) ss
 
 abbrev pub parts_of_statement : Context → source_statement.Statement → List Construct
-parts_of_statement k (source_statement.call p n) = phrase (name (regions_of k) k.objects n) ∷ []
-parts_of_statement k (source_statement.assignment p n i) = phrase (name (regions_of k) k.objects n) ∷ value_assigned k (target_in k n) i
+parts_of_statement k (source_statement.call p n) = phrase (name k.places.decisions (regions_of k) k.objects n) ∷ []
+parts_of_statement k (source_statement.assignment p n i) = phrase (name k.places.decisions (regions_of k) k.objects n) ∷ value_assigned k (target_in k n) i
 parts_of_statement k (source_statement.conditional p e ss bs es) =
     decision_in k e ∷ sequence k ss ∷ branches (past k (objects_in_all ss)) bs ∷ sequence (past k (objects_in_all ss + objects_in_branches bs)) es ∷ []
 parts_of_statement k (source_statement.repeat p s ss) = parts_of_scheme k s ++ sequence (in_loop k) ss ∷ []
@@ -151,8 +152,8 @@ parts (program units) = units_from (library_of units).region (all_places_of unit
 parts (unit library places n u) = parts_of_unit (context_of library places n u) u
 parts (declarations k ds) = parts_of_declarations k ds
 parts (declaration k d) = parts_of_kind k d.kind
-parts (indication regions objects s) = phrase (name regions objects s.mark) ∷ []
-parts (value regions objects s i) = phrase (expression regions objects i.value) ∷ []
+parts (indication places regions objects s) = phrase (name places regions objects s.mark) ∷ []
+parts (value places regions objects s i) = phrase (expression places regions objects i.value) ∷ []
 parts (sequence k ss) = parts_of_statements k ss
 parts (statement k s) = parts_of_statement k s
 parts (branches k bs) = parts_of_branches k bs
@@ -164,8 +165,8 @@ holds (program units) = is_some (typed_units (library_of units).region (all_plac
 holds (unit library places n u) = is_some (typed_unit library places n u)
 holds (declarations k ds) = is_some (typed_declarations k ds)
 holds (declaration k d) = is_some (typed_declaration k d)
-holds (indication regions objects s) = is_some (indicated regions objects s)
-holds (value regions objects s i) = is_some (new_value regions objects s i)
+holds (indication places regions objects s) = is_some (indicated places regions objects s)
+holds (value places regions objects s i) = is_some (new_value places regions objects s i)
 holds (sequence k ss) = is_some (typed_statements k ss)
 holds (statement k s) = is_some (typed_statement k s)
 holds (branches k bs) = is_some (typed_branches k bs)

@@ -93,16 +93,16 @@ abbrev pub unconstrained : Option Bounds → Denoted → Option ScalarSubtype
 unconstrained None d = marked d
 unconstrained (Some b) d = None
 
-abbrev pub indicated : List Region → List DeclaredObject → SubtypeIndication → Option ScalarSubtype
-indicated regions objects s = option_and_then (unconstrained s.constraint) (denoted regions objects s.mark)
+abbrev pub indicated : List Pos → List Region → List DeclaredObject → SubtypeIndication → Option ScalarSubtype
+indicated places regions objects s = option_and_then (unconstrained s.constraint) (denoted places regions objects s.mark)
 
 -- what an object of this subtype is set to (RM 3.3.1, 5.2): an expression of its type, without `others`
 abbrev pub value_for : ScalarSubtype → List Pos → Judged → Option tree.NewValue
 value_for s [] x = if fits s.of x.kind then Some (tree.scalar_value (range_of s.range) x.expr) else None
 value_for s (p ∷ ps) x = None
 
-abbrev pub new_value : List Region → List DeclaredObject → ScalarSubtype → Initial → Option tree.NewValue
-new_value regions objects s i = option_and_then (value_for s i.others) (judged regions objects i.value)
+abbrev pub new_value : List Pos → List Region → List DeclaredObject → ScalarSubtype → Initial → Option tree.NewValue
+new_value places regions objects s i = option_and_then (value_for s i.others) (judged places regions objects i.value)
 
 -- what a declaration comes to
 pub record Elaborated : Type 0 where
@@ -143,11 +143,11 @@ declared_set k p is c t v =
 
 abbrev pub declared_as : Context → Pos → List Identifier → Constancy → ScalarSubtype → Option Initial → Option Elaborated
 declared_as k p is c t None = declared_bare k is c t
-declared_as k p is c t (Some i) = option_and_then (declared_set k p is c t) (new_value (inner k is) k.objects t i)
+declared_as k p is c t (Some i) = option_and_then (declared_set k p is c t) (new_value k.places.decisions (inner k is) k.objects t i)
 
 -- a declaration (RM 3.3.1): so far of objects alone
 abbrev pub typed_kind : Context → Pos → DeclarationKind → Option Elaborated
-typed_kind k p (declares.Object is c s i) = option_and_then (λ t. declared_as k p is c t i) (indicated (inner k is) k.objects s)
+typed_kind k p (declares.Object is c s i) = option_and_then (λ t. declared_as k p is c t i) (indicated k.places.decisions (inner k is) k.objects s)
 typed_kind k p _ = None
 
 abbrev pub typed_declaration : Context → Declaration → Option Elaborated
@@ -179,7 +179,7 @@ target_of objects (denotes.Entity (entity.Object n)) = option_and_then variable_
 target_of objects _ = None
 
 abbrev pub target_in : Context → source.Name → Option Target
-target_in k n = option_and_then (target_of k.objects) (denoted (regions_of k) k.objects n)
+target_in k n = option_and_then (target_of k.objects) (denoted k.places.decisions (regions_of k) k.objects n)
 
 abbrev pub assigned : tree.Label → Target → tree.NewValue → tree.Stmt
 assigned l t v = tree.assignment l (tree.local_object t.number) tree.whole v
@@ -204,7 +204,7 @@ conditional l first others other =
 
 -- a decision in a context
 abbrev pub tested_in : Context → source.Expr → Option tree.Test
-tested_in k e = tested (regions_of k) k.objects e
+tested_in k e = tested k.places.decisions (regions_of k) k.objects e
 
 -- `exit` stands in a loop (RM 5.7)
 abbrev pub exits : Looping → tree.Stmt → Option tree.Stmt
@@ -244,8 +244,8 @@ abbrev mutual
   pub typed_statement : Context → source_statement.Statement → Option tree.Stmt
   typed_statement k (source_statement.null p) = Some (tree.null_statement (statement_label k p))
   typed_statement k (source_statement.assignment p n i) =
-      option_and_then (λ t. option_map (assigned (statement_label k p) t) (new_value (regions_of k) k.objects t.subtype i)) (target_in k n)
-  typed_statement k (source_statement.call p n) = option_and_then (called (statement_label k p)) (denoted (regions_of k) k.objects n)
+      option_and_then (λ t. option_map (assigned (statement_label k p) t) (new_value k.places.decisions (regions_of k) k.objects t.subtype i)) (target_in k n)
+  typed_statement k (source_statement.call p n) = option_and_then (called (statement_label k p)) (denoted k.places.decisions (regions_of k) k.objects n)
   typed_statement k (source_statement.conditional p e ss bs es) =
       conditional (statement_label k p)
       (option_and_then (λ t. option_map (chosen (decision_label k e) t) (typed_statements k ss)) (tested_in k e))

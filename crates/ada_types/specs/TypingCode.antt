@@ -4,6 +4,7 @@ use Rattle.std.specs.List.{list_all}
 use Rattle.std.specs.Option.{option_and_then}
 use Rattle.std.specs.declared.vec.Vec.{Vec}
 use Rattle.std.specs.declared.alloc.Global.{Global}
+use Rattle.cov_base.specs.declared.position.Pos.{Pos}
 use Rattle.cov_base.specs.declared.failure.Failure.{Failure}
 use Rattle.cov_base.specs.declared.failure.Failure.TheVariants.{WantOfMemory}
 use Rattle.ada_syntax.specs.Tree as source
@@ -100,18 +101,18 @@ abbrev pub set_to : tree.Label → List Identifier → DeclaredObject → tree.N
 set_to l is o v = if nat_eq (length is) 1 then Some (tree.initialized l o.number v ∷ []) else None
 
 -- or as the declaration says
-abbrev pub declared_objects : List Region → List DeclaredObject → tree.Label → List Identifier → DeclaredObject → Option Initial → Option (List tree.Declaration)
-declared_objects regions objects l is o None = bare is o
-declared_objects regions objects l is o (Some i) = option_and_then (set_to l is o) (new_value regions objects o.subtype i)
+abbrev pub declared_objects : List Pos → List Region → List DeclaredObject → tree.Label → List Identifier → DeclaredObject → Option Initial → Option (List tree.Declaration)
+declared_objects places regions objects l is o None = bare is o
+declared_objects places regions objects l is o (Some i) = option_and_then (set_to l is o) (new_value places regions objects o.subtype i)
 
-pub record DeclaresAs (regions : List Region) (objects : List DeclaredObject) (l : tree.Label) (is : List Identifier) (o : DeclaredObject) (i : Option Initial) (typed : Option (List tree.Declaration)) : Type 0 where
-  pub parts : list_all holds (value_behind regions objects (Some o.subtype) i) ≡ true
-  pub same : declared_objects regions objects l is o i ≡ typed
+pub record DeclaresAs (places : List Pos) (regions : List Region) (objects : List DeclaredObject) (l : tree.Label) (is : List Identifier) (o : DeclaredObject) (i : Option Initial) (typed : Option (List tree.Declaration)) : Type 0 where
+  pub parts : list_all holds (value_behind places regions objects (Some o.subtype) i) ≡ true
+  pub same : declared_objects places regions objects l is o i ≡ typed
 
 -- the typed form of objects that are declared together, if they have one, or the refusal of their initial value
-abbrev pub Declares : List Region → List DeclaredObject → tree.Label → List Identifier → DeclaredObject → Option Initial → Result (Option (Vec Declaration Global)) (Failure TypeFault) → Type 0
-Declares regions objects l is o i (Ok x) = DeclaresAs regions objects l is o i (option_map declarations_view x)
-Declares regions objects l is o i (Err f) = SomeRefused (value_behind regions objects (Some o.subtype) i) f
+abbrev pub Declares : List Pos → List Region → List DeclaredObject → tree.Label → List Identifier → DeclaredObject → Option Initial → Result (Option (Vec Declaration Global)) (Failure TypeFault) → Type 0
+Declares places regions objects l is o i (Ok x) = DeclaresAs places regions objects l is o i (option_map declarations_view x)
+Declares places regions objects l is o i (Err f) = SomeRefused (value_behind places regions objects (Some o.subtype) i) f
 
 -- the objects that are declared together, of which this is the first
 abbrev pub objects_from : List Identifier → DeclaredObject → List DeclaredObject

@@ -9,7 +9,9 @@ ghost use Rattle.ada_names.specs.Naming as naming;
 ghost use Rattle.ada_names.specs.Naming.{library_of, main_from};
 ghost use Rattle.ada_types.specs.declared.fault.CheckFault.{CheckFault};
 ghost use Rattle.ada_types.specs.Typing as spec;
-ghost use Rattle.ada_types.specs.Legal.{elaborated, typed};
+ghost use Rattle.ada_meaning.specs.Obligations.{precedes};
+ghost use Rattle.ada_places.specs.Places.{all_places_of};
+ghost use Rattle.ada_types.specs.Legal.{elaborated, typed, earlier};
 ghost use Rattle.ada_types.specs.Checked.{Refuses, entry_of};
 ghost use Rattle.ada_types.specs.CheckCode.{naming_of, typing_of};
 
@@ -17,6 +19,7 @@ use crate::fault::{CheckFault, LimitFault};
 use crate::units::typed_program;
 use ada_expressions::TypeFault;
 use ada_names::{Library, NameFault, Named, broken_names_are_not_named, check_names};
+use ada_places::{Places, places_of};
 use ada_syntax::{Unit, node_count};
 use ada_tree::{Program, Subprogram, UnitEntry};
 use cov_base::{Failure, Pos, Seq};
@@ -61,13 +64,15 @@ fn named(alloc: Global, units: &[Unit], main: &[u8]) -> Result<Named, Failure<Ch
 fn subprograms(
     alloc: Global,
     library: &Library,
+    places: &Places,
     units: &[Unit],
 ) -> Result<Vec<Subprogram>, Failure<CheckFault>>
-    requires { library.now ≡ library_of units.now }
+    requires library { library.now ≡ library_of units.now }
+    requires places { places.now ≡ all_places_of units.now }
     ensures typed { IfOk result (λ ss. typed units.now ≡ Some (map subprogram_of ss.items)) }
     ensures refused { IfErr result (λ f. (main : List ℕ) → naming.named units.now main ≡ true → Refuses units.now main f) }
 {
-    match typed_program(alloc, library, units) {
+    match typed_program(alloc, library, places, units) {
         Ok(subprograms) => Ok(subprograms),
         Err(failure) => Err(typing(failure)),
     }
@@ -99,6 +104,24 @@ fn too_many_words(units: &[Unit], subprograms: &[Subprogram]) -> Option<Pos>
     None
 }
 
+/// Whether a place comes before another.
+fn precedes(a: Pos, b: Pos) -> bool
+    ensures { result ≡ precedes a b }
+{
+    a.file < b.file || a.file == b.file && (a.line < b.line || a.line == b.line && a.col < b.col)
+}
+
+/// The earlier of two places, of which there may be none.
+fn earlier(one: Option<Pos>, other: Option<Pos>) -> Option<Pos>
+    ensures { result ≡ earlier one other }
+{
+    match (one, other) {
+        (Some(p), Some(q)) => { if precedes(q, p) { Some(q) } else { Some(p) } }
+        (Some(p), None) => Some(p),
+        (None, q) => q,
+    }
+}
+
 /// What the limits ask of a unit.
 fn entry(unit: &Unit) -> UnitEntry
     ensures { result ≡ entry_of unit.now }
@@ -121,7 +144,8 @@ fn entries(alloc: Global, units: &[Unit]) -> Result<Vec<UnitEntry>, AllocError>
 }
 
 /// The program of these units whose main procedure has this name, where case does not count. Rules on
-/// names come first, over all units, then those on types, and then the limit on declared words.
+/// names come first, over all units, then those on types, and then the limits on declared words and on
+/// the conditions of a decision: of these the place of what passes one first is told.
 #[tactic(auto, using(crate::proofs::Programs::refusals))]
 pub fn check(alloc: Global, units: &[Unit], main: &str) -> Result<Program, Failure<CheckFault>>
     ensures program { IfOk result (λ p. elaborated units.now main.now ≡ Some (program_of p)) }
@@ -130,8 +154,10 @@ pub fn check(alloc: Global, units: &[Unit], main: &str) -> Result<Program, Failu
 {
     let lower = main.as_bytes().to_ascii_lowercase(alloc)?;
     let named = named(alloc, units, lower.as_slice())?;
-    let subprograms = subprograms(alloc, &named.library, units)?;
-    if let Some(pos) = too_many_words(units, subprograms.as_slice()) {
+    let places = places_of(alloc, units)?;
+    let subprograms = subprograms(alloc, &named.library, &places, units)?;
+    let large = too_many_words(units, subprograms.as_slice());
+    if let Some(pos) = earlier(large, places.wide) {
         return Err(Failure::Fault(CheckFault::Limit(LimitFault { pos })));
     }
     Ok(Program {

@@ -16,6 +16,7 @@ use ada_expressions::{
     subtype_of_entity,
 };
 use ada_names::{Scope, hiding, numbered};
+use ada_places::Ranks;
 use ada_syntax::{Bounds, Declaration, DeclarationKind, Identifier, Initial, SubtypeIndication};
 use ada_tree::{Label, NewValue, Range, Subtype};
 use cov_base::{Failure, Pos};
@@ -47,11 +48,12 @@ fn indicated(
     alloc: Global,
     scope: &Scope<'_>,
     objects: &[DeclaredObject],
+    places: &Ranks,
     indication: &SubtypeIndication,
 ) -> Result<ScalarSubtype, Failure<TypeFault>>
-    ensures { Shows (λ x. x) (spec.indicated (regions_of scope.now) objects.now indication.now) (rules.indication (regions_of scope.now) objects.now indication.now) result }
+    ensures { Shows (λ x. x) (spec.indicated places.now (regions_of scope.now) objects.now indication.now) (rules.indication places.now (regions_of scope.now) objects.now indication.now) result }
 {
-    let mark = denoted(alloc, scope, objects, &indication.mark)?;
+    let mark = denoted(alloc, scope, objects, places, &indication.mark)?;
     unconstrained(&indication.constraint, &mark).ok_or(mistyped(indication.mark.pos()))
 }
 
@@ -92,12 +94,13 @@ pub fn new_value(
     alloc: Global,
     scope: &Scope<'_>,
     objects: &[DeclaredObject],
+    places: &Ranks,
     subtype: ScalarSubtype,
     initial: &Initial,
 ) -> Result<NewValue, Failure<TypeFault>>
-    ensures { Shows value_of (spec.new_value (regions_of scope.now) objects.now subtype initial.now) (rules.value (regions_of scope.now) objects.now subtype initial.now) result }
+    ensures { Shows value_of (spec.new_value places.now (regions_of scope.now) objects.now subtype initial.now) (rules.value places.now (regions_of scope.now) objects.now subtype initial.now) result }
 {
-    let value = judged(alloc, scope, objects, &initial.value)?;
+    let value = judged(alloc, scope, objects, places, &initial.value)?;
     value_for(subtype, initial.others.as_slice(), value).ok_or(mistyped(first_of_value(initial)))
 }
 
@@ -163,17 +166,18 @@ fn typed_objects(
     alloc: Global,
     scope: &Scope<'_>,
     objects: &[DeclaredObject],
+    places: &Ranks,
     label: Label,
     names: &[Identifier],
     object: DeclaredObject,
     initial: &Option<Initial>,
 ) -> Result<Option<Vec<ada_tree::Declaration>>, Failure<TypeFault>>
-    ensures { Declares (regions_of scope.now) objects.now (label_of label) names.now object initial.now result }
+    ensures { Declares places.now (regions_of scope.now) objects.now (label_of label) names.now object initial.now result }
 {
     match initial {
         None => Ok(declared_bare(alloc, names, object)?),
         Some(initial) => {
-            let value = new_value(alloc, scope, objects, object.subtype, initial)?;
+            let value = new_value(alloc, scope, objects, places, object.subtype, initial)?;
             Ok(declared_set(alloc, label, names, object, value)?)
         }
     }
@@ -244,14 +248,18 @@ fn declare(
         seen: around.seen,
     };
     let objects = declared.objects.as_slice();
-    let subtype = indicated(alloc, &scope, objects, indication)?;
+    let places = &around.places.decisions;
+    let subtype = indicated(alloc, &scope, objects, places, indication)?;
     let object = DeclaredObject {
         number: declared.next,
         constancy: *constancy,
         subtype,
     };
     let label = around.statement_label(declaration.pos);
-    let Some(typed) = typed_objects(alloc, &scope, objects, label, names, object, initial)? else {
+    let typed = typed_objects(
+        alloc, &scope, objects, places, label, names, object, initial,
+    )?;
+    let Some(typed) = typed else {
         return Err(mistyped(declaration.pos));
     };
     add_objects(alloc, names, object, declared)?;

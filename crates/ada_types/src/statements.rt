@@ -33,7 +33,7 @@ fn denoted_in(
     declared: &Declared,
     name: &Name,
 ) -> Result<Denoted, Failure<TypeFault>>
-    ensures { Shows (λ x. x) (names.denoted (spec.regions_of (context around.now declared.now)) declared.now.objects.items name.now) (rules.phrase (phrases.name (spec.regions_of (context around.now declared.now)) declared.now.objects.items name.now)) result }
+    ensures { Shows (λ x. x) (names.denoted around.now.places.now.decisions (spec.regions_of (context around.now declared.now)) declared.now.objects.items name.now) (rules.phrase (phrases.name around.now.places.now.decisions (spec.regions_of (context around.now declared.now)) declared.now.objects.items name.now)) result }
 {
     let nothing = Region::new(alloc);
     let scope = Scope {
@@ -41,7 +41,8 @@ fn denoted_in(
         locals: &declared.locals,
         seen: around.seen,
     };
-    denoted(alloc, &scope, declared.objects.as_slice(), name)
+    let places = &around.places.decisions;
+    denoted(alloc, &scope, declared.objects.as_slice(), places, name)
 }
 
 /// What a target of this subtype is set to (RM 5.2).
@@ -53,7 +54,7 @@ fn new_value_in(
     subtype: ScalarSubtype,
     initial: &Initial,
 ) -> Result<NewValue, Failure<TypeFault>>
-    ensures { Shows value_of (spec.new_value (spec.regions_of (context around.now declared.now)) declared.now.objects.items subtype initial.now) (rules.value (spec.regions_of (context around.now declared.now)) declared.now.objects.items subtype initial.now) result }
+    ensures { Shows value_of (spec.new_value around.now.places.now.decisions (spec.regions_of (context around.now declared.now)) declared.now.objects.items subtype initial.now) (rules.value around.now.places.now.decisions (spec.regions_of (context around.now declared.now)) declared.now.objects.items subtype initial.now) result }
 {
     let nothing = Region::new(alloc);
     let scope = Scope {
@@ -61,7 +62,9 @@ fn new_value_in(
         locals: &declared.locals,
         seen: around.seen,
     };
-    new_value(alloc, &scope, declared.objects.as_slice(), subtype, initial)
+    let objects = declared.objects.as_slice();
+    let places = &around.places.decisions;
+    new_value(alloc, &scope, objects, places, subtype, initial)
 }
 
 /// A decision (RM 5.3, 5.5, 5.7).
@@ -80,7 +83,14 @@ pub fn decision(
         locals: &declared.locals,
         seen: around.seen,
     };
-    let test = tested(alloc, &scope, declared.objects.as_slice(), condition)?;
+    let places = &around.places.decisions;
+    let test = tested(
+        alloc,
+        &scope,
+        declared.objects.as_slice(),
+        places,
+        condition,
+    )?;
     Ok(Decision {
         label: around.decision_label(condition.pos()),
         test,

@@ -3,8 +3,9 @@
 use crate::*;
 use ada_syntax::{
     BinaryOperator, Branch, Constancy, Declaration, DeclarationKind, Expr, HandledStatements,
-    Identifier, Initial, LibraryItem, LoopScheme, Name, Operand, RelationalOperator, Specification,
-    Statement, StatementKind, SubprogramBody, SubtypeIndication, Suffix, Unit, WithClause,
+    Identifier, Initial, LibraryItem, LogicalOperator, LoopScheme, Name, Operand,
+    RelationalOperator, Specification, Statement, StatementKind, SubprogramBody, SubtypeIndication,
+    Suffix, Unit, WithClause,
 };
 use ada_tree::{NewValue, Object, Program};
 use cov_base::{Bytes, Failure, Pos, Seq};
@@ -248,6 +249,8 @@ struct Nest {
     exits_outside: bool,
     /// What the if statement tests: `X = 1`, or `X`.
     tests_relation: bool,
+    /// With how many further conditions behind it.
+    further: u32,
     /// What is assigned behind the block: X, or the Y of the block.
     assigned: &'static str,
 }
@@ -255,6 +258,7 @@ struct Nest {
 const NEST: Nest = Nest {
     exits_outside: false,
     tests_relation: true,
+    further: 0,
     assigned: "X",
 };
 
@@ -285,6 +289,16 @@ fn condition(alloc: Global, line: u32, is_relation: bool) -> Result<Expr, AllocE
     }
 }
 
+/// The same, and `and then X = 1` so many times.
+fn conditions(alloc: Global, nest: &Nest) -> Result<Expr, AllocError> {
+    let first = condition(alloc, IF_LINE, nest.tests_relation)?;
+    let mut others = Vec::new(alloc);
+    for _other in 0..nest.further {
+        others.push(condition(alloc, IF_LINE, true)?)?;
+    }
+    Expr::logical(alloc, LogicalOperator::AndThen, first, others)
+}
+
 fn one(alloc: Global, pos: Pos, kind: StatementKind) -> Result<Vec<Statement>, AllocError> {
     let mut statements = Vec::new(alloc);
     statements.push(Statement { pos, kind })?;
@@ -294,7 +308,7 @@ fn one(alloc: Global, pos: Pos, kind: StatementKind) -> Result<Vec<Statement>, A
 /// `if X = 1 then null; elsif X = 1 then null; else null; end if;`
 fn choice(alloc: Global, nest: &Nest) -> Result<Statement, AllocError> {
     let first = Branch {
-        condition: condition(alloc, IF_LINE, nest.tests_relation)?,
+        condition: conditions(alloc, nest)?,
         statements: one(alloc, at(IF_LINE), StatementKind::Null)?,
     };
     let mut others = Vec::new(alloc);
@@ -408,8 +422,8 @@ fn is_nested(statement: &ada_tree::Statement) -> bool {
 }
 
 /// Whether a nest is a program of its five statements.
-fn is_nest_taken(alloc: Global) -> bool {
-    let Ok(program) = nest_answer(alloc, &NEST) else {
+fn is_nest_taken(alloc: Global, nest: &Nest) -> bool {
+    let Ok(program) = nest_answer(alloc, nest) else {
         return false;
     };
     match program.subprograms.as_slice() {
@@ -430,9 +444,31 @@ fn nest_fault(alloc: Global, nest: &Nest) -> Option<(u32, bool)> {
     }
 }
 
+/// The line of what passes a limit in a nest.
+fn limit_line(alloc: Global, nest: &Nest) -> Option<u32> {
+    match nest_answer(alloc, nest) {
+        Err(Failure::Fault(CheckFault::Limit(fault))) => Some(fault.pos.line),
+        _ => None,
+    }
+}
+
+#[test]
+fn a_decision_has_at_most_32_conditions(rt: HostRuntime) {
+    let most = Nest {
+        further: 31,
+        ..NEST
+    };
+    assert!(rt; is_nest_taken(rt.alloc(), &most));
+    let wide = Nest {
+        further: 32,
+        ..NEST
+    };
+    assert!(rt; limit_line(rt.alloc(), &wide) == Some(IF_LINE));
+}
+
 #[test]
 fn statements_in_statements_have_their_typed_forms(rt: HostRuntime) {
-    assert!(rt; is_nest_taken(rt.alloc()));
+    assert!(rt; is_nest_taken(rt.alloc(), &NEST));
 }
 
 #[test]

@@ -3,6 +3,7 @@
 ghost use Rattle.std.specs.Prelude.{◌≡◌};
 ghost use Rattle.ada_tree.specs.View.{subprogram_of};
 ghost use Rattle.ada_names.specs.Naming.{library_of};
+ghost use Rattle.ada_places.specs.Places.{all_places_of};
 ghost use Rattle.ada_types.specs.Legal.{typed};
 ghost use Rattle.ada_types.specs.Typing as spec;
 ghost use Rattle.ada_types.specs.Rules as rules;
@@ -15,7 +16,7 @@ use ada_expressions::{TypeFault, mistyped};
 use ada_names::{
     Library, Locals, Region, declarations_of, is_bare_procedure, numbered, seen, statements_of,
 };
-use ada_places::{Places, places_of};
+use ada_places::Places;
 use ada_syntax::{LibraryItem, Unit};
 use ada_tree::Subprogram;
 use cov_base::Failure;
@@ -82,16 +83,17 @@ fn typed_units(
     Ok(typed)
 }
 
-/// The subprograms of units whose library is this.
+/// The subprograms of units whose library is this, and of which all obligations stand at these places.
 #[tactic(auto, using(crate::proofs::Blame::blames))]
 pub fn typed_program(
     alloc: Global,
     library: &Library,
+    places: &Places,
     units: &[Unit],
 ) -> Result<Vec<Subprogram>, Failure<TypeFault>>
-    requires { library.now ≡ library_of units.now }
+    requires library { library.now ≡ library_of units.now }
+    requires places { places.now ≡ all_places_of units.now }
     ensures { Shows subprograms_view (typed units.now) (rules.program units.now) result }
 {
-    let places = places_of(alloc, units)?;
-    typed_units(alloc, &library.region, &places, units)
+    typed_units(alloc, &library.region, places, units)
 }

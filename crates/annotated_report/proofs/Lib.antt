@@ -6,6 +6,7 @@ pub mod LeastPairs
 pub mod Collecting
 pub mod Giving
 pub mod Vectors
+pub mod PairedEvents
 pub mod ShownPairs
 pub mod Spelled
 pub mod Same

@@ -15,7 +15,7 @@ runs = (refl, refl, refl)
 
 pub covers : Covers
 unfolding clap_on_literals given coverage_of
-covers = (refl, refl, refl)
+covers = (refl, refl, refl, refl, refl)
 
 pub asks : Asks
 unfolding clap_on_literals given run_of

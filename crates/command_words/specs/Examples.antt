@@ -1,6 +1,6 @@
 -- Worked examples: command lines, and what they ask for.
 use Rattle.std.specs.Prelude.{◌≡◌, ℕ, List, [], ◌∷◌, Option, Some, None, codes}
-use Rattle.cov_base.specs.declared.level.Level.TheVariants.{Stmt, Decision}
+use Rattle.cov_base.specs.declared.level.Level.TheVariants.{Stmt, Decision, Mcdc, UcMcdc}
 use Rattle.cov_base.specs.declared.level.Annotation.TheVariants.{Report}
 use Rattle.command_words.specs.Task.{Task, Compile, Run, Coverage, task_of}
 
@@ -33,7 +33,7 @@ Runs =
     × (task_of (run (codes "--input=I" ∷ codes "--budget=1" ∷ codes "-o" ∷ codes "T" ∷ codes "O" ∷ [])) ≡ ran 1)
     × (task_of (run (codes "--budget=4294967295" ∷ codes "--input=I" ∷ codes "-o" ∷ codes "T" ∷ codes "O" ∷ [])) ≡ ran 4294967295)
 
--- no trace, and two, at either level
+-- no trace, and two, at each level
 abbrev pub Covers : Type 0
 Covers =
     (task_of (coverage (codes "--level=stmt" ∷ codes "--annotate=report" ∷ codes "--object=O" ∷ [])) ≡ Some (Coverage Stmt Report (codes "O") []))
@@ -41,6 +41,8 @@ Covers =
     ≡ Some (Coverage Stmt Report (codes "O") (codes "T" ∷ codes "U" ∷ [])))
     × (task_of (coverage (codes "--level=stmt+decision" ∷ codes "--annotate=report" ∷ codes "--object=O" ∷ codes "T" ∷ []))
     ≡ Some (Coverage Decision Report (codes "O") (codes "T" ∷ [])))
+    × (task_of (coverage (codes "--level=stmt+mcdc" ∷ codes "--annotate=report" ∷ codes "--object=O" ∷ [])) ≡ Some (Coverage Mcdc Report (codes "O") []))
+    × (task_of (coverage (codes "--level=stmt+uc_mcdc" ∷ codes "--annotate=report" ∷ codes "--object=O" ∷ [])) ≡ Some (Coverage UcMcdc Report (codes "O") []))
 
 -- help and version, in any form
 abbrev pub Asks : Type 0
@@ -61,11 +63,11 @@ Lacks =
     × (task_of (compile (codes "--main=M" ∷ codes "-o" ∷ codes "O" ∷ [])) ≡ None)
     × (task_of (run (codes "--input=I" ∷ codes "--input=I" ∷ codes "-o" ∷ codes "T" ∷ codes "O" ∷ [])) ≡ None)
 
--- two sources, a budget out of its range, and a level and a form that there are not yet
+-- two sources, a budget out of its range, a level that there is not, and a form that there is not yet
 abbrev pub Exceeds : Type 0
 Exceeds =
     (task_of (compile (codes "--main=M" ∷ codes "-o" ∷ codes "O" ∷ codes "S" ∷ codes "S2" ∷ [])) ≡ None)
     × (task_of (run (codes "--input=I" ∷ codes "--budget=0" ∷ codes "-o" ∷ codes "T" ∷ codes "O" ∷ [])) ≡ None)
     × (task_of (run (codes "--input=I" ∷ codes "--budget=4294967296" ∷ codes "-o" ∷ codes "T" ∷ codes "O" ∷ [])) ≡ None)
-    × (task_of (coverage (codes "--level=stmt+mcdc" ∷ codes "--annotate=report" ∷ codes "--object=O" ∷ [])) ≡ None)
+    × (task_of (coverage (codes "--level=mcdc" ∷ codes "--annotate=report" ∷ codes "--object=O" ∷ [])) ≡ None)
     × (task_of (coverage (codes "--level=stmt" ∷ codes "--annotate=xcov" ∷ codes "--object=O" ∷ [])) ≡ None)

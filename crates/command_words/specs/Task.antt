@@ -4,7 +4,7 @@ use Rattle.std.specs.List.{list_all}
 use Rattle.std.specs.Str.{bytes_eq}
 use Rattle.clap.specs.Words.{Row, Text, all_of, first_of, one_of}
 use Rattle.cov_base.specs.declared.level.Level.{Level}
-use Rattle.cov_base.specs.declared.level.Level.TheVariants.{Stmt, Decision}
+use Rattle.cov_base.specs.declared.level.Level.TheVariants.{Stmt, Decision, Mcdc, UcMcdc}
 use Rattle.cov_base.specs.declared.level.Annotation.{Annotation}
 use Rattle.cov_base.specs.declared.level.Annotation.TheVariants.{Report}
 use Rattle.command_words.specs.Lines.{compile_app, coverage_app, given, number_of, run_app}
@@ -21,11 +21,13 @@ pub data Task : Type 0 where
 abbrev pub is_short : Text → Bool
 is_short word = nat_le (length word) 4096
 
--- the levels that there are so far
+-- the levels
 abbrev pub level_named : Text → Option Level
 level_named name =
     if bytes_eq name (codes "stmt") then Some Stmt
     else if bytes_eq name (codes "stmt+decision") then Some Decision
+    else if bytes_eq name (codes "stmt+mcdc") then Some Mcdc
+    else if bytes_eq name (codes "stmt+uc_mcdc") then Some UcMcdc
     else None
 
 -- the forms of a report that there are so far

@@ -24,7 +24,12 @@ const COVERED: &str =
 const DECIDED: &str =
     r#"Coverage { level: Decision, annotate: Report, object: "O", traces: ["T"] }"#;
 
-static LINES: [Line; 64] = [
+const PAIRED: &str = r#"Coverage { level: Mcdc, annotate: Report, object: "O", traces: [] }"#;
+
+const PAIRED_ALONE: &str =
+    r#"Coverage { level: UcMcdc, annotate: Report, object: "O", traces: [] }"#;
+
+static LINES: [Line; 65] = [
     ("gnatcov compile --main=M -o O S", COMPILED),
     ("gnatcov compile --main M -oO S", COMPILED),
     ("gnatcov compile S -o=O --main=M", COMPILED),
@@ -95,10 +100,14 @@ static LINES: [Line; 64] = [
     ),
     (
         "gnatcov coverage --level=stmt+mcdc --annotate=report --object=O",
-        "usage",
+        PAIRED,
     ),
     (
         "gnatcov coverage --level=stmt+uc_mcdc --annotate=report --object=O",
+        PAIRED_ALONE,
+    ),
+    (
+        "gnatcov coverage --level=mcdc --annotate=report --object=O",
         "usage",
     ),
     (

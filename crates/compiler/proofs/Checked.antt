@@ -9,9 +9,9 @@ use Rattle.ada_types.specs.Checked as checked
 use Rattle.ada_types.specs.Checked.{entry_of}
 use Rattle.ada_types.specs.Legal.{elaborated}
 use Rattle.ada_types.specs.declared.fault.CheckFault.{CheckFault}
-use Rattle.compiler.specs.Checking.{illegal, too_large, UnitsAreRefused, breaks_names, breaks_types, declares_too_much, memory_is_out, PassesLimit, passes, no_memory}
+use Rattle.compiler.specs.Checking.{illegal, too_large, UnitsAreRefused, breaks_names, breaks_types, passes_a_limit, memory_is_out, PassesLimit, passes, no_memory}
 use Rattle.compiler.specs.Legal as legal
-use Rattle.compiler.specs.Legal.{AreRefused, RefusesFor}
+use Rattle.compiler.specs.Legal.{RefusesFor}
 use Rattle.cov_base.specs.declared.failure.Failure.{Failure}
 use Rattle.cov_base.specs.declared.failure.Failure.TheVariants.{Fault, WantOfMemory}
 use Rattle.cov_base.specs.declared.obligations.SourceFile.{SourceFile}
@@ -24,7 +24,7 @@ use Rattle.parsed_programs.specs.declared.fault.SourceFault.{SourceFault}
 pub illegal_units : (units : List LibraryUnit) (main : List ℕ) (f : Failure CheckFault) → checked.Refuses units (str_to_ascii_lowercase main) f → UnitsAreRefused units main (illegal f)
 illegal_units units main _ (checked.breaks_names offends) = breaks_names offends
 illegal_units units main _ (checked.breaks_types holds offends) = breaks_types holds offends
-illegal_units units main _ (checked.declares_too_much holds typed past) = declares_too_much holds typed past
+illegal_units units main _ (checked.passes_a_limit holds typed past) = passes_a_limit holds typed past
 illegal_units units main _ checked.memory_is_out = memory_is_out
 
 pub large_units : (units : List UnitEntry) (f : Failure ExpandFault) → expanded.Refuses units f → PassesLimit units (too_large f)
@@ -41,7 +41,7 @@ sources_refused files units read main f have are refused = told f (subst (λ us.
     told : (f : Failure SourceFault) → UnitsAreRefused units main f → RefusesFor files main f
     told _ (breaks_names offends) = legal.breaks_names have offends
     told _ (breaks_types holds offends) = legal.breaks_types have holds offends
-    told _ (declares_too_much holds typed past) = legal.declares_too_much have holds typed past
+    told _ (passes_a_limit holds typed past) = legal.passes_a_limit have holds typed past
     told _ memory_is_out = tt
 
 -- and those that are a legal program that is too large

@@ -1,11 +1,7 @@
--- The conditions of the roles of linked pieces are those that the marks of the pieces name, and the conditions of numbered decisions are
--- distinct.
-use Rattle.std.proofs.Common.{◌≡◌, ◌≢◌, ℕ, zero, suc, ◌+◌, ◌*◌, ◌≤◌, ◌<◌, ◌==◌, cond, if◌then◌else◌, Bool, true, false, List, [], ◌∷◌, ◌++◌, filter, length, map, drop, Option, option_map, AllPairs, refl, sym, ap, ◌∙◌, subst, arith}
-use Rattle.std.specs.List.{filter_map, cons_option, AllByRecursion}
+-- The conditions of the roles of linked pieces are those that the marks of the pieces name.
+use Rattle.std.proofs.Common.{◌≡◌, ℕ, ◌+◌, ◌*◌, ◌<◌, ◌==◌, cond, if◌then◌else◌, Bool, true, false, List, [], ◌∷◌, ◌++◌, filter, length, map, drop, Option, option_map, refl, sym, ap, ◌∙◌, subst, arith}
+use Rattle.std.specs.List.{filter_map, cons_option}
 use Rattle.std.proofs.lemmas.List.{map-append}
-use Rattle.std.proofs.lemmas.List.Elements.{All-from_recursion}
-use Rattle.std.proofs.lemmas.List.Kept.{AllPairs-cons}
-use Rattle.ada_meaning.specs.Obligations.{numbers}
 use Rattle.assembler.specs.declared.piece.Item.{Item}
 use Rattle.assembler.specs.declared.piece.Mark.{Mark}
 use Rattle.assembler.specs.declared.piece.Mark.TheVariants.{Row as RowMark, Role as RoleMark}
@@ -97,19 +93,3 @@ conditions_from all own address (p ∷ ps) marked is_left =
 -- the roles of linked pieces have the conditions that the marks of the pieces name
 pub conditions_of_linked : (pieces : List Piece) (init : List ℕ) → AllMarked pieces → conditions_of (linked pieces init).roles ≡ map named (conditions_of_pieces pieces)
 conditions_of_linked pieces init marked = conditions_from (labels pieces) 0 0x10000 pieces marked refl
-
--- the one condition of a numbered decision, in the one instance that is no generic's
-abbrev pub condition_of_decision : ℕ → (ℕ × ℕ) × ℕ
-condition_of_decision n = ((n, 0), 0)
-
-later_differ : (n from count : ℕ) → n < from → AllByRecursion (λ c. condition_of_decision n ≢ c) (map condition_of_decision (numbers from count))
-later_differ n from zero below = tt
-later_differ n from (suc count) below = (λ same. omega (arith, ap (λ c. c.0.0) same), later_differ n (suc from) count (omega arith))
-
--- none comes twice
-pub conditions_differ : (from count : ℕ) → AllPairs (λ one next. one ≢ next) (map condition_of_decision (numbers from count))
-conditions_differ from zero = λ i j d lt within. absurd (omega arith)
-conditions_differ from (suc count) =
-    AllPairs-cons (λ one next. one ≢ next) (condition_of_decision from) (map condition_of_decision (numbers (suc from) count))
-    (All-from_recursion (λ c. condition_of_decision from ≢ c) (map condition_of_decision (numbers (suc from) count)) (later_differ from (suc from) count (omega arith)))
-    (conditions_differ (suc from) count)

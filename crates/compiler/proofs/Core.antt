@@ -10,7 +10,7 @@ use Rattle.ada_syntax.specs.Nodes.{capped, unit_nodes}
 use Rattle.ada_syntax.specs.declared.unit.Unit.{Unit as LibraryUnit}
 use Rattle.ada_types.specs.Checked.{entry_of}
 use Rattle.ada_types.specs.Legal.{elaborated}
-use Rattle.ada_places.specs.Places.{places_of, decision_places, condition_places}
+use Rattle.ada_places.specs.Places.{places_of, decision_places, unit_conditions}
 use Rattle.compiler.proofs.Legal.{compilable_law, made_of, passes_law, behaves_law, in_time_law}
 use Rattle.compiler.proofs.MarksOf.{marks_law}
 use Rattle.compiler.proofs.Placing.{text_bound}
@@ -84,7 +84,7 @@ compiled_of files main p o legal can built = record {
   names = subst (λ fs. All FileFits fs) (sym built.sources) (All-from_recursion FileFits (map entry_of_file files) (names_fit files (recursion_from_All HasPlainName files can.names)));
   places = entered files p o (places_of legal.units) built legal.within;
   decisions = entered files p o (decision_places legal.units) built legal.decisions_within;
-  conditions = entered files p o (condition_places legal.units) built legal.conditions_within;
+  conditions = entered files p o (unit_conditions legal.units) built legal.conditions_within;
 }
 
 -- the closing digest enters none of this
@@ -148,7 +148,7 @@ made_law files main p o made can legal built is checked =
 
 -- what has been read and checked
 pub legal_of : (files : List SourceFile) (units read : List LibraryUnit) (main : List ℕ) (p : Program) → HaveUnits files units → StatementsRise units → DecisionsRise units
-    → AreInFiles (length files) (places_of units) → AreInFiles (length files) (decision_places units) → AreInFiles (length files) (condition_places units)
+    → AreInFiles (length files) (places_of units) → AreInFiles (length files) (decision_places units) → AreInFiles (length files) (unit_conditions units)
     → read ≡ units → elaborated read main ≡ Some p → first_past 0 (map entry_of read) ≡ None → AreLegal files main p
 legal_of files units read main p parsed rises decisions_rise within decisions conditions are legal small = record {
   units = units;

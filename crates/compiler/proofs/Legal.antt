@@ -6,15 +6,16 @@ use Rattle.ada_meaning.specs.Program.{Program}
 use Rattle.ada_syntax.specs.Nodes.{capped, unit_nodes}
 use Rattle.ada_syntax.specs.declared.unit.Unit.{Unit as LibraryUnit}
 use Rattle.ada_types.specs.Legal.{elaborated}
-use Rattle.ada_places.specs.Places.{places_of, decision_places, condition_places}
+use Rattle.ada_places.specs.Places.{places_of, decisions_of_units}
 use Rattle.compiler.proofs.Images.{image_behaves, image_ends_in_time}
 use Rattle.compiler.proofs.Sound.{made_law}
 use Rattle.compiler.proofs.Statements.{places_are_statements, decisions_stand}
 use Rattle.compiler.specs.Behaves.{Behaves, EndsInTime}
 use Rattle.compiler.specs.Compiled.{IsCompiled}
 use Rattle.compiler.specs.Made.{IsCompilable, IsMadeOf}
-use Rattle.legal_programs.proofs.ListedLaws.{places_law, conditions_law, tests_law, held_law}
+use Rattle.legal_programs.proofs.ListedLaws.{places_law, conditions_law, few_law, once_law, held_law}
 use Rattle.legal_programs.proofs.Numbered.{numbered_law, stay_law, decisions_stay_law, decision_places_law, obligations_law}
+use Rattle.legal_programs.proofs.Order.{found_rise, found_ordered}
 use Rattle.legal_programs.proofs.PlainPrograms.{structured_law, limit_law}
 use Rattle.decision_meaning.specs.Pair.{Everywhere}
 use Rattle.legal_programs.specs.Listed.{entry_at, obligations_at}
@@ -30,7 +31,8 @@ compilable_law units main p legal rises decisions_rise few = record {
   numbered = numbered_law units main p legal rises decisions_rise;
   in_order = stay_law units main p legal rises;
   decisions_in_order = decisions_stay_law units main p legal decisions_rise;
-  tests = tests_law units main p legal;
+  few_conditions = few_law units main p legal;
+  once = once_law units main p legal;
   few = limit_law units main p 4096 legal (omega arith) few;
 }
 
@@ -45,9 +47,10 @@ made_of units main p o legal rises decisions_rise compiled =
       names = compiled.names;
       statements = ap (λ ob. are_statements (length o.files) ob.statements) listed ∙ places_are_statements (length o.files) (places_of units) rises compiled.places;
       decisions = ap (λ ob. are_decisions (length o.files) (length ob.statements) ob.decisions) listed
-          ∙ decisions_stand (length o.files) (length (map entry_at (places_of units))) hs (decision_places units) (condition_places units) (decision_places_law units main p legal)
-          (conditions_law units main p legal) (tests_law units main p legal)
-          (subst (λ n. Everywhere (λ h. h.statement < n) hs) (sym (length-map (places_of units) entry_at)) (held_law units main p legal)) decisions_rise compiled.decisions compiled.conditions;
+          ∙ decisions_stand (length o.files) (length (map entry_at (places_of units))) hs (decisions_of_units units) (decision_places_law units main p legal)
+          (conditions_law units main p legal) (few_law units main p legal)
+          (subst (λ n. Everywhere (λ h. h.statement < n) hs) (sym (length-map (places_of units) entry_at)) (held_law units main p legal))
+          (found_ordered (decisions_of_units units) (found_rise (decisions_of_units units) decisions_rise)) compiled.decisions compiled.conditions;
     }
 
 pub passes_law : (units : List LibraryUnit) (main : List ℕ) (p : Program) (o : Object) → elaborated units main ≡ Some p → StatementsRise units → DecisionsRise units

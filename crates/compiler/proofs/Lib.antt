@@ -4,6 +4,8 @@ pub mod Images
 pub mod RowStarts
 pub mod Conditions
 pub mod DecisionEntries
+pub mod Counts
+pub mod Due
 pub mod Roles
 pub mod Placing
 pub mod Statements

@@ -1,17 +1,16 @@
 -- Each statement of a made object has its row, and each condition its branch.
-use Rattle.std.proofs.Common.{◌≡◌, ℕ, zero, suc, ◌+◌, ◌≤◌, ◌<◌, ◌==◌, cond, Bool, true, false, List, [], ◌∷◌, filter, length, map, slice_get, Some, refl, sym, ap, ◌∙◌, subst, arith, ◌⊎◌, inl, inr}
+use Rattle.std.proofs.Common.{◌≡◌, ℕ, zero, suc, ◌+◌, ◌≤◌, ◌<◌, ◌==◌, cond, Bool, true, false, List, [], ◌∷◌, filter, length, map, slice_get, Option, Some, None, Contains, refl, sym, ap, ◌∙◌, subst, arith, ◌⊎◌, inl, inr}
 use Rattle.std.proofs.lemmas.Bool.Decides.{nat_tests}
-use Rattle.ada_meaning.specs.Collected.{Decision, labels_of, decisions_of}
+use Rattle.ada_meaning.specs.Collected.{labels_of, decisions_of}
 use Rattle.ada_meaning.specs.Obligations.{numbers, decision_entry}
 use Rattle.ada_meaning.specs.Program.{Program}
-use Rattle.compiler.proofs.Conditions.{condition_of_decision}
-use Rattle.compiler.proofs.DecisionEntries.{one_condition, count_there}
+use Rattle.compiler.proofs.Due.{Numbers, IsOf}
 use Rattle.compiler.proofs.RowStarts.{start_at}
 use Rattle.compiler.proofs.Sound.{starts_law, found_law, entries_long}
 use Rattle.compiler.specs.Made.{IsCompilable, IsMadeOf}
 use Rattle.compiler.specs.Source.{IsRowOf, IsRoleOf, IsCondition, HasItsMarks}
+use Rattle.cov_base.specs.declared.obligations.DecEntry.{DecEntry}
 use Rattle.decision_meaning.specs.Pair.{Everywhere, Somewhere}
-use Rattle.legal_programs.specs.Listed.{HasOneCondition}
 use Rattle.line_table.specs.declared.roles.Role.{Role}
 use Rattle.line_table.specs.declared.rows.Row.{Row}
 use Rattle.object_format.specs.declared.object.Object.{Object}
@@ -93,29 +92,31 @@ case_role d c i (role ∷ roles) there = by_test (is_condition role) refl there 
     by_test true test (inr later) rest = inr (rest later)
     by_test false test later rest = inr (rest later)
 
-case_numbers : (d c i from count : ℕ) → Somewhere (IsCase d c i) (map condition_of_decision (numbers from count)) → (d < from + count) × (c ≡ 0) × (i ≡ 0)
-case_numbers d c i from zero here = absurd here
-case_numbers d c i from (suc count) (inl is) = (omega (arith, is.0), sym is.1, sym is.2)
-case_numbers d c i from (suc count) (inr later) = let there = case_numbers d c i (suc from) count later in (omega (arith, there.0), there.1, there.2)
+-- a condition that is there, and its numbers
+there_case : (d c i : ℕ) (found : List Numbers) → Contains found ((d, i), c) → Somewhere (IsCase d c i) found
+there_case d c i [] (k, low, is) = absurd (omega (arith, low))
+there_case d c i (x ∷ xs) (zero, low, is) = inl (ap (λ (n : Numbers). n.0.0) is, ap (λ (n : Numbers). n.1) is, ap (λ (n : Numbers). n.0.1) is)
+there_case d c i (x ∷ xs) (suc k, low, is) = inr (there_case d c i xs (k, omega (arith, low), is))
 
-numbers_case : (d from count : ℕ) → from ≤ d → d < from + count → Somewhere (IsCase d 0 0) (map condition_of_decision (numbers from count))
-numbers_case d from zero low high = absurd (omega (arith, low, high))
-numbers_case d from (suc count) low high = by_order (order from d) (λ less. numbers_case d (suc from) count (omega (arith, less)) (omega (arith, high)))
+case_known : (decisions : List DecEntry) (d c i : ℕ) (found : List Numbers) → Everywhere (IsOf decisions) found → Somewhere (IsCase d c i) found
+    → (c < condition_count (slice_get decisions d)) × (i ≡ 0)
+case_known decisions d c i [] known here = absurd here
+case_known decisions d c i (x ∷ xs) known (inl is) = (
+  subst (λ n. c < condition_count (slice_get decisions n)) is.0 (omega (arith, known.0.0, is.1)),
+  omega (arith, known.0.1, is.2),
+)
+case_known decisions d c i (x ∷ xs) known (inr later) = case_known decisions d c i xs known.1 later
+
+-- a decision that has so many conditions is there
+counted_is : (decisions : List DecEntry) (d c : ℕ) → c < condition_count (slice_get decisions d) → IsCondition decisions d c
+counted_is decisions d c below = by (slice_get decisions d) refl below
   where
-    by_order : (from ≡ d) ⊎ ((from < d) ⊎ (d < from)) → (from < d → Somewhere (IsCase d 0 0) (map condition_of_decision (numbers (suc from) count)))
-        → Somewhere (IsCase d 0 0) (map condition_of_decision (numbers from (suc count)))
-    by_order (inl same) later = inl (same, refl, refl)
-    by_order (inr (inl less)) later = inr (later less)
-    by_order (inr (inr more)) later = absurd (omega (arith, more, low))
+    by : (found : Option DecEntry) → slice_get decisions d ≡ found → c < condition_count found → IsCondition decisions d c
+    by None is below = absurd (omega (arith, below))
+    by (Some x) is below = (x, is, below)
 
--- a decision that is there has its one condition, and no other
-condition_there : (hs : List Decision) (d c : ℕ) → Everywhere (λ h. HasOneCondition h.test) hs → IsCondition (map decision_entry hs) d c → (d < length hs) × (c ≡ 0)
-condition_there hs d c one (x, there, below) = count_there hs d c one (subst (λ n. c < n) (sym (ap condition_count there)) below)
-
-there_condition : (hs : List Decision) (d : ℕ) → Everywhere (λ h. HasOneCondition h.test) hs → d < length hs → IsCondition (map decision_entry hs) d 0
-there_condition [] d one below = absurd (omega (arith, below))
-there_condition (h ∷ hs) zero one below = (decision_entry h, refl, omega (arith, one_condition h one.0))
-there_condition (h ∷ hs) (suc d) one below = there_condition hs d one.1 (omega (arith, below))
+is_counted : (decisions : List DecEntry) (d c : ℕ) → IsCondition decisions d c → c < condition_count (slice_get decisions d)
+is_counted decisions d c (x, there, below) = subst (λ n. c < n) (sym (ap condition_count there)) below
 
 pub marks_law : (p : Program) (o : Object) → IsCompilable p → IsMadeOf p o → HasItsMarks o
 marks_law p o able made =
@@ -131,11 +132,9 @@ marks_law p o able made =
         λ is. start_row s i o.rows (subst (λ ss. Somewhere (IsStart s i) ss) (sym starts) (numbers_start s i 0 n (omega arith) (omega (arith, is.0, long)) is.1)),
       );
       roles = λ d c i. (
-        λ there. let is = case_numbers d c i 0 (length hs) (subst (λ cs. Somewhere (IsCase d c i) cs) found (role_case d c i o.roles there)) in
-            (subst (λ ds. IsCondition ds d c) (sym entries) (subst (λ x. IsCondition (map decision_entry hs) d x) (sym is.1) (there_condition hs d able.tests (omega (arith, is.0)))), is.2),
-        λ is. let there = condition_there hs d c able.tests (subst (λ ds. IsCondition ds d c) entries is.0) in
-            case_role d c i o.roles (subst (λ cs. Somewhere (IsCase d c i) cs) (sym found)
-            (subst (λ x. Somewhere (IsCase d x i) (map condition_of_decision (numbers 0 (length hs)))) (sym there.1)
-            (subst (λ x. Somewhere (IsCase d 0 x) (map condition_of_decision (numbers 0 (length hs)))) (sym is.1) (numbers_case d 0 (length hs) (omega arith) (omega (arith, there.0)))))),
+        λ there. let is = case_known (map decision_entry hs) d c i (conditions_of o.roles) found.known (role_case d c i o.roles there) in
+            (subst (λ ds. IsCondition ds d c) (sym entries) (counted_is (map decision_entry hs) d c is.0), is.1),
+        λ is. let below = is_counted (map decision_entry hs) d c (subst (λ ds. IsCondition ds d c) entries is.0) in
+            case_role d c i o.roles (subst (λ x. Somewhere (IsCase d c x) (conditions_of o.roles)) (sym is.1) (there_case d c 0 (conditions_of o.roles) (found.each d c below))),
       );
     }

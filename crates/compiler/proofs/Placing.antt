@@ -61,7 +61,7 @@ abbrev pub able_graphs : Program → DecId → List Edges
 able_graphs p = graph_in (decisions_of p.subprograms)
 
 pub formed_law : (p : Program) → IsCompilable p → IsWellFormed (able_graphs p) (kernel_of p)
-formed_law p able = well_formed_law p able.structured (able_graphs p) (own_graphs (decisions_of p.subprograms) (numbers_law p able))
+formed_law p able = well_formed_law p able.structured (able_graphs p) (own_graphs (decisions_of p.subprograms) (numbers_law p able)) (numbers_law p able) able.few_conditions
 
 -- text, entry and data have their places
 pub placed_law : (p : Program) (o : Object) → IsCompilable p → HoldsImage (kernel_of p) o → is_placed o ≡ true

@@ -11,7 +11,7 @@ use Rattle.ada_types.proofs.Laws.{refused_is_illegal}
 use Rattle.ada_types.specs.Checked as checked
 use Rattle.ada_types.specs.Checked.{entry_of}
 use Rattle.ada_types.specs.Legal.{elaborated}
-use Rattle.compiler.specs.Legal.{IsLegal, AreRefused, no_units, breaks_names, breaks_types, declares_too_much, too_many_nodes}
+use Rattle.compiler.specs.Legal.{IsLegal, AreRefused, no_units, breaks_names, breaks_types, passes_a_limit, too_many_nodes}
 use Rattle.cov_base.specs.declared.obligations.SourceFile.{SourceFile}
 use Rattle.cov_base.specs.declared.position.Pos.{Pos}
 use Rattle.generic_expand.specs.Expanded.{first_past}
@@ -69,8 +69,8 @@ not_refused files main p _ legal (breaks_names {units} {pos} have offends) =
 not_refused files main p _ legal (breaks_types {units} {pos} have holds offends) =
     none_some (elaborated units main) p (refused_is_illegal broken units main _ (checked.breaks_types holds offends))
     (ap (λ us. elaborated us main) (one_program files units legal.units have legal.parsed) ∙ legal.elaborated)
-not_refused files main p _ legal (declares_too_much {units} {ss} {pos} have holds typed past) =
-    none_some (elaborated units main) p (refused_is_illegal broken units main _ (checked.declares_too_much holds typed past))
+not_refused files main p _ legal (passes_a_limit {units} {ss} {pos} have holds typed past) =
+    none_some (elaborated units main) p (refused_is_illegal broken units main _ (checked.passes_a_limit holds typed past))
     (ap (λ us. elaborated us main) (one_program files units legal.units have legal.parsed) ∙ legal.elaborated)
 not_refused files main p _ legal (too_many_nodes {units} {pos = pos} have is past) =
     none_some (first_past 0 (map entry_of units)) pos (ap (λ us. first_past 0 (map entry_of us)) (one_program files units legal.units have legal.parsed) ∙ legal.few) past

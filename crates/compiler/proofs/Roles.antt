@@ -1,19 +1,18 @@
 -- The roles of a kernel are those of checks, of other control flow, and of its conditions, one for each branch.
-use Rattle.std.proofs.Common.{◌≡◌, ◌≢◌, ℕ, ◌+◌, ◌≤◌, ◌<◌, ◌==◌, ◌&&◌, ◌||◌, cond, if◌then◌else◌, Bool, true, false, nat_lt, nat_le, List, [], ◌∷◌, ◌++◌, filter, length, map, slice_get, zero, suc, Option, Some, None, option_map, AllPairs, Contains, All, refl, sym, ap, ◌∙◌, subst, arith, inl, inr}
+use Rattle.std.proofs.Common.{◌≡◌, ℕ, ◌+◌, ◌≤◌, ◌<◌, ◌==◌, ◌&&◌, ◌||◌, cond, if◌then◌else◌, Bool, true, false, nat_lt, nat_le, List, [], ◌∷◌, ◌++◌, filter, length, map, slice_get, Option, Some, None, option_map, Contains, refl, sym, ap, ◌∙◌, subst, arith}
 use Rattle.std.specs.List.{filter_map, cons_option, list_all, AllByRecursion}
 use Rattle.std.proofs.lemmas.Bool.{and_parts}
 use Rattle.std.proofs.lemmas.Bool.Decides.{nat_tests}
 use Rattle.std.proofs.lemmas.List.{length-map}
-use Rattle.std.proofs.lemmas.List.Elements.{All-from_recursion}
 use Rattle.ada_meaning.specs.Collected.{Decision}
-use Rattle.ada_meaning.specs.Obligations.{numbers, decision_entry}
+use Rattle.ada_meaning.specs.Obligations.{decision_entry}
 use Rattle.assembler.proofs.Codes.{all_append}
 use Rattle.assembler.specs.declared.piece.Mark.{Mark}
 use Rattle.assembler.specs.declared.piece.Mark.TheVariants.{Row as RowMark, Role as RoleMark}
 use Rattle.assembler.specs.declared.piece.Piece.{Piece}
 use Rattle.assembler.specs.Placed.{labels, labels_at}
-use Rattle.compiler.proofs.Conditions.{condition_of_decision, conditions_differ}
-use Rattle.compiler.proofs.DecisionEntries.{count_there, count_is}
+use Rattle.compiler.proofs.Counts.{of_item}
+use Rattle.compiler.proofs.Due.{IsOf, HaveConditions}
 use Rattle.compiler.specs.Held.{HoldsImage}
 use Rattle.cov_base.specs.declared.obligations.DecEntry.{DecEntry}
 use Rattle.decision_meaning.specs.Pair.{Everywhere}
@@ -26,7 +25,6 @@ use Rattle.kernel_code.specs.Pieces.{body_piece, layout_pieces, kernel_pieces}
 use Rattle.kernel_ir.specs.declared.kernel.Body.{Body}
 use Rattle.kernel_ir.specs.declared.kernel.Kernel.{Kernel}
 use Rattle.kernel_ir.specs.declared.kernel.Layout.{Layout}
-use Rattle.legal_programs.specs.Listed.{HasOneCondition}
 use Rattle.line_table.specs.declared.roles.Role.{Role}
 use Rattle.linker.proofs.Roles.{roles_are_branches}
 use Rattle.linker.specs.Linked.{role_of, roles_from, linked}
@@ -119,32 +117,9 @@ roles_are_made k init = roles_of_pieces (labels (kernel_pieces k)) 0 (kernel_pie
 pub held_are_made : (k : Kernel) (o : Object) → HoldsImage k o → list_all is_made_role o.roles ≡ true
 held_are_made k o holds = ap (list_all is_made_role) holds.roles ∙ roles_are_made k []
 
--- the conditions of numbered decisions
+-- the conditions of decisions
 
--- a condition of one of these decisions, in the one instance
-abbrev IsOf : List DecEntry → (ℕ × ℕ) × ℕ → Type 0
-IsOf decisions c = (c.1 < condition_count (slice_get decisions c.0.0)) × (c.0.1 < 1)
-
-module _ (hs : List Decision) (one : Everywhere (λ h. HasOneCondition h.test) hs) where
-  abbrev entries : List DecEntry
-  entries = map decision_entry hs
-
-  known_from : (from count : ℕ) → from + count ≤ length hs → Everywhere (IsOf entries) (map condition_of_decision (numbers from count))
-  known_from from zero within = tt
-  known_from from (suc count) within = ((omega (arith, count_is hs from one (omega arith)), omega arith), known_from (suc from) count (omega arith))
-
-  zero_from : (from count : ℕ) → AllByRecursion (λ (c : (ℕ × ℕ) × ℕ). c.1 ≡ 0) (map condition_of_decision (numbers from count))
-  zero_from from zero = tt
-  zero_from from (suc count) = (refl, zero_from (suc from) count)
-
-  -- with the condition of a decision the decision has no other
-  whole_from : (count : ℕ) (found : List ((ℕ × ℕ) × ℕ)) → found ≡ map condition_of_decision (numbers 0 count) → AreWhole entries found
-  whole_from count found is c has n below =
-      let zeros : All (λ (d : (ℕ × ℕ) × ℕ). d.1 ≡ 0) found = subst (λ cs. All (λ (d : (ℕ × ℕ) × ℕ). d.1 ≡ 0) cs) (sym is) (All-from_recursion (λ (d : (ℕ × ℕ) × ℕ). d.1 ≡ 0) (map condition_of_decision (numbers 0 count)) (zero_from 0 count)) in
-      let here : c.1 ≡ 0 = subst (λ (d : (ℕ × ℕ) × ℕ). d.1 ≡ 0) has.2 (zeros has.0 c has.1) in
-      let other : n ≡ 0 = (count_there hs c.0.0 n one below).1 in
-      subst (λ d. Contains found d) (let same : c.1 ≡ n = here ∙ sym other in λ i. (c.0, same i)) has
-
+module _ (entries : List DecEntry) where
   -- such roles are roles of these decisions
 
   by_kind : (role : Role) (b : Bool) → is_condition role ≡ b → is_made_role role ≡ true → (b ≡ true → IsOf entries (condition_of role)) → is_role entries 1 role ≡ true
@@ -213,17 +188,21 @@ roles_few o passes =
 
 -- an object that holds the image of a kernel, whose conditions are those of numbered decisions
 
-module _ (hs : List Decision) (one : Everywhere (λ h. HasOneCondition h.test) hs) (k : Kernel) (o : Object) (holds : HoldsImage k o)
-    (found : conditions_of o.roles ≡ map condition_of_decision (numbers 0 (length hs))) where
+module _ (hs : List Decision) (k : Kernel) (o : Object) (holds : HoldsImage k o) (found : HaveConditions hs (conditions_of o.roles)) where
   pub held_are_roles : list_all (is_role (map decision_entry hs) 1) o.roles ≡ true
-  held_are_roles =
-      roles_pass hs one o.roles (held_are_made k o holds)
-      (subst (λ cs. Everywhere (IsOf (map decision_entry hs)) cs) (sym found) (known_from hs one 0 (length hs) (omega arith)))
+  held_are_roles = roles_pass (map decision_entry hs) o.roles (held_are_made k o holds) found.known
+
+  -- with a condition of a decision there is each other of it, in the one instance
+  whole : AreWhole (map decision_entry hs) (conditions_of o.roles)
+  whole c has n below =
+      let own = of_item (IsOf (map decision_entry hs)) (conditions_of o.roles) c found.known has in
+      let first : 0 ≡ c.0.1 = omega (arith, own.1) in
+      subst (λ i. Contains (conditions_of o.roles) ((c.0.0, i), n)) first (found.each c.0.0 n below)
 
   pub held_passes : o.obligations.decisions ≡ map decision_entry hs → PassesRole o
   held_passes are = record {
     branches = ap (map (λ (role : Role). role.address)) holds.roles
         ∙ (roles_are_branches (kernel_pieces k) [] (pieces_are_marked k).marks holds.items ∙ ap (branches_from 0x10000) (sym holds.text));
-    single = subst (λ cs. AllPairs (λ one next. one ≢ next) cs) (sym found) (conditions_differ 0 (length hs));
-    whole = subst (λ ds. AreWhole ds (conditions_of o.roles)) (sym are) (whole_from hs one (length hs) (conditions_of o.roles) found);
+    single = found.single;
+    whole = subst (λ ds. AreWhole ds (conditions_of o.roles)) (sym are) whole;
   }

@@ -2,16 +2,18 @@
 use Rattle.std.proofs.Common.{◌≡◌, ◌≢◌, ℕ, zero, suc, ◌^◌, ◌≤◌, ◌<◌, ◌==◌, ◌&&◌, cond, Bool, true, false, nat_lt, nat_le, List, [], ◌∷◌, ◌++◌, filter, length, map, AllPairs, refl, sym, ap, ◌∙◌, subst, arith, lit≤, length-append}
 use Rattle.std.specs.List.{list_all, AllByRecursion}
 use Rattle.std.proofs.lemmas.Bool.Decides.{nat_tests}
-use Rattle.std.proofs.lemmas.List.{append-nil, length-map}
+use Rattle.std.proofs.lemmas.List.{length-map}
 use Rattle.std.proofs.lemmas.List.Elements.{All-from_recursion}
 use Rattle.ada_meaning.specs.Collected.{Decision, declaration_labels, labels_of, labels, all_labels, branch_labels, block_labels, decisions_of}
 use Rattle.ada_meaning.specs.Objects.{block_objects}
 use Rattle.ada_meaning.specs.Obligations.{numbers, predefined_names, no_instance, decision_entry}
 use Rattle.ada_meaning.specs.Program.{Subprogram, Program}
 use Rattle.ada_meaning.specs.Tree as tree
-use Rattle.compiler.proofs.Conditions.{conditions_of_linked, condition_of_decision}
+use Rattle.compiler.proofs.Conditions.{conditions_of_linked}
 use Rattle.compiler.proofs.Conditions.{named as named_condition}
-use Rattle.compiler.proofs.DecisionEntries.{have_one, are_expressions}
+use Rattle.compiler.proofs.DecisionEntries.{are_expressions}
+use Rattle.compiler.proofs.Due.{HaveConditions}
+use Rattle.compiler.proofs.Due.{found_law as conditions_found}
 use Rattle.compiler.proofs.Placing.{numbers_law, placed_law, text_bound}
 use Rattle.compiler.proofs.Roles.{roles_few, held_are_roles, held_passes}
 use Rattle.compiler.proofs.RowStarts.{named, start_at, starts_of_linked, starts_differ, rows_in_range}
@@ -21,21 +23,22 @@ use Rattle.cov_base.specs.declared.position.Pos.{Pos}
 use Rattle.decision_meaning.specs.Pair.{Everywhere}
 use Rattle.kernel_code.proofs.PieceLaws.{pieces_are_marked}
 use Rattle.kernel_code.specs.Pieces.{kernel_pieces}
-use Rattle.legal_programs.specs.Listed.{HasOneCondition, entry_at, obligations_at}
+use Rattle.kernel_ir.specs.Obligations.{conditions}
+use Rattle.legal_programs.specs.Listed.{entry_at, obligations_at}
 use Rattle.line_table.specs.declared.roles.Role.{Role}
 use Rattle.line_table.specs.declared.rows.Row.{Row as TableRow}
 use Rattle.linker.proofs.RowMarks.{rows_are_in_order}
 use Rattle.linker.specs.Linked.{linked}
 use Rattle.lower.proofs.Marks.{rows_law, conditions_law}
 use Rattle.lower.specs.Lowered.{kernel_of}
-use Rattle.lower.specs.Marked.{row_of, condition_of}
+use Rattle.lower.specs.Marked.{row_of}
 use Rattle.lower.specs.Sizes.{declarations_nodes, statement_nodes, statements_nodes, branches_nodes, block_nodes, all_nodes}
 use Rattle.lower.specs.Structured.{behind_all, IsPlainStatement, ArePlainStatements, ArePlainBranches, IsPlainBlock, IsPlainProcedure}
 use Rattle.object_format.specs.Checked.{IsSound}
 use Rattle.object_format.specs.Counts.{IsCountable, AreCountable, InstanceFits, RegionFits, IsCounted}
 use Rattle.object_format.specs.Decisions.{AreExpression}
 use Rattle.object_format.specs.Fields.{is_placed, are_files, are_statements, are_decisions, are_obliged, is_row, is_role, passes_field}
-use Rattle.object_format.specs.Read.{HasObject, have_one_condition, is_plain}
+use Rattle.object_format.specs.Read.{HasObject, is_plain}
 use Rattle.object_format.specs.RoleCheck.{is_condition, conditions_of, PassesRole}
 use Rattle.object_format.specs.RoleCheck.{condition_of as numbers_of}
 use Rattle.object_format.specs.RowCheck.{start_of, is_in, PassesRow}
@@ -111,13 +114,10 @@ obliged_holds files places hs statements decisions =
     ap (λ b. true && true && b && are_decisions files (length (map entry_at places)) (map decision_entry hs) && true) statements ∙ ap (λ b. true && true && true && b && true) decisions
 
 abbrev plain_parts : List ℕ → Obligations → Bool
-plain_parts init ob =
-    (length init == 0) && (length ob.exceptions == 4) && (length ob.instances == 1) && have_one_condition ob.decisions && (length ob.regions == 0)
+plain_parts init ob = (length init == 0) && (length ob.exceptions == 4) && (length ob.instances == 1) && (length ob.regions == 0)
 
-plain_holds : (places : List Pos) (hs : List Decision) (init : List ℕ) (ob : Obligations) → init ≡ [] → Everywhere (λ h. HasOneCondition h.test) hs → ob ≡ obligations_at places hs []
-    → plain_parts init ob ≡ true
-plain_holds places hs init ob no_init one obligations =
-    ap (λ i. plain_parts i ob) no_init ∙ (ap (λ x. plain_parts [] x) obligations ∙ ap (λ b. true && true && true && b && true) (have_one hs one))
+plain_holds : (places : List Pos) (hs : List Decision) (init : List ℕ) (ob : Obligations) → init ≡ [] → ob ≡ obligations_at places hs [] → plain_parts init ob ≡ true
+plain_holds places hs init ob no_init obligations = ap (λ i. plain_parts i ob) no_init ∙ ap (λ x. plain_parts [] x) obligations
 
 few_files : (files : List FileEntry) → are_files files ≡ true → length files ≤ 64
 few_files files are =
@@ -139,18 +139,14 @@ starts_law p o able made =
     ∙ ap (map start_at) (subst (λ ls. map (λ l. l.number) ls ≡ numbers 0 (length ls)) able.in_order able.numbered.statements))))
 
 -- the conditions that its roles have
-conditions_named : (hs : List Decision) → map named_condition (map condition_of hs) ≡ map condition_of_decision (map (λ h. h.label.number) hs)
-conditions_named [] = refl
-conditions_named (h ∷ hs) = ap (λ cs. condition_of_decision h.label.number ∷ cs) (conditions_named hs)
-
-pub found_law : (p : Program) (o : Object) → IsCompilable p → IsMadeOf p o
-    → conditions_of o.roles ≡ map condition_of_decision (numbers 0 (length (decisions_of p.subprograms)))
+pub found_law : (p : Program) (o : Object) → IsCompilable p → IsMadeOf p o → HaveConditions (decisions_of p.subprograms) (conditions_of o.roles)
 found_law p o able made =
-    let marked = pieces_are_marked (kernel_of p) in
-    ap conditions_of made.holds.roles
-    ∙ (conditions_of_linked (kernel_pieces (kernel_of p)) [] marked.marks
-    ∙ (ap (map named_condition) (marked.conditions_named ∙ conditions_law p able.structured)
-    ∙ (conditions_named (decisions_of p.subprograms) ∙ ap (map condition_of_decision) (numbers_law p able))))
+    let k = kernel_of p in
+    let hs = decisions_of p.subprograms in
+    let marked = pieces_are_marked k in
+    let are : conditions_of o.roles ≡ map named_condition (conditions k) =
+    ap conditions_of made.holds.roles ∙ (conditions_of_linked (kernel_pieces k) [] marked.marks ∙ ap (map named_condition) marked.conditions_named) in
+    subst (λ cs. HaveConditions hs cs) (sym are) (conditions_found hs (conditions k) (numbers_law p able) (conditions_law p able.structured))
 
 pub entries_long : (p : Program) → length (map entry_at (places_in p)) ≡ length (labels_of p.subprograms)
 entries_long p = length-map (places_in p) entry_at ∙ length-map (labels_of p.subprograms) (λ l. l.place)
@@ -170,7 +166,7 @@ field_law p o able made =
     ap (λ ob. list_all (is_row (length ob.statements) (length ob.instances)) o.rows) made.obligations
     ∙ (ap (λ m. list_all (is_row m 1) o.rows) (entries_long p) ∙ rows_in_range n o.rows (starts_law p o able made)) in
     let roles : list_all (is_role o.obligations.decisions (length o.obligations.instances)) o.roles ≡ true =
-    ap (λ ob. list_all (is_role ob.decisions (length ob.instances)) o.roles) made.obligations ∙ held_are_roles hs able.tests (kernel_of p) o made.holds (found_law p o able made) in
+    ap (λ ob. list_all (is_role ob.decisions (length ob.instances)) o.roles) made.obligations ∙ held_are_roles hs (kernel_of p) o made.holds (found_law p o able made) in
     both_hold _ _ (both_hold _ _ (both_hold _ _ (both_hold (is_placed o) (are_files o.files) (placed_law p o able made.holds) made.files) obliged) rows) roles
 
 row_law : (p : Program) (o : Object) → IsCompilable p → IsMadeOf p o → PassesRow o
@@ -185,13 +181,13 @@ row_law p o able made =
 
 pub role_law : (p : Program) (o : Object) → IsCompilable p → IsMadeOf p o → PassesRole o
 role_law p o able made =
-    held_passes (decisions_of p.subprograms) able.tests (kernel_of p) o made.holds (found_law p o able made) (ap (λ ob. ob.decisions) made.obligations)
+    held_passes (decisions_of p.subprograms) (kernel_of p) o made.holds (found_law p o able made) (ap (λ ob. ob.decisions) made.obligations)
 
 sound_law : (p : Program) (o : Object) → IsCompilable p → IsMadeOf p o → IsSound o
 sound_law p o able made = record {
   field = field_law p o able made;
   decision = subst (λ ob. AllByRecursion (λ d. AreExpression d.expression.postfix (length d.conditions)) ob.decisions) (sym made.obligations)
-      (are_expressions (decisions_of p.subprograms) able.tests);
+      (are_expressions (decisions_of p.subprograms) able.few_conditions able.once);
   row = row_law p o able made;
   role = role_law p o able made;
 }
@@ -207,9 +203,7 @@ filtered_few (role ∷ roles) = by_test (is_condition role) (filtered_few roles)
 -- there are no more decisions than roles
 decisions_few : (p : Program) (o : Object) → IsCompilable p → IsMadeOf p o → length (decisions_of p.subprograms) ≤ length o.roles
 decisions_few p o able made =
-    let n = length (decisions_of p.subprograms) in
-    let long : length (conditions_of o.roles) ≡ n = ap length (found_law p o able made) ∙ (length-map (numbers 0 n) condition_of_decision ∙ numbers_long 0 n) in
-    omega (arith, long, length-map (filter is_condition o.roles) numbers_of, filtered_few o.roles)
+    omega (arith, (found_law p o able made).many, length-map (filter is_condition o.roles) numbers_of, filtered_few o.roles)
 
 -- the counts
 
@@ -237,5 +231,5 @@ counted_law p o able made =
 pub made_law : (p : Program) (o : Object) → IsCompilable p → IsMadeOf p o → HasObject o × (is_plain o ≡ true)
 made_law p o able made = (
   record { sound = sound_law p o able made; counted = counted_law p o able made },
-  plain_holds (places_in p) (decisions_of p.subprograms) o.init o.obligations made.holds.init able.tests made.obligations,
+  plain_holds (places_in p) (decisions_of p.subprograms) o.init o.obligations made.holds.init made.obligations,
 )

@@ -7,7 +7,7 @@ use Rattle.ada_meaning.specs.Program.{Program}
 use Rattle.ada_syntax.specs.declared.unit.Unit.{Unit as LibraryUnit}
 use Rattle.ada_types.specs.Checked.{entry_of}
 use Rattle.ada_types.specs.Legal.{elaborated}
-use Rattle.ada_places.specs.Places.{places_of, decision_places, condition_places}
+use Rattle.ada_places.specs.Places.{places_of, decision_places, unit_conditions}
 use Rattle.compiler.specs.Held.{HoldsImage}
 use Rattle.compiler.specs.Source.{entry_of_file}
 use Rattle.cov_base.specs.declared.obligations.SourceFile.{SourceFile}
@@ -42,6 +42,6 @@ pub record AreLegal (files : List SourceFile) (main : List ℕ) (p : Program) : 
   pub decisions_rising : DecisionsRise units
   pub within : AreInFiles (length files) (places_of units)
   pub decisions_within : AreInFiles (length files) (decision_places units)
-  pub conditions_within : AreInFiles (length files) (condition_places units)
+  pub conditions_within : AreInFiles (length files) (unit_conditions units)
   pub elaborated : elaborated units main ≡ Some p
   pub small : first_past 0 (map entry_of units) ≡ None

@@ -6,9 +6,8 @@ use Rattle.ada_names.specs.Naming.{named}
 use Rattle.ada_names.specs.Rules.{BreaksNames}
 use Rattle.ada_syntax.specs.declared.unit.Unit.{Unit as LibraryUnit}
 use Rattle.ada_tree.specs.declared.program.UnitEntry.{UnitEntry}
-use Rattle.ada_types.specs.Legal.{typed}
+use Rattle.ada_types.specs.Legal.{typed, past_limits}
 use Rattle.ada_types.specs.Rules.{BreaksTypes}
-use Rattle.ada_types.specs.Typing.{too_many_words}
 use Rattle.ada_types.specs.declared.fault.CheckFault.{CheckFault}
 use Rattle.ada_types.specs.declared.fault.CheckFault.TheVariants as check_fault
 use Rattle.cov_base.specs.declared.failure.Failure.{Failure}
@@ -36,11 +35,11 @@ too_large (Fault (TooBig pos)) = failure_at pos Limit
 too_large (Fault (TooMany pos)) = failure_at pos Limit
 too_large WantOfMemory = WantOfMemory
 
--- units that are refused by the rules on names or on types, or by the limit on declared words, with their first fault
+-- units that are refused by the rules on names or on types, or by the limits on declared words and on conditions, with their first fault
 pub data UnitsAreRefused (units : List LibraryUnit) (main : List ℕ) : Failure SourceFault → Type 0 where
   breaks_names : {pos : Pos} → BreaksNames units (str_to_ascii_lowercase main) pos → UnitsAreRefused units main (failure_at pos Naming)
   breaks_types : {pos : Pos} → named units (str_to_ascii_lowercase main) ≡ true → BreaksTypes units pos → UnitsAreRefused units main (failure_at pos Typing)
-  declares_too_much : {ss : List Subprogram} {pos : Pos} → named units (str_to_ascii_lowercase main) ≡ true → typed units ≡ Some ss → too_many_words units ss ≡ Some pos
+  passes_a_limit : {ss : List Subprogram} {pos : Pos} → named units (str_to_ascii_lowercase main) ≡ true → typed units ≡ Some ss → past_limits units ss ≡ Some pos
       → UnitsAreRefused units main (failure_at pos Limit)
   memory_is_out : UnitsAreRefused units main WantOfMemory
 

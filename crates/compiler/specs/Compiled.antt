@@ -4,7 +4,7 @@ use Rattle.std.specs.List.{All}
 use Rattle.ada_meaning.specs.Obligations.{obligations_of}
 use Rattle.ada_meaning.specs.Program.{Program}
 use Rattle.ada_syntax.specs.declared.unit.Unit.{Unit as LibraryUnit}
-use Rattle.ada_places.specs.Places.{places_of, decision_places, condition_places}
+use Rattle.ada_places.specs.Places.{places_of, decision_places, unit_conditions}
 use Rattle.compiler.specs.Held.{HoldsImage}
 use Rattle.parsed_programs.specs.Places.{AreInFiles}
 use Rattle.lower.specs.Lowered.{kernel_of}
@@ -21,4 +21,4 @@ pub record IsCompiled (units : List LibraryUnit) (p : Program) (o : Object) : Ty
   pub names : All FileFits o.files
   pub places : AreInFiles (length o.files) (places_of units)
   pub decisions : AreInFiles (length o.files) (decision_places units)
-  pub conditions : AreInFiles (length o.files) (condition_places units)
+  pub conditions : AreInFiles (length o.files) (unit_conditions units)

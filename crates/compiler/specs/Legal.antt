@@ -6,9 +6,8 @@ use Rattle.ada_names.specs.Naming.{named}
 use Rattle.ada_names.specs.Rules.{BreaksNames}
 use Rattle.ada_syntax.specs.declared.unit.Unit.{Unit as LibraryUnit}
 use Rattle.ada_types.specs.Checked.{entry_of}
-use Rattle.ada_types.specs.Legal.{typed, elaborated}
+use Rattle.ada_types.specs.Legal.{typed, past_limits, elaborated}
 use Rattle.ada_types.specs.Rules.{BreaksTypes}
-use Rattle.ada_types.specs.Typing.{too_many_words}
 use Rattle.cov_base.specs.declared.failure.Failure.{Failure}
 use Rattle.cov_base.specs.declared.failure.Failure.TheVariants.{Fault, WantOfMemory}
 use Rattle.cov_base.specs.declared.obligations.SourceFile.{SourceFile}
@@ -27,15 +26,16 @@ pub record IsLegal (files : List SourceFile) (main : List ℕ) (p : Program) : T
   pub few : first_past 0 (map entry_of units) ≡ None
 
 -- Sources that are refused, with their first fault: they have no units; else a construct breaks a rule on names, where the case of the main
--- procedure's name does not count; else one on types; else a procedure declares too many words; else there are too many nodes.
+-- procedure's name does not count; else one on types; else a procedure declares too many words, or a decision has too many conditions; else there are too
+-- many nodes.
 pub data AreRefused (files : List SourceFile) (main : List ℕ) : SourceFault → Type 0 where
   no_units : {fault : SourceFault} → HaveNoUnits files fault → AreRefused files main fault
   breaks_names : {units : List LibraryUnit} {pos : Pos} → HaveUnits files units → BreaksNames units (str_to_ascii_lowercase main) pos
       → AreRefused files main (fault_at pos Naming)
   breaks_types : {units : List LibraryUnit} {pos : Pos} → HaveUnits files units → named units (str_to_ascii_lowercase main) ≡ true → BreaksTypes units pos
       → AreRefused files main (fault_at pos Typing)
-  declares_too_much : {units : List LibraryUnit} {ss : List Subprogram} {pos : Pos} → HaveUnits files units → named units (str_to_ascii_lowercase main) ≡ true → typed units ≡ Some ss
-      → too_many_words units ss ≡ Some pos → AreRefused files main (fault_at pos Limit)
+  passes_a_limit : {units : List LibraryUnit} {ss : List Subprogram} {pos : Pos} → HaveUnits files units → named units (str_to_ascii_lowercase main) ≡ true → typed units ≡ Some ss
+      → past_limits units ss ≡ Some pos → AreRefused files main (fault_at pos Limit)
   too_many_nodes : {units : List LibraryUnit} {p : Program} {pos : Pos} → HaveUnits files units → elaborated units main ≡ Some p → first_past 0 (map entry_of units) ≡ Some pos
       → AreRefused files main (fault_at pos Limit)
 

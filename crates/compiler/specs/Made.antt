@@ -4,10 +4,12 @@ use Rattle.std.specs.List.{All}
 use Rattle.ada_meaning.specs.Collected.{labels_of, decisions_of}
 use Rattle.ada_meaning.specs.Obligations.{IsNumbered, ordered_labels, ordered_decisions}
 use Rattle.ada_meaning.specs.Program.{Program}
+use Rattle.ada_meaning.specs.Tree.{shape_of, conditions_of}
+use Rattle.decision_meaning.specs.Expr.{negates_once}
 use Rattle.compiler.specs.Held.{HoldsImage}
 use Rattle.cov_base.specs.declared.position.Pos.{Pos}
 use Rattle.decision_meaning.specs.Pair.{Everywhere}
-use Rattle.legal_programs.specs.Listed.{HasOneCondition, obligations_at}
+use Rattle.legal_programs.specs.Listed.{obligations_at}
 use Rattle.lower.specs.Lowered.{kernel_of}
 use Rattle.lower.specs.Sizes.{all_nodes}
 use Rattle.lower.specs.Structured.{IsStructured}
@@ -20,13 +22,14 @@ abbrev pub places_in : Program → List Pos
 places_in p = map (λ l. l.place) (labels_of p.subprograms)
 
 -- a program that can be compiled today: structured code within the limit on nodes; its statements and its decisions are numbered in the
--- order in which they stand, and each decision has one condition
+-- order in which they stand; each decision has at most 32 conditions, and no `not` stands directly in another
 pub record IsCompilable (p : Program) : Type 0 where
   pub structured : IsStructured p
   pub numbered : IsNumbered p
   pub in_order : ordered_labels p ≡ labels_of p.subprograms
   pub decisions_in_order : ordered_decisions p ≡ decisions_of p.subprograms
-  pub tests : Everywhere (λ h. HasOneCondition h.test) (decisions_of p.subprograms)
+  pub few_conditions : Everywhere (λ h. conditions_of h.test ≤ 32) (decisions_of p.subprograms)
+  pub once : Everywhere (λ h. negates_once (shape_of h.test) ≡ true) (decisions_of p.subprograms)
   pub few : all_nodes p.subprograms + length p.subprograms ≤ 4096
 
 -- an object that is made of a program: it holds the image of the program's kernel, its obligations are the program's statements and

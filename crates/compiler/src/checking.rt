@@ -37,7 +37,8 @@ pub(crate) fn legal_program(
     Ok(program)
 }
 
-/// The program of units that pass the rules on names and types, and the limit on declared words.
+/// The program of units that pass the rules on names and types, and the limits on declared words and on
+/// conditions.
 #[tactic(auto, using(crate::proofs::Checked::refusals))]
 fn checked_program(
     alloc: Global,

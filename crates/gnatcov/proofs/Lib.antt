@@ -7,5 +7,6 @@ pub mod RunLaws
 pub mod StopLaws
 pub mod RunsLaw
 pub mod HeadlineLaws
+pub mod PairLaws
 pub mod InputLaws
 pub mod CompleteLaws

@@ -4,6 +4,7 @@ pub mod Content
 pub mod Covering
 pub mod Failures
 pub mod Headline
+pub mod ShownPairs
 pub mod Lines
 pub mod Outcome
 pub mod Reading

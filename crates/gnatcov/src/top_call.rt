@@ -11,6 +11,7 @@ ghost use Rattle.gnatcov.specs.Lines.{line_of};
 ghost use Rattle.gnatcov.specs.Outcome.{call_of, PutsText, Delivers, Because, Answers};
 ghost use Rattle.gnatcov.specs.Ready.{output_view};
 ghost use Rattle.gnatcov.specs.RunsCovered.{RunsAreCovered};
+ghost use Rattle.gnatcov.specs.ShownPairs.{ShownPairsOccurred};
 ghost use Rattle.gnatcov.specs.Verdict.{name_at, name_of};
 
 use crate::ready::{Ready, prepare};
@@ -48,6 +49,9 @@ pub fn gnatcov<F: Files, S: Sink>(
     // traces of its runs: the report of the program's own executions.
     ensures runs { RunsAreCovered (task_of (map string_bytes words.now)) (call_of F.held F.reads_failed F.writes_failed S.written S.failures files.old files.new out.old out.new) result }
     ensures source { CoverageTellsTheSource (task_of (map string_bytes words.now)) (call_of F.held F.reads_failed F.writes_failed S.written S.failures files.old files.new out.old out.new) result }
+
+    // Each pair in that report is of two vectors that occurred in the program's own executions.
+    ensures pairs { ShownPairsOccurred (task_of (map string_bytes words.now)) (call_of F.held F.reads_failed F.writes_failed S.written S.failures files.old files.new out.old out.new) result }
 
     // Legal programs compile, their runs end in time and never trap, and the traces of these are covered.
     ensures compiles { LegalSourcesCompile (task_of (map string_bytes words.now)) (call_of F.held F.reads_failed F.writes_failed S.written S.failures files.old files.new out.old out.new) result }

@@ -1,73 +1,90 @@
 -- The decisions of typed code, beside those of its text.
-use Rattle.std.proofs.Common.{◌≡◌, ℕ, ◌<◌, length, List, [], ◌∷◌, ◌++◌, map, refl, sym, ap, ◌∙◌, subst}
+use Rattle.std.proofs.Common.{◌≡◌, ◌<◌, ◌≤◌, length, nat_le, Bool, true, false, if◌then◌else◌, List, [], ◌∷◌, ◌++◌, map, Option, Some, refl, ap, ◌∙◌, arith, length-append}
+use Rattle.std.specs.Prelude.{is_none}
+use Rattle.std.proofs.lemmas.Bool.Decides.{nat_tests}
+use Rattle.cov_base.specs.declared.position.Pos.{Pos}
+use Rattle.decision_meaning.specs.Expr.{negates_once}
 use Rattle.decision_meaning.specs.Pair.{Everywhere}
-use Rattle.ada_syntax.specs.Tree as source
-use Rattle.ada_syntax.specs.Tree.{expr_pos}
-use Rattle.ada_meaning.specs.Collected as collected
-use Rattle.ada_meaning.specs.Collected.{Standing, Decision, in_decision, in_test}
+use Rattle.ada_meaning.specs.Collected.{Decision, condition_places}
 use Rattle.ada_meaning.specs.Tree as tree
-use Rattle.ada_places.specs.Places.{label_at, condition_place}
+use Rattle.ada_meaning.specs.Tree.{shape_of, conditions_of}
+use Rattle.ada_places.specs.Places.{Found, label_of_found, most_conditions, first_wide}
 use Rattle.ada_places.specs.declared.places.Places.{Places}
-use Rattle.legal_programs.specs.Listed.{HasOneCondition}
-use Rattle.legal_programs.proofs.Tests.{IsTestAt}
 
 -- a decision of the text, in a program whose obligations stand at these places
-pub record IsDecided (places : Places) (h : Decision) (e : source.Expr) : Type 0 where
-  pub label : h.label ≡ label_at places.decisions (expr_pos e)
-  pub conditions : collected.condition_places h.test ≡ condition_place e ∷ []
-  pub one : HasOneCondition h.test
+pub record IsDecided (places : Places) (h : Decision) (d : Found) : Type 0 where
+  pub label : h.label ≡ label_of_found places.decisions d
+  pub conditions : condition_places h.test ≡ d.conditions
+  pub once : negates_once (shape_of h.test) ≡ true
   pub held : h.statement < length places.statements
 
 -- as many decisions, each of its text
-abbrev pub AreDecided : Places → List Decision → List source.Expr → Type 0
+abbrev pub AreDecided : Places → List Decision → List Found → Type 0
 AreDecided places [] [] = Unit {0}
-AreDecided places [] (e ∷ es) = ⊥
+AreDecided places [] (d ∷ ds) = ⊥
 AreDecided places (h ∷ hs) [] = ⊥
-AreDecided places (h ∷ hs) (e ∷ es) = IsDecided places h e × AreDecided places hs es
+AreDecided places (h ∷ hs) (d ∷ ds) = IsDecided places h d × AreDecided places hs ds
 
-pub decided_joined : (places : Places) (hs gs : List Decision) (es fs : List source.Expr) → AreDecided places hs es → AreDecided places gs fs
-    → AreDecided places (hs ++ gs) (es ++ fs)
-decided_joined places [] gs [] fs h g = g
-decided_joined places [] gs (e ∷ es) fs h g = absurd h
-decided_joined places (k ∷ hs) gs [] fs h g = absurd h
-decided_joined places (k ∷ hs) gs (e ∷ es) fs h g = (h.0, decided_joined places hs gs es fs h.1 g)
-
--- a decision of one condition and what comes behind it
-pub decided_first : (places : Places) (n : ℕ) (standing : Standing) (e : source.Expr) (d : tree.Label) (t : tree.Test) (gs : List Decision) (fs : List source.Expr)
-    → n < length places.statements → d ≡ label_at places.decisions (expr_pos e) → IsTestAt (condition_place e) t → AreDecided places gs fs
-    → AreDecided places (in_decision n standing d t ++ gs) (e ∷ fs)
-decided_first places n standing e d t gs fs held is test rest = (
-  record { label = is; conditions = test.conditions; one = test.one; held = held },
-  subst (λ hs. AreDecided places (hs ++ gs) fs) (sym (test.quiet n)) rest,
-)
+pub decided_joined : (places : Places) (hs gs : List Decision) (ds es : List Found) → AreDecided places hs ds → AreDecided places gs es
+    → AreDecided places (hs ++ gs) (ds ++ es)
+decided_joined places [] gs [] es h g = g
+decided_joined places [] gs (d ∷ ds) es h g = absurd h
+decided_joined places (k ∷ hs) gs [] es h g = absurd h
+decided_joined places (k ∷ hs) gs (d ∷ ds) es h g = (h.0, decided_joined places hs gs ds es h.1 g)
 
 -- what lists of decisions tell
-pub decided_labels : (places : Places) (hs : List Decision) (es : List source.Expr) → AreDecided places hs es
-    → map (λ h. h.label) hs ≡ map (label_at places.decisions) (map expr_pos es)
+pub decided_labels : (places : Places) (hs : List Decision) (ds : List Found) → AreDecided places hs ds
+    → map (λ h. h.label) hs ≡ map (label_of_found places.decisions) ds
 decided_labels places [] [] h = refl
-decided_labels places [] (e ∷ es) h = absurd h
+decided_labels places [] (d ∷ ds) h = absurd h
 decided_labels places (k ∷ hs) [] h = absurd h
-decided_labels places (k ∷ hs) (e ∷ es) h =
-    ap (λ l. l ∷ map (λ h. h.label) hs) h.0.label ∙ ap (λ ls. label_at places.decisions (expr_pos e) ∷ ls) (decided_labels places hs es h.1)
+decided_labels places (k ∷ hs) (d ∷ ds) h =
+    ap (λ l. l ∷ map (λ h. h.label) hs) h.0.label ∙ ap (λ ls. label_of_found places.decisions d ∷ ls) (decided_labels places hs ds h.1)
 
-pub decided_conditions : (places : Places) (hs : List Decision) (es : List source.Expr) → AreDecided places hs es
-    → map (λ h. collected.condition_places h.test) hs ≡ map (λ place. place ∷ []) (map condition_place es)
+pub decided_conditions : (places : Places) (hs : List Decision) (ds : List Found) → AreDecided places hs ds
+    → map (λ h. condition_places h.test) hs ≡ map (λ d. d.conditions) ds
 decided_conditions places [] [] h = refl
-decided_conditions places [] (e ∷ es) h = absurd h
+decided_conditions places [] (d ∷ ds) h = absurd h
 decided_conditions places (k ∷ hs) [] h = absurd h
-decided_conditions places (k ∷ hs) (e ∷ es) h =
-    ap (λ ps. ps ∷ map (λ h. collected.condition_places h.test) hs) h.0.conditions
-    ∙ ap (λ all. (condition_place e ∷ []) ∷ all) (decided_conditions places hs es h.1)
+decided_conditions places (k ∷ hs) (d ∷ ds) h =
+    ap (λ ps. ps ∷ map (λ h. condition_places h.test) hs) h.0.conditions ∙ ap (λ all. d.conditions ∷ all) (decided_conditions places hs ds h.1)
 
-pub decided_tests : (places : Places) (hs : List Decision) (es : List source.Expr) → AreDecided places hs es → Everywhere (λ h. HasOneCondition h.test) hs
-decided_tests places [] [] h = tt
-decided_tests places [] (e ∷ es) h = absurd h
-decided_tests places (k ∷ hs) [] h = absurd h
-decided_tests places (k ∷ hs) (e ∷ es) h = (h.0.one, decided_tests places hs es h.1)
+pub decided_once : (places : Places) (hs : List Decision) (ds : List Found) → AreDecided places hs ds → Everywhere (λ h. negates_once (shape_of h.test) ≡ true) hs
+decided_once places [] [] h = tt
+decided_once places [] (d ∷ ds) h = absurd h
+decided_once places (k ∷ hs) [] h = absurd h
+decided_once places (k ∷ hs) (d ∷ ds) h = (h.0.once, decided_once places hs ds h.1)
 
-pub decided_statements : (places : Places) (hs : List Decision) (es : List source.Expr) → AreDecided places hs es
+pub decided_statements : (places : Places) (hs : List Decision) (ds : List Found) → AreDecided places hs ds
     → Everywhere (λ h. h.statement < length places.statements) hs
 decided_statements places [] [] h = tt
-decided_statements places [] (e ∷ es) h = absurd h
+decided_statements places [] (d ∷ ds) h = absurd h
 decided_statements places (k ∷ hs) [] h = absurd h
-decided_statements places (k ∷ hs) (e ∷ es) h = (h.0.held, decided_statements places hs es h.1)
+decided_statements places (k ∷ hs) (d ∷ ds) h = (h.0.held, decided_statements places hs ds h.1)
+
+-- how many conditions a decision has
+count_of_places : (t : tree.Test) → conditions_of t ≡ length (condition_places t)
+count_of_places (tree.condition at e) = refl
+count_of_places (tree.negation t) = count_of_places t
+count_of_places (tree.operator neutral t u) =
+    let left = count_of_places t in
+    let right = count_of_places u in
+    let joined = length-append (condition_places t) (condition_places u) in
+    omega (arith, left, right, joined)
+
+first_few : (d : Found) (b : Bool) (rest : Option Pos) → nat_le (length d.conditions) most_conditions ≡ b → is_none (if b then rest else Some d.place) ≡ true
+    → (length d.conditions ≤ most_conditions) × (is_none rest ≡ true)
+first_few d true rest is h = (grind (arith, nat_tests), h)
+first_few d false rest is h = absurd (cc h)
+
+pub decided_few : (places : Places) (hs : List Decision) (ds : List Found) → AreDecided places hs ds → is_none (first_wide ds) ≡ true
+    → Everywhere (λ h. conditions_of h.test ≤ most_conditions) hs
+decided_few places [] [] h few = tt
+decided_few places [] (d ∷ ds) h few = absurd h
+decided_few places (k ∷ hs) [] h few = absurd h
+decided_few places (k ∷ hs) (d ∷ ds) h few =
+    let first = first_few d _ (first_wide ds) refl few in
+    let count = count_of_places k.test in
+    let same = ap (λ (ps : List Pos). length ps) h.0.conditions in
+    let some = first.0 in
+    (omega (arith, count, same, some), decided_few places hs ds h.1 first.1)

@@ -3,12 +3,12 @@ pub mod PlainExpressions
 pub mod PlainDeclarations
 pub mod PlainStatements
 pub mod PlainPrograms
-pub mod Quiet
-pub mod Tests
 pub mod Decided
+pub mod Judgements
 pub mod Numbers
 pub mod ListedDeclarations
 pub mod ListedStatements
+pub mod Precedence
 pub mod ListedUnits
 pub mod Order
 pub mod ListedLaws

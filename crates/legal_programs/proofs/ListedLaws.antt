@@ -1,5 +1,6 @@
 -- The laws of labels and decisions.
-use Rattle.std.proofs.Common.{◌≡◌, ℕ, ◌<◌, length, List, [], ◌∷◌, map, Some, refl, sym, ap, ◌∙◌, subst}
+use Rattle.std.proofs.Common.{◌≡◌, ℕ, ◌<◌, ◌≤◌, length, true, List, [], ◌∷◌, map, Some, refl, sym, ap, ◌∙◌, subst}
+use Rattle.decision_meaning.specs.Expr.{negates_once}
 use Rattle.decision_meaning.specs.Pair.{Everywhere}
 use Rattle.cov_base.specs.declared.position.Pos.{Pos}
 use Rattle.ada_syntax.specs.declared.unit.Unit.{Unit as LibraryUnit}
@@ -7,11 +8,10 @@ use Rattle.ada_meaning.specs.Collected as collected
 use Rattle.ada_meaning.specs.Collected.{Decision, labels_of, decisions_of}
 use Rattle.ada_meaning.specs.Objects.{AreDistinct, IsDeclaredOnce}
 use Rattle.ada_meaning.specs.Program.{Program}
-use Rattle.ada_meaning.specs.Tree.{Label}
-use Rattle.ada_places.specs.Places.{label_at, places_of, decisions_of_units, decision_places, condition_places, all_places_of}
+use Rattle.ada_meaning.specs.Tree.{Label, shape_of, conditions_of}
+use Rattle.ada_places.specs.Places.{label_at, label_of_found, most_conditions, places_of, decisions_of_units, decision_places, all_places_of}
 use Rattle.ada_types.specs.Legal.{elaborated, program_with}
-use Rattle.legal_programs.specs.Listed.{HasOneCondition}
-use Rattle.legal_programs.proofs.Decided.{decided_labels, decided_conditions, decided_tests, decided_statements}
+use Rattle.legal_programs.proofs.Decided.{decided_labels, decided_conditions, decided_few, decided_once, decided_statements}
 use Rattle.legal_programs.proofs.ListedUnits.{IsListedProgram, listed_program}
 
 pub place_of_each : (all ps : List Pos) → map (λ l. l.place) (map (label_at all) ps) ≡ ps
@@ -31,14 +31,17 @@ module _ (us : List LibraryUnit) (main : List ℕ) (p : Program) (legal : elabor
   pub places_law : map (λ l. l.place) (labels_of p.subprograms) ≡ places_of us
   places_law = ap (λ (ls : List Label). map (λ l. l.place) ls) labels_law ∙ place_of_each (places_of us) (places_of us)
 
-  pub decision_labels_law : map (λ h. h.label) (decisions_of p.subprograms) ≡ map (label_at (decision_places us)) (decision_places us)
+  pub decision_labels_law : map (λ h. h.label) (decisions_of p.subprograms) ≡ map (label_of_found (decision_places us)) (decisions_of_units us)
   decision_labels_law = decided_labels (all_places_of us) (decisions_of p.subprograms) (decisions_of_units us) facts.units.decisions
 
-  pub conditions_law : map (λ h. collected.condition_places h.test) (decisions_of p.subprograms) ≡ map (λ place. place ∷ []) (condition_places us)
+  pub conditions_law : map (λ h. collected.condition_places h.test) (decisions_of p.subprograms) ≡ map (λ d. d.conditions) (decisions_of_units us)
   conditions_law = decided_conditions (all_places_of us) (decisions_of p.subprograms) (decisions_of_units us) facts.units.decisions
 
-  pub tests_law : Everywhere (λ h. HasOneCondition h.test) (decisions_of p.subprograms)
-  tests_law = decided_tests (all_places_of us) (decisions_of p.subprograms) (decisions_of_units us) facts.units.decisions
+  pub few_law : Everywhere (λ h. conditions_of h.test ≤ most_conditions) (decisions_of p.subprograms)
+  few_law = decided_few (all_places_of us) (decisions_of p.subprograms) (decisions_of_units us) facts.units.decisions facts.few
+
+  pub once_law : Everywhere (λ h. negates_once (shape_of h.test) ≡ true) (decisions_of p.subprograms)
+  once_law = decided_once (all_places_of us) (decisions_of p.subprograms) (decisions_of_units us) facts.units.decisions
 
   pub held_law : Everywhere (λ h. h.statement < length (places_of us)) (decisions_of p.subprograms)
   held_law = decided_statements (all_places_of us) (decisions_of p.subprograms) (decisions_of_units us) facts.units.decisions

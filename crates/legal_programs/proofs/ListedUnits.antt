@@ -16,16 +16,17 @@ use Rattle.ada_meaning.specs.Tree as tree
 use Rattle.ada_names.specs.Library.{declarations_of_item, statements_of_item}
 use Rattle.ada_names.specs.Names.{Region}
 use Rattle.ada_names.specs.Naming.{library_of, main_from, named}
-use Rattle.ada_places.specs.Places.{label_at, declaration_places, all_places, all_decisions, item_places, places_of, decisions_of_units, all_places_of}
+use Rattle.ada_places.specs.Places.{label_at, declaration_places, all_places, item_places, item_decisions, places_of, decisions_of_units, first_wide, all_places_of}
 use Rattle.ada_places.specs.declared.places.Places.{Places}
-use Rattle.ada_places.proofs.Order.{never_itself}
 use Rattle.ada_types.specs.Typing.{Elaborated, declared_by_all, objects_in_all, is_plain_item, procedure_of, context_of, typed_body, typed_unit, typed_units, too_many_words}
-use Rattle.ada_types.specs.Legal.{typed, program_with, within_words, program_of_main, typed_program, elaborated}
+use Rattle.ada_types.specs.Legal.{typed, program_with, past_limits, within_limits, program_of_main, typed_program, elaborated}
+use Rattle.legal_programs.proofs.Precedence.{never_itself}
 use Rattle.legal_programs.proofs.Options.{if_then, if_map, if_test, any_value, of_some}
 use Rattle.legal_programs.proofs.Decided.{AreDecided, decided_joined}
 use Rattle.legal_programs.proofs.Numbers.{distinct_numbers}
-use Rattle.legal_programs.proofs.ListedDeclarations.{AreOfAll, declarations_declared}
-use Rattle.legal_programs.proofs.ListedStatements.{HaveNumbers, left_numbers, right_numbers, AreListed, statements_listed, body_listed}
+use Rattle.legal_programs.proofs.PlainPrograms.{neither}
+use Rattle.legal_programs.proofs.ListedDeclarations.{HaveNumbers, left_numbers, right_numbers, AreOfAll, declarations_declared}
+use Rattle.legal_programs.proofs.ListedStatements.{AreListed, statements_listed, body_listed}
 
 -- each of some places has a number among them
 at_most_one : (b : Bool) → cond {A = ℕ} b 1 0 ≤ 1
@@ -71,7 +72,7 @@ have_numbers xs = among_numbers xs xs (each_among xs)
 -- a unit
 record IsListedUnit (places : Places) (u : LibraryUnit) (s : Subprogram) : Type 0 where
   labels : block_labels s.body ≡ map (label_at places.statements) (item_places u.item)
-  decisions : AreDecided places (in_block s.body) (all_decisions (statements_of_item u.item))
+  decisions : AreDecided places (in_block s.body) (item_decisions u.item)
   objects : AreDistinct (objects_of s)
 
 -- units
@@ -94,7 +95,7 @@ unit_listed library places n u h =
     let k = context_of library places n u in
     if_test (IsListedUnit places u) (is_plain_item u.item) _
     (λ plain. if_then (AreOfAll k (declarations_of_item u.item)) (IsListedUnit places u) (typed_body (statements_of_item u.item)) _
-    (declarations_declared k (declarations_of_item u.item))
+    (declarations_declared k (declarations_of_item u.item) (left_numbers places.statements (declaration_places (declarations_of_item u.item)) _ h))
     (λ x declared. if_map (AreListed x.context.places x.context.next (statements_of_item u.item)) (IsListedUnit places u) (procedure_of x.declarations) _
     (statements_listed x.context (statements_of_item u.item)
     (subst (λ (all : Places). HaveNumbers all.statements (all_places (statements_of_item u.item))) (sym declared.keeps)
@@ -114,7 +115,7 @@ units_listed library places n (u ∷ us) h =
           ∙ (ap (λ ls. map (label_at places.statements) (item_places u.item) ++ ls) rest.labels
           ∙ sym (map-append (label_at places.statements) (item_places u.item) (places_of us)));
       decisions =
-          decided_joined places (in_block s.body) (decisions_of ss) (all_decisions (statements_of_item u.item)) (decisions_of_units us) first.decisions rest.decisions;
+          decided_joined places (in_block s.body) (decisions_of ss) (item_decisions u.item) (decisions_of_units us) first.decisions rest.decisions;
       locals = (first.objects, rest.locals);
     }))
 
@@ -122,14 +123,20 @@ units_listed library places n (u ∷ us) h =
 pub record IsListedProgram (us : List LibraryUnit) (p : Program) : Type 0 where
   pub units : AreListedUnits (all_places_of us) us p.subprograms
   pub same : p ≡ program_with p.main p.subprograms
+  pub few : is_none (first_wide (decisions_of_units us)) ≡ true
 
 within_listed : (us : List LibraryUnit) (m : ℕ) (ss : List Subprogram) → AreListedUnits (all_places_of us) us ss
-    → IfSome (within_words us m ss) (IsListedProgram us)
-within_listed us m ss units = if_test (IsListedProgram us) (is_none (too_many_words us ss)) _ (λ few. record { units = units; same = refl })
+    → IfSome (within_limits us m ss) (IsListedProgram us)
+within_listed us m ss units =
+    if_test (IsListedProgram us) (is_none (past_limits us ss)) _ (λ few. record {
+      units = units;
+      same = refl;
+      few = (neither (too_many_words us ss) (first_wide (decisions_of_units us)) few).1;
+    })
 
 main_listed : (us : List LibraryUnit) (m : ℕ) → IfSome (program_of_main us m) (IsListedProgram us)
 main_listed us m =
-    if_then (AreListedUnits (all_places_of us) us) (IsListedProgram us) (within_words us m) (typed us)
+    if_then (AreListedUnits (all_places_of us) us) (IsListedProgram us) (within_limits us m) (typed us)
     (units_listed (library_of us).region (all_places_of us) 0 us (have_numbers (places_of us))) (λ ss units. within_listed us m ss units)
 
 typed_listed : (us : List LibraryUnit) (main : List ℕ) → IfSome (typed_program us main) (IsListedProgram us)

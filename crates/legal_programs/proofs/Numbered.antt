@@ -8,12 +8,12 @@ use Rattle.ada_meaning.specs.Program.{Program}
 use Rattle.ada_meaning.specs.Collected.{Decision, labels_of, decisions_of}
 use Rattle.ada_meaning.specs.Obligations.{in_order, ordered_labels, ordered_decisions, ordered_exceptions, precedes, statement_entry, decision_entry, instance_entry, no_instance, predefined_names, obligations_of, numbers, IsNumbered, IsResolved}
 use Rattle.ada_places.specs.Order.{AreOrdered}
-use Rattle.ada_places.specs.Places.{label_at, places_of, decision_places}
+use Rattle.ada_places.specs.Places.{label_at, places_of, decisions_of_units, decision_places}
 use Rattle.ada_types.specs.Legal.{elaborated}
 use Rattle.legal_programs.specs.Rising.{StatementsRise, DecisionsRise}
 use Rattle.legal_programs.specs.Listed.{entry_at, obligations_at}
-use Rattle.legal_programs.proofs.ListedLaws.{same_law, labels_law, decision_labels_law, place_of_each}
-use Rattle.legal_programs.proofs.Order.{ordered, numbered_labels, labels_in_order, length_labels, stands_before, decision_place, decisions_stay}
+use Rattle.legal_programs.proofs.ListedLaws.{same_law, labels_law, decision_labels_law}
+use Rattle.legal_programs.proofs.Order.{rising, numbered_labels, labels_in_order, length_labels, label_before, found_rise, found_ordered, numbered_found, places_of_found, count_of_found, count_of_places, decision_place, decisions_stay}
 
 -- what the labels of decisions tell
 places_of_labels : (hs : List Decision) → map decision_place hs ≡ map (λ l. l.place) (map (λ h. h.label) hs)
@@ -45,53 +45,56 @@ module _ (us : List LibraryUnit) (main : List ℕ) (p : Program) (legal : elabor
   pub count_law : length (labels_of p.subprograms) ≡ length (places_of us)
   count_law = ap (λ (ls : List tree.Label). length ls) (labels_law us main p legal) ∙ length_labels (places_of us) (places_of us)
 
-  pub decision_count_law : length (decisions_of p.subprograms) ≡ length (decision_places us)
-  decision_count_law =
+  found_count_law : length (decisions_of p.subprograms) ≡ length (decisions_of_units us)
+  found_count_law =
       count_of_labels (decisions_of p.subprograms)
-      ∙ (ap (λ (ls : List tree.Label). length ls) (decision_labels_law us main p legal) ∙ length_labels (decision_places us) (decision_places us))
+      ∙ (ap (λ (ls : List tree.Label). length ls) (decision_labels_law us main p legal) ∙ count_of_found (decision_places us) (decisions_of_units us))
+
+  pub decision_count_law : length (decisions_of p.subprograms) ≡ length (decision_places us)
+  decision_count_law = found_count_law ∙ sym (count_of_places (decisions_of_units us))
 
   pub decision_places_law : map decision_place (decisions_of p.subprograms) ≡ decision_places us
   decision_places_law =
       places_of_labels (decisions_of p.subprograms)
-      ∙ (ap (λ (ls : List tree.Label). map (λ l. l.place) ls) (decision_labels_law us main p legal) ∙ place_of_each (decision_places us) (decision_places us))
+      ∙ (ap (λ (ls : List tree.Label). map (λ l. l.place) ls) (decision_labels_law us main p legal) ∙ places_of_found (decision_places us) (decisions_of_units us))
 
   pub order_law : StatementsRise us → ordered_labels p ≡ map (label_at (places_of us)) (places_of us)
-  order_law rising =
-      ap (λ ls. in_order stands_before ls) (labels_law us main p legal) ∙ labels_in_order (places_of us) (places_of us) (ordered (places_of us) rising)
+  order_law rise =
+      ap (λ ls. in_order label_before ls) (labels_law us main p legal) ∙ labels_in_order (places_of us) (places_of us) (rising (places_of us) rise)
 
   pub stay_law : StatementsRise us → ordered_labels p ≡ labels_of p.subprograms
-  stay_law rising = order_law rising ∙ sym (labels_law us main p legal)
+  stay_law rise = order_law rise ∙ sym (labels_law us main p legal)
 
   pub decisions_stay_law : DecisionsRise us → ordered_decisions p ≡ decisions_of p.subprograms
-  decisions_stay_law rising = decisions_stay (decisions_of p.subprograms) (subst AreOrdered (sym decision_places_law) (ordered (decision_places us) rising))
+  decisions_stay_law rise =
+      decisions_stay (decisions_of p.subprograms) (subst AreOrdered (sym decision_places_law) (found_ordered (decisions_of_units us) (found_rise (decisions_of_units us) rise)))
 
-  pub decision_numbers_law : DecisionsRise us → map (λ h. h.label.number) (decisions_of p.subprograms) ≡ numbers 0 (length (decision_places us))
-  decision_numbers_law rising =
+  pub decision_numbers_law : DecisionsRise us → map (λ h. h.label.number) (decisions_of p.subprograms) ≡ numbers 0 (length (decisions_of p.subprograms))
+  decision_numbers_law rise =
       numbers_of_labels (decisions_of p.subprograms)
       ∙ (ap (λ (ls : List tree.Label). map (λ l. l.number) ls) (decision_labels_law us main p legal)
-      ∙ numbered_labels (decision_places us) (ordered (decision_places us) rising))
+      ∙ (numbered_found (decisions_of_units us) (found_rise (decisions_of_units us) rise) ∙ ap (numbers 0) (sym found_count_law)))
 
   pub numbered_law : StatementsRise us → DecisionsRise us → IsNumbered p
-  numbered_law rising decisions_rise = record {
+  numbered_law rise decisions_rise = record {
     statements =
-        ap (λ (ls : List tree.Label). map (λ l. l.number) ls) (order_law rising)
-        ∙ (numbered_labels (places_of us) (ordered (places_of us) rising)
-        ∙ ap (numbers 0) (sym (ap (λ (ls : List tree.Label). length ls) (stay_law rising) ∙ count_law)));
+        ap (λ (ls : List tree.Label). map (λ l. l.number) ls) (order_law rise)
+        ∙ (numbered_labels (places_of us) (rising (places_of us) rise)
+        ∙ ap (numbers 0) (sym (ap (λ (ls : List tree.Label). length ls) (stay_law rise) ∙ count_law)));
     decisions =
         ap (λ (hs : List Decision). map (λ h. h.label.number) hs) (decisions_stay_law decisions_rise)
-        ∙ (decision_numbers_law decisions_rise
-        ∙ ap (numbers 0) (sym (ap (λ (hs : List Decision). length hs) (decisions_stay_law decisions_rise) ∙ decision_count_law)));
+        ∙ (decision_numbers_law decisions_rise ∙ ap (numbers 0) (sym (ap (λ (hs : List Decision). length hs) (decisions_stay_law decisions_rise))));
     instances = ap (λ is. in_order (λ a b. precedes a.place b.place) is) instances_law ∙ sym instances_law;
     exceptions = exceptions_law ∙ sym (ap (λ (q : Program). map (λ x. x.entry) (ordered_exceptions q)) (same_law us main p legal));
   }
 
   entries_law : StatementsRise us → map statement_entry (ordered_labels p) ≡ map entry_at (places_of us)
-  entries_law rising = ap (λ ls. map statement_entry ls) (order_law rising) ∙ entries (places_of us) (places_of us)
+  entries_law rise = ap (λ ls. map statement_entry ls) (order_law rise) ∙ entries (places_of us) (places_of us)
 
   pub obligations_law : (regions : List Region) → StatementsRise us → DecisionsRise us
       → obligations_of p regions ≡ obligations_at (places_of us) (decisions_of p.subprograms) regions
-  obligations_law regions rising decisions_rise = λ i. record {
-    statements = entries_law rising i;
+  obligations_law regions rise decisions_rise = λ i. record {
+    statements = entries_law rise i;
     decisions = map decision_entry (decisions_stay_law decisions_rise i);
     regions = regions;
     instances = no_instance ∷ map instance_entry (instances_law i);

@@ -39,3 +39,7 @@ pub one_of_two : {X : Type 0} (P : X → Type 0) (b c : Bool) (x y : X) → P x 
 one_of_two P true c x y first second = first
 one_of_two P false true x y first second = second
 one_of_two P false false x y first second = tt
+
+pub if_any : {X : Type 0} (P : X → Type 0) (o : Option X) → ((x : X) → P x) → IfSome o P
+if_any P None h = tt
+if_any P (Some x) h = h x

@@ -115,10 +115,10 @@ module _ (p : Program) where
       if_test (IsNewValue p visible (length {A = Pos} [] + nodes)) (fits s.of x.kind) _ (λ t. record { plain = (is, h.plain); size = let few = h.size in omega (arith, few) })
   value_plain visible nodes s (q ∷ qs) x is h = tt
 
-  pub new_value_plain : (regions : List Region) (visible : List ℕ) (objects : List DeclaredObject) (s : ScalarSubtype) (i : Initial) → AreKnown visible objects
-      → IsWithinBase s → IfSome (new_value regions objects s i) (IsNewValue p visible (text.initial_nodes i))
-  new_value_plain regions visible objects s i known is =
-      if_then (IsJudged p visible (text.expr_nodes i.value)) (IsNewValue p visible (text.initial_nodes i)) _ _ (judged_plain p regions visible objects known i.value)
+  pub new_value_plain : (places : List Pos) (regions : List Region) (visible : List ℕ) (objects : List DeclaredObject) (s : ScalarSubtype) (i : Initial) → AreKnown visible objects
+      → IsWithinBase s → IfSome (new_value places regions objects s i) (IsNewValue p visible (text.initial_nodes i))
+  new_value_plain places regions visible objects s i known is =
+      if_then (IsJudged p visible (text.expr_nodes i.value)) (IsNewValue p visible (text.initial_nodes i)) _ _ (judged_plain p places regions visible objects known i.value)
       (λ x h. value_plain visible (text.expr_nodes i.value) s i.others x is h)
 
   -- subtype indications
@@ -128,8 +128,8 @@ module _ (p : Program) where
   marked_within None (denotes.Attribute e t) = tt
   marked_within (Some b) d = tt
 
-  indicated_within : (regions : List Region) (objects : List DeclaredObject) (s : SubtypeIndication) → IfSome (indicated regions objects s) IsWithinBase
-  indicated_within regions objects s = if_then (λ d. Unit {0}) IsWithinBase _ _ (any_value (denoted regions objects s.mark)) (λ d is. marked_within s.constraint d)
+  indicated_within : (places : List Pos) (regions : List Region) (objects : List DeclaredObject) (s : SubtypeIndication) → IfSome (indicated places regions objects s) IsWithinBase
+  indicated_within places regions objects s = if_then (λ d. Unit {0}) IsWithinBase _ _ (any_value (denoted places regions objects s.mark)) (λ d is. marked_within s.constraint d)
 
   -- declarations
   bare_elaborated : (k : Context) (visible : List ℕ) (is : List Identifier) (c : Constancy) (t : ScalarSubtype) (nodes : ℕ) → AreKnown visible k.objects
@@ -165,7 +165,7 @@ module _ (p : Program) where
       → AreKnown visible k.objects → IsWithinBase t → IfSome (declared_as k q is c t i) (AreOfKind k visible (declares.Object is c s i))
   as_elaborated k visible q is c s t None known h = bare_elaborated k visible is c t _ known h (omega (arith))
   as_elaborated k visible q is c s t (Some i) known h =
-      if_then (IsNewValue p visible (text.initial_nodes i)) (AreOfKind k visible (declares.Object is c s (Some i))) _ _ (new_value_plain (inner k is) visible k.objects t i known h)
+      if_then (IsNewValue p visible (text.initial_nodes i)) (AreOfKind k visible (declares.Object is c s (Some i))) _ _ (new_value_plain k.places.decisions (inner k is) visible k.objects t i known h)
       (λ v value. set_elaborated k visible q is c t v (text.initial_nodes i) _ known h value (omega (arith)))
 
   kind_elaborated : (k : Context) (visible : List ℕ) (q : Pos) (kind : DeclarationKind) → AreKnown visible k.objects
@@ -173,7 +173,7 @@ module _ (p : Program) where
   kind_elaborated k visible q (declares.Type i t) known = tt
   kind_elaborated k visible q (declares.Subtype i s) known = tt
   kind_elaborated k visible q (declares.Object is c s i) known =
-      if_then IsWithinBase (AreOfKind k visible (declares.Object is c s i)) _ _ (indicated_within (inner k is) k.objects s)
+      if_then IsWithinBase (AreOfKind k visible (declares.Object is c s i)) _ _ (indicated_within k.places.decisions (inner k is) k.objects s)
       (λ t h. as_elaborated k visible q is c s t i known h)
   kind_elaborated k visible q (declares.Exception is) known = tt
   kind_elaborated k visible q (declares.Pragma a) known = tt

@@ -6,11 +6,13 @@ use Rattle.std.proofs.lemmas.Option.{IfSome_then}
 use Rattle.std.specs.Option.{option_and_then}
 use Rattle.cov_base.specs.declared.position.Pos.{Pos}
 use Rattle.decision_meaning.specs.Pair.{Everywhere}
-use Rattle.ada_syntax.specs.Nodes.{expr_nodes, exprs_nodes, name_nodes}
+use Rattle.ada_syntax.specs.Nodes.{logical_operator_nodes, expr_nodes, exprs_nodes, name_nodes}
 use Rattle.ada_syntax.specs.Tree as source
 use Rattle.ada_syntax.specs.declared.expr.UnaryOperator.{UnaryOperator}
 use Rattle.ada_syntax.specs.declared.expr.UnaryOperator.TheVariants as unary
 use Rattle.ada_syntax.specs.declared.expr.BinaryOperator.{BinaryOperator}
+use Rattle.ada_syntax.specs.declared.expr.LogicalOperator.{LogicalOperator}
+use Rattle.ada_syntax.specs.declared.expr.LogicalOperator.TheVariants as logical
 use Rattle.ada_syntax.specs.declared.expr.RelationalOperator.{RelationalOperator}
 use Rattle.ada_syntax.specs.declared.unit.Mode.TheVariants as mode
 use Rattle.ada_meaning.specs.Arithmetic.{base_range, is_within, number_of_truth}
@@ -22,9 +24,8 @@ use Rattle.ada_tree.specs.declared.expr.Actual.TheVariants as actual
 use Rattle.ada_tree.specs.declared.expr.Callee.{Callee}
 use Rattle.ada_tree.specs.declared.expr.Object.TheVariants as object
 use Rattle.ada_tree.specs.declared.types.Sign.{Sign}
-use Rattle.ada_tree.specs.Sizes.{expr_size, actuals_size, test_size}
 use Rattle.ada_tree.specs.View.{static_of, callee_of, actuals_of}
-use Rattle.ada_places.specs.Places.{condition_place}
+use Rattle.ada_places.specs.Places.{inner_label_at, condition_place}
 use Rattle.ada_names.specs.declared.entity.Entity.{Entity}
 use Rattle.ada_names.specs.declared.entity.Entity.TheVariants as entity
 use Rattle.ada_names.specs.Names.{key, same_name, Region, visible as seen_as}
@@ -37,7 +38,8 @@ use Rattle.ada_expressions.specs.declared.kind.Parameter.{Parameter}
 use Rattle.ada_expressions.specs.declared.kind.ScalarSubtype.{ScalarSubtype}
 use Rattle.ada_expressions.specs.declared.kind.ScalarType.TheVariants as scalar
 use Rattle.ada_expressions.specs.Kinds.{integer, subtype_of_entity, is_integral, is_boolean, fits, common, is_variable, same_type}
-use Rattle.ada_expressions.specs.Expressions.{callable, parameters_of, actual_for, written, written_among, with_front, count_of, call_of, part_of, attribute_in, attribute_of, value_of, with_sign, sign_for, with_kind, complement_of, unary_of, related, negated, test_of, test_at, denoted, judged, tested, typed_actuals}
+use Rattle.ada_expressions.specs.Expressions.{callable, parameters_of, actual_for, written, written_among, with_front, count_of, call_of, part_of, attribute_in, attribute_of, value_of, with_sign, sign_for, with_kind, complement_of, unary_of, related, relabelled, negated, complemented, test_of, test_at, neutral_for, decided, circuit_of, denoted, judged, tested, typed_actuals}
+use Rattle.lower.specs.Sizes as size
 use Rattle.lower.specs.Structured.{IsVisible, IsPlainExpr, IsPlainTest, IsPlainCall}
 use Rattle.legal_programs.proofs.Options.{if_then, if_map, if_test}
 
@@ -72,12 +74,12 @@ object_at visible (o ∷ os) (suc k) h = object_at visible os k h.1
 -- what an expression is typed as, where these objects are visible and with so many nodes at most
 pub record IsJudged (p : Program) (visible : List ℕ) (nodes : ℕ) (x : Judged) : Type 0 where
   pub plain : IsPlainExpr p visible x.expr
-  pub size : expr_size x.expr ≤ nodes
+  pub size : size.expr_nodes x.expr ≤ nodes
 
 -- what a name denotes: an entity, a call that is plain, or a value in the base range
 abbrev pub IsPlainDenoted : Program → (visible : List ℕ) → (nodes : ℕ) → Denoted → Type 0
 IsPlainDenoted p visible nodes (denotes.Entity x) = Unit {0}
-IsPlainDenoted p visible nodes (denotes.Call c actuals) = IsPlainCall p visible (callee_of c) (actuals_of actuals) × (suc (actuals_size (actuals_of actuals)) ≤ nodes)
+IsPlainDenoted p visible nodes (denotes.Call c actuals) = IsPlainCall p visible (callee_of c) (actuals_of actuals) × (suc (size.actuals_nodes (actuals_of actuals)) ≤ nodes)
 IsPlainDenoted p visible nodes (denotes.Attribute e t) = is_within base_range (number_in p zero (static_of e)) ≡ true
 
 mutual
@@ -140,7 +142,58 @@ put_parameter = record { mode = mode.In; subtype = integer }
 abbrev call_with : Entity → Option (Option Actual) → Option Denoted
 call_with x o = option_and_then (call_of (denotes.Entity x) 1) (option_and_then (λ a. option_map (with_front a) (Some [])) o)
 
-module _ (p : Program) (regions : List Region) (visible : List ℕ) (objects : List DeclaredObject) (known : AreKnown visible objects) where
+-- what a decision is typed as
+pub record IsTested (p : Program) (visible : List ℕ) (nodes : ℕ) (t : tree.Test) : Type 0 where
+  pub plain : IsPlainTest p visible t
+  pub size : size.test_nodes t ≤ nodes
+
+module _ (p : Program) (visible : List ℕ) where
+  negated_plain : (t : tree.Test) → IsPlainTest p visible t → IsPlainTest p visible (negated t)
+  negated_plain (tree.condition at e) h = h
+  negated_plain (tree.negation t) h = h
+  negated_plain (tree.operator neutral t u) h = h
+
+  test_plain : (at : Pos) (e : tree.Expr) → IsPlainExpr p visible e → IsPlainTest p visible (test_of at e)
+  test_plain at (tree.complement e) h = negated_plain (test_of at e) (test_plain at e h)
+  test_plain at (tree.decision l t) h = h
+  test_plain at e h = h
+
+negated_size : (t : tree.Test) → size.test_nodes (negated t) ≤ size.test_nodes t + 1
+negated_size (tree.condition at e) = omega (arith)
+negated_size (tree.negation t) = omega (arith)
+negated_size (tree.operator neutral t u) = omega (arith)
+
+test_of_size : (at : Pos) (e : tree.Expr) → size.test_nodes (test_of at e) ≤ size.expr_nodes e
+test_of_size at (tree.complement e) = let own = negated_size (test_of at e) in let rest = test_of_size at e in omega (arith, own, rest)
+test_of_size at (tree.decision l t) = omega (arith)
+test_of_size at e = omega (arith)
+
+-- an expression as a test
+test_typed : (p : Program) (visible : List ℕ) (at : Pos) (nodes : ℕ) (x : Judged) → IsJudged p visible nodes x → IfSome (test_at at x) (IsTested p visible nodes)
+test_typed p visible at nodes x is =
+    if_test (IsTested p visible nodes) (is_boolean x.kind) _ (λ h. record {
+      plain = test_plain p visible at x.expr is.plain;
+      size = let few = is.size in let own = test_of_size at x.expr in omega (arith, few, own);
+    })
+
+-- a decision with another label, and its negation
+relabelled_plain : (p : Program) (visible : List ℕ) (l : tree.Label) (e : tree.Expr) → IsPlainExpr p visible e → IsPlainExpr p visible (relabelled l e)
+relabelled_plain p visible l (tree.decision m t) h = h
+relabelled_plain p visible l e h = h
+
+relabelled_size : (l : tree.Label) (e : tree.Expr) → size.expr_nodes (relabelled l e) ≤ size.expr_nodes e
+relabelled_size l (tree.decision m t) = omega (arith)
+relabelled_size l e = omega (arith)
+
+complemented_plain : (p : Program) (visible : List ℕ) (l : tree.Label) (e : tree.Expr) → IsPlainExpr p visible e → IsPlainExpr p visible (complemented l e)
+complemented_plain p visible l (tree.decision m t) h = negated_plain p visible t h
+complemented_plain p visible l e h = h
+
+complemented_size : (l : tree.Label) (e : tree.Expr) → size.expr_nodes (complemented l e) ≤ size.expr_nodes e + 1
+complemented_size l (tree.decision m t) = let own = negated_size t in omega (arith, own)
+complemented_size l e = omega (arith)
+
+module _ (p : Program) (places : List Pos) (regions : List Region) (visible : List ℕ) (objects : List DeclaredObject) (known : AreKnown visible objects) where
   -- what names and expressions are over these objects
   abbrev IsPlain : (nodes : ℕ) → Denoted → Type 0
   IsPlain nodes d = IsPlainDenoted p visible nodes d
@@ -177,14 +230,36 @@ module _ (p : Program) (regions : List Region) (visible : List ℕ) (objects : L
       if_test (IsTypedSo (left + 1 + right)) (is_integral k) _
       (λ is. record { plain = (h.plain, g.plain); size = let few = h.size in let less = g.size in omega (arith, few, less) })
 
-  complement_judged : (nodes : ℕ) (x : Judged) → IsTypedSo nodes x → IfSome (complement_of x) (IsTypedSo (1 + nodes))
-  complement_judged nodes x h = if_test (IsTypedSo (1 + nodes)) (is_boolean x.kind) _ (λ is. record { plain = h.plain; size = let few = h.size in omega (arith, few) })
+  complement_judged : (nodes : ℕ) (q : Pos) (x : Judged) → IsTypedSo nodes x → IfSome (complement_of places q x) (IsTypedSo (1 + nodes))
+  complement_judged nodes q x h =
+      if_test (IsTypedSo (1 + nodes)) (is_boolean x.kind) _ (λ is. record {
+        plain = complemented_plain p visible (inner_label_at places q) x.expr h.plain;
+        size = let few = h.size in let own = complemented_size (inner_label_at places q) x.expr in omega (arith, few, own);
+      })
 
-  unary_judged : (nodes : ℕ) (op : UnaryOperator) (x : Judged) → IsTypedSo nodes x → IfSome (unary_of op x) (IsTypedSo (1 + nodes))
-  unary_judged nodes unary.Not x h = complement_judged nodes x h
-  unary_judged nodes unary.Plus x h = sign_judged nodes x (sign_for unary.Plus) h
-  unary_judged nodes unary.Minus x h = sign_judged nodes x (sign_for unary.Minus) h
-  unary_judged nodes unary.Abs x h = sign_judged nodes x (sign_for unary.Abs) h
+  unary_judged : (nodes : ℕ) (q : Pos) (op : UnaryOperator) (x : Judged) → IsTypedSo nodes x → IfSome (unary_of places q op x) (IsTypedSo (1 + nodes))
+  unary_judged nodes q unary.Not x h = complement_judged nodes q x h
+  unary_judged nodes q unary.Plus x h = sign_judged nodes x (sign_for unary.Plus) h
+  unary_judged nodes q unary.Minus x h = sign_judged nodes x (sign_for unary.Minus) h
+  unary_judged nodes q unary.Abs x h = sign_judged nodes x (sign_for unary.Abs) h
+
+  -- a short-circuit control form
+  decided_judged : (left right : ℕ) (q : Pos) (op : LogicalOperator) (t u : tree.Test) → IsTested p visible left t → IsTested p visible right u
+      → IfSome (option_map (decided places q t u) (neutral_for op)) (IsTypedSo (left + logical_operator_nodes op + right))
+  decided_judged left right q logical.AndThen t u h g =
+      record { plain = (h.plain, g.plain); size = let few = h.size in let less = g.size in omega (arith, few, less) }
+  decided_judged left right q logical.OrElse t u h g =
+      record { plain = (h.plain, g.plain); size = let few = h.size in let less = g.size in omega (arith, few, less) }
+  decided_judged left right q logical.And t u h g = tt
+  decided_judged left right q logical.Or t u h g = tt
+  decided_judged left right q logical.Xor t u h g = tt
+
+  circuit_judged : (left right : ℕ) (q : Pos) (op : LogicalOperator) (at behind : Pos) (x y : Judged) → IsTypedSo left x → IsTypedSo right y
+      → IfSome (circuit_of places q op at behind x y) (IsTypedSo (left + logical_operator_nodes op + right))
+  circuit_judged left right q op at behind x y h g =
+      if_then (IsTested p visible left) (IsTypedSo (left + logical_operator_nodes op + right)) _ (test_at at x) (test_typed p visible at left x h)
+      (λ t first. if_then (IsTested p visible right) (IsTypedSo (left + logical_operator_nodes op + right)) _ (test_at behind y) (test_typed p visible behind right y g)
+      (λ u second. decided_judged left right q op t u first second))
 
   relation_judged : (left right : ℕ) (op : RelationalOperator) (x y : Judged) (k : Option Kind) → IsTypedSo left x → IsTypedSo right y
       → IfSome (option_map (related op x y) k) (IsTypedSo (left + 1 + right))
@@ -236,36 +311,36 @@ module _ (p : Program) (regions : List Region) (visible : List ℕ) (objects : L
   -- the actuals of a call, each judged
   abbrev AreJudged : source.Exprs → Type 0
   AreJudged source.no_exprs = Unit {0}
-  AreJudged (source.also e es) = IfSome (judged regions objects e) (IsTypedSo (expr_nodes e)) × AreJudged es
+  AreJudged (source.also e es) = IfSome (judged places regions objects e) (IsTypedSo (expr_nodes e)) × AreJudged es
 
   abbrev applied : Denoted → source.Exprs → Option Denoted
-  applied d es = option_and_then (call_of d (count_of es)) (typed_actuals regions objects (parameters_of d) es)
+  applied d es = option_and_then (call_of d (count_of es)) (typed_actuals places regions objects (parameters_of d) es)
 
   put_call : (nodes : ℕ) (es : source.Exprs) → 1 ≤ nodes → AreJudged es → IfSome (applied (denotes.Entity entity.Put) es) (IsPlain (nodes + exprs_nodes es))
   put_call nodes source.no_exprs some h = tt
   put_call nodes (source.also e source.no_exprs) some h =
-      put_of nodes (expr_nodes e + 0) (judged regions objects e) some
-      (IfSome_then (judged regions objects e) h.0 (λ x is. record { plain = is.plain; size = let few = is.size in omega (arith, few) }))
+      put_of nodes (expr_nodes e + 0) (judged places regions objects e) some
+      (IfSome_then (judged places regions objects e) h.0 (λ x is. record { plain = is.plain; size = let few = is.size in omega (arith, few) }))
   put_call nodes (source.also e (source.also f es)) some h = wrong_count (IsPlain _) (denotes.Entity entity.Put) _ _ (two_are_not_one (count_of es))
 
   get_call : (nodes : ℕ) (es : source.Exprs) → 1 ≤ nodes → IfSome (applied (denotes.Entity entity.Get) es) (IsPlain (nodes + exprs_nodes es))
   get_call nodes source.no_exprs some = tt
   get_call nodes (source.also e source.no_exprs) some =
-      get_of nodes (expr_nodes e + 0) (judged regions objects e) some (let any = expr_has_a_node e in omega (arith, any))
+      get_of nodes (expr_nodes e + 0) (judged places regions objects e) some (let any = expr_has_a_node e in omega (arith, any))
   get_call nodes (source.also e (source.also f es)) some = wrong_count (IsPlain _) (denotes.Entity entity.Get) _ _ (two_are_not_one (count_of es))
 
   applied_plain : (nodes : ℕ) (d : Denoted) (es : source.Exprs) → 1 ≤ nodes → AreJudged es → IfSome (applied d es) (IsPlain (nodes + exprs_nodes es))
-  applied_plain nodes (denotes.Entity entity.TestIo) es some h = no_call _ (typed_actuals regions objects [] es)
+  applied_plain nodes (denotes.Entity entity.TestIo) es some h = no_call _ (typed_actuals places regions objects [] es)
   applied_plain nodes (denotes.Entity entity.Get) es some h = get_call nodes es some
   applied_plain nodes (denotes.Entity entity.Put) es some h = put_call nodes es some h
-  applied_plain nodes (denotes.Entity (entity.Procedure k)) es some h = no_call _ (typed_actuals regions objects [] es)
-  applied_plain nodes (denotes.Entity entity.Integer) es some h = no_call _ (typed_actuals regions objects [] es)
-  applied_plain nodes (denotes.Entity entity.Boolean) es some h = no_call _ (typed_actuals regions objects [] es)
-  applied_plain nodes (denotes.Entity (entity.Truth b)) es some h = no_call _ (typed_actuals regions objects [] es)
-  applied_plain nodes (denotes.Entity (entity.Object k)) es some h = no_call _ (typed_actuals regions objects [] es)
-  applied_plain nodes (denotes.Entity entity.Hidden) es some h = no_call _ (typed_actuals regions objects [] es)
-  applied_plain nodes (denotes.Call c actuals) es some h = no_call _ (typed_actuals regions objects [] es)
-  applied_plain nodes (denotes.Attribute e t) es some h = no_call _ (typed_actuals regions objects [] es)
+  applied_plain nodes (denotes.Entity (entity.Procedure k)) es some h = no_call _ (typed_actuals places regions objects [] es)
+  applied_plain nodes (denotes.Entity entity.Integer) es some h = no_call _ (typed_actuals places regions objects [] es)
+  applied_plain nodes (denotes.Entity entity.Boolean) es some h = no_call _ (typed_actuals places regions objects [] es)
+  applied_plain nodes (denotes.Entity (entity.Truth b)) es some h = no_call _ (typed_actuals places regions objects [] es)
+  applied_plain nodes (denotes.Entity (entity.Object k)) es some h = no_call _ (typed_actuals places regions objects [] es)
+  applied_plain nodes (denotes.Entity entity.Hidden) es some h = no_call _ (typed_actuals places regions objects [] es)
+  applied_plain nodes (denotes.Call c actuals) es some h = no_call _ (typed_actuals places regions objects [] es)
+  applied_plain nodes (denotes.Attribute e t) es some h = no_call _ (typed_actuals places regions objects [] es)
 
   as_entity : (nodes : ℕ) (o : Option Entity) → IfSome (option_map denotes.Entity o) (IsPlain nodes)
   as_entity nodes None = tt
@@ -273,24 +348,27 @@ module _ (p : Program) (regions : List Region) (visible : List ℕ) (objects : L
 
   -- names and expressions
   mutual
-    pub denoted_plain : (n : source.Name) → IfSome (denoted regions objects n) (IsPlain (name_nodes n))
+    pub denoted_plain : (n : source.Name) → IfSome (denoted places regions objects n) (IsPlain (name_nodes n))
     denoted_plain (source.simple i) = as_entity 1 (seen_as (key i) regions)
     denoted_plain (source.selected n i) =
-        if_then (λ d. Unit {0}) (IsPlain (name_nodes n + 1)) _ _ (any_value (denoted regions objects n)) (λ d is. as_entity (name_nodes n + 1) (part_of d (key i)))
+        if_then (λ d. Unit {0}) (IsPlain (name_nodes n + 1)) _ _ (any_value (denoted places regions objects n)) (λ d is. as_entity (name_nodes n + 1) (part_of d (key i)))
     denoted_plain (source.attribute n i) =
-        if_then (λ d. Unit {0}) (IsPlain (name_nodes n + 1)) _ _ (any_value (denoted regions objects n)) (λ d is. attributes_plain (name_nodes n + 1) (key i) d)
+        if_then (λ d. Unit {0}) (IsPlain (name_nodes n + 1)) _ _ (any_value (denoted places regions objects n)) (λ d is. attributes_plain (name_nodes n + 1) (key i) d)
     denoted_plain (source.applied n es) =
-        if_then (λ d. Unit {0}) (IsPlain (name_nodes n + exprs_nodes es)) (λ d. applied d es) _ (any_value (denoted regions objects n))
+        if_then (λ d. Unit {0}) (IsPlain (name_nodes n + exprs_nodes es)) (λ d. applied d es) _ (any_value (denoted places regions objects n))
         (λ d is. applied_plain (name_nodes n) d es (name_has_a_node n) (all_judged es))
 
-    pub judged_plain : (e : source.Expr) → IfSome (judged regions objects e) (IsTypedSo (expr_nodes e))
+    pub judged_plain : (e : source.Expr) → IfSome (judged places regions objects e) (IsTypedSo (expr_nodes e))
     judged_plain (source.numeral q n) = if_test (IsTypedSo 1) (nat_lt n 2147483648) _ (λ h. record { plain = numeral_within n h; size = omega (arith) })
     judged_plain (source.named q n) =
         if_then (IsPlain (name_nodes n)) (IsTypedSo (name_nodes n)) _ _ (denoted_plain n) (λ d is. value_judged (name_nodes n) d (name_has_a_node n) is)
     judged_plain (source.parenthesized q e) =
-        if_map (IsTypedSo (expr_nodes e)) (IsTypedSo (expr_nodes e)) _ _ (judged_plain e) (λ x is. record { plain = is.plain; size = is.size })
+        if_map (IsTypedSo (expr_nodes e)) (IsTypedSo (expr_nodes e)) _ _ (judged_plain e) (λ x is. record {
+          plain = relabelled_plain p visible (inner_label_at places q) x.expr is.plain;
+          size = let few = is.size in let own = relabelled_size (inner_label_at places q) x.expr in omega (arith, few, own);
+        })
     judged_plain (source.unary q op e) =
-        if_then (IsTypedSo (expr_nodes e)) (IsTypedSo (1 + expr_nodes e)) _ _ (judged_plain e) (λ x is. unary_judged (expr_nodes e) op x is)
+        if_then (IsTypedSo (expr_nodes e)) (IsTypedSo (1 + expr_nodes e)) _ _ (judged_plain e) (λ x is. unary_judged (expr_nodes e) q op x is)
     judged_plain (source.binary q a op b) =
         if_then (IsTypedSo (expr_nodes a)) (IsTypedSo (expr_nodes a + 1 + expr_nodes b)) _ _ (judged_plain a)
         (λ x left. if_then (IsTypedSo (expr_nodes b)) (IsTypedSo (expr_nodes a + 1 + expr_nodes b)) _ _ (judged_plain b)
@@ -299,43 +377,18 @@ module _ (p : Program) (regions : List Region) (visible : List ℕ) (objects : L
         if_then (IsTypedSo (expr_nodes a)) (IsTypedSo (expr_nodes a + 1 + expr_nodes b)) _ _ (judged_plain a)
         (λ x left. if_then (IsTypedSo (expr_nodes b)) (IsTypedSo (expr_nodes a + 1 + expr_nodes b)) _ _ (judged_plain b)
         (λ y right. relation_judged (expr_nodes a) (expr_nodes b) op x y (common x.kind y.kind) left right))
-    judged_plain (source.logical q a op b) = tt
+    judged_plain (source.logical q a op b) =
+        if_then (IsTypedSo (expr_nodes a)) (IsTypedSo (expr_nodes a + logical_operator_nodes op + expr_nodes b)) _ _ (judged_plain a)
+        (λ x left. if_then (IsTypedSo (expr_nodes b)) (IsTypedSo (expr_nodes a + logical_operator_nodes op + expr_nodes b)) _ _ (judged_plain b)
+        (λ y right. circuit_judged (expr_nodes a) (expr_nodes b) q op (condition_place a) (condition_place b) x y left right))
 
     all_judged : (es : source.Exprs) → AreJudged es
     all_judged source.no_exprs = tt
     all_judged (source.also e es) = (judged_plain e, all_judged es)
 
--- what a decision is typed as
-pub record IsTested (p : Program) (visible : List ℕ) (nodes : ℕ) (t : tree.Test) : Type 0 where
-  pub plain : IsPlainTest p visible t
-  pub size : test_size t ≤ nodes + 1
-
-module _ (p : Program) (visible : List ℕ) where
-  negated_plain : (t : tree.Test) → IsPlainTest p visible t → IsPlainTest p visible (negated t)
-  negated_plain (tree.condition at e) h = h
-  negated_plain (tree.negation t) h = h
-  negated_plain (tree.operator neutral t u) h = h
-
-  test_plain : (at : Pos) (e : tree.Expr) → IsPlainExpr p visible e → IsPlainTest p visible (test_of at e)
-  test_plain at (tree.complement e) h = negated_plain (test_of at e) (test_plain at e h)
-  test_plain at e h = h
-
-negated_size : (t : tree.Test) → test_size (negated t) ≤ test_size t + 1
-negated_size (tree.condition at e) = omega (arith)
-negated_size (tree.negation t) = omega (arith)
-negated_size (tree.operator neutral t u) = omega (arith)
-
-test_of_size : (at : Pos) (e : tree.Expr) → test_size (test_of at e) ≤ expr_size e + 1
-test_of_size at (tree.complement e) = let own = negated_size (test_of at e) in let rest = test_of_size at e in omega (arith, own, rest)
-test_of_size at e = omega (arith)
-
 -- a decision (RM 5.3)
-pub tested_plain : (p : Program) (regions : List Region) (visible : List ℕ) (objects : List DeclaredObject) (e : source.Expr) → AreKnown visible objects
-    → IfSome (tested regions objects e) (IsTested p visible (expr_nodes e))
-tested_plain p regions visible objects e known =
-    if_then (IsJudged p visible (expr_nodes e)) (IsTested p visible (expr_nodes e)) (test_at (condition_place e)) (judged regions objects e)
-    (judged_plain p regions visible objects known e)
-    (λ x is. if_test (IsTested p visible (expr_nodes e)) (is_boolean x.kind) _ (λ h. record {
-      plain = test_plain p visible (condition_place e) x.expr is.plain;
-      size = let few = is.size in let own = test_of_size (condition_place e) x.expr in omega (arith, few, own);
-    }))
+pub tested_plain : (p : Program) (places : List Pos) (regions : List Region) (visible : List ℕ) (objects : List DeclaredObject) (e : source.Expr)
+    → AreKnown visible objects → IfSome (tested places regions objects e) (IsTested p visible (expr_nodes e))
+tested_plain p places regions visible objects e known =
+    if_then (IsJudged p visible (expr_nodes e)) (IsTested p visible (expr_nodes e)) (test_at (condition_place e)) (judged places regions objects e)
+    (judged_plain p places regions visible objects known e) (λ x is. test_typed p visible (condition_place e) (expr_nodes e) x is)

@@ -13,16 +13,17 @@ use Rattle.ada_syntax.specs.declared.unit.LibraryItem.{LibraryItem}
 use Rattle.ada_syntax.specs.declared.unit.LibraryItem.TheVariants as item
 use Rattle.ada_syntax.specs.declared.unit.Unit.{Unit as LibraryUnit}
 use Rattle.ada_meaning.specs.Objects.{block_objects}
+use Rattle.ada_meaning.specs.Obligations.{precedes}
 use Rattle.ada_meaning.specs.Program.{Subprogram, Program}
 use Rattle.ada_meaning.specs.Tree as tree
 use Rattle.ada_names.specs.Names.{Region}
 use Rattle.ada_names.specs.Library.{statements_in, statements_of_item, declarations_of_item}
 use Rattle.ada_names.specs.Naming.{library_of, is_main, main_from, named}
 use Rattle.ada_places.specs.declared.places.Places.{Places}
-use Rattle.ada_places.specs.Places.{all_places_of}
+use Rattle.ada_places.specs.Places.{decisions_of_units, first_wide, all_places_of}
 use Rattle.ada_tree.specs.View.{statements_of}
 use Rattle.ada_types.specs.Typing.{Elaborated, declared_by_all, is_plain_item, procedure_of, context_of, typed_unit, typed_units, block_words, too_many_words}
-use Rattle.ada_types.specs.Legal.{typed, program_with, within_words, program_of_main, typed_program, elaborated}
+use Rattle.ada_types.specs.Legal.{typed, program_with, earlier, past_limits, within_limits, program_of_main, typed_program, elaborated}
 use Rattle.lower.specs.Sizes as size
 use Rattle.lower.specs.Structured.{most_objects, behind_all, IsPlainBlock, IsPlainProcedure, IsStructured}
 use Rattle.legal_programs.proofs.Options.{if_then, if_map, if_test, if_each, of_some}
@@ -94,6 +95,16 @@ module _ (p : Program) where
         as_many = ap suc rest.as_many;
       }))
 
+-- what lets a program pass both limits
+pub neither : (o r : Option Pos) → is_none (earlier o r) ≡ true → (is_none o ≡ true) × (is_none r ≡ true)
+neither None r h = (refl, h)
+neither (Some p) None h = absurd (cc h)
+neither (Some p) (Some q) h = one (precedes q p) h
+  where
+    one : (b : Bool) → is_none (if b then Some q else Some p) ≡ true → (is_none (Some p) ≡ true) × (is_none (Some q) ≡ true)
+    one true h = absurd (cc h)
+    one false h = absurd (cc h)
+
 -- subprograms of units none of which declares too many words
 few_words : (words : ℕ) (b : Bool) (q : Pos) (rest : Option Pos) → nat_le words most_objects ≡ b → is_none (if b then rest else Some q) ≡ true
     → (words ≤ most_objects) × (is_none rest ≡ true)
@@ -134,13 +145,17 @@ pub record IsPlainProgram (us : List LibraryUnit) (p : Program) : Type 0 where
   pub main : p.main < length us
 
 within_facts : (us : List LibraryUnit) (m : ℕ) (ss : List Subprogram) → m < length us → ((p : Program) → ArePlainUnits p us ss)
-    → IfSome (within_words us m ss) (IsPlainProgram us)
+    → IfSome (within_limits us m ss) (IsPlainProgram us)
 within_facts us m ss is units =
-    if_test (IsPlainProgram us) (is_none (too_many_words us ss)) _ (λ few. record { units = units (program_with m ss); few = few; main = is })
+    if_test (IsPlainProgram us) (is_none (past_limits us ss)) _ (λ few. record {
+      units = units (program_with m ss);
+      few = (neither (too_many_words us ss) (first_wide (decisions_of_units us)) few).0;
+      main = is;
+    })
 
 main_facts : (us : List LibraryUnit) (m : ℕ) → m < length us → IfSome (program_of_main us m) (IsPlainProgram us)
 main_facts us m is =
-    if_then (λ ss. (p : Program) → ArePlainUnits p us ss) (IsPlainProgram us) (within_words us m) (typed us)
+    if_then (λ ss. (p : Program) → ArePlainUnits p us ss) (IsPlainProgram us) (within_limits us m) (typed us)
     (if_each (λ p ss. ArePlainUnits p us ss) (typed us) (λ p. units_typed p (library_of us).region (all_places_of us) 0 us)) (λ ss units. within_facts us m ss is units)
 
 typed_facts : (us : List LibraryUnit) (main : List ℕ) → IfSome (typed_program us main) (IsPlainProgram us)

@@ -78,7 +78,7 @@ denoted_target visible objects (denotes.Attribute e t) known = tt
 target_typed : (k : Context) (visible : List ℕ) (n : Name) → AreKnown visible k.objects
     → IfSome (target_in k n) (λ t. IsVisible visible t.number × IsWithinBase t.subtype)
 target_typed k visible n known =
-    if_then (λ d. Unit {0}) (λ t. IsVisible visible t.number × IsWithinBase t.subtype) _ _ (any_value (denoted (regions_of k) k.objects n))
+    if_then (λ d. Unit {0}) (λ t. IsVisible visible t.number × IsWithinBase t.subtype) _ _ (any_value (denoted k.places.decisions (regions_of k) k.objects n))
     (λ d is. denoted_target visible k.objects d known)
 
 -- an exit statement
@@ -201,7 +201,7 @@ module _ (p : Program) where
   assignment_typed visible k q n i known =
       if_then (λ t. IsVisible visible t.number × IsWithinBase t.subtype) (IsOf p visible k (source.assignment q n i)) _ _ (target_typed k visible n known)
       (λ t is. if_map (IsNewValue p visible (text.initial_nodes i)) (IsOf p visible k (source.assignment q n i)) _ _
-      (new_value_plain p (regions_of k) visible k.objects t.subtype i known is.1)
+      (new_value_plain p k.places.decisions (regions_of k) visible k.objects t.subtype i known is.1)
       (λ v value. record { plain = λ total fits. (is.0, value.plain); size = let few = value.size in omega (arith, few); declared = refl }))
 
   -- a branch, whose statements are typed
@@ -209,7 +209,7 @@ module _ (p : Program) where
       → IfSome (typed_statements k ss) (AreOf p visible k ss)
       → IfSome (option_and_then (λ t. option_map (chosen (decision_label k e) t) (typed_statements k ss)) (tested_in k e)) (IsOfBranch p visible k e ss)
   branch_typed visible k e ss known statements =
-      if_then (IsTested p visible (text.expr_nodes e)) (IsOfBranch p visible k e ss) _ _ (tested_plain p (regions_of k) visible k.objects e known)
+      if_then (IsTested p visible (text.expr_nodes e)) (IsOfBranch p visible k e ss) _ _ (tested_plain p k.places.decisions (regions_of k) visible k.objects e known)
       (λ t test. if_map (AreOf p visible k ss) (IsOfBranch p visible k e ss) _ _ statements (λ xs typed. record { decision = test; statements = typed }))
 
   while_typed : (visible : List ℕ) (k : Context) (q : Pos) (e : Expr) (ss : source.Statements) → AreKnown visible k.objects
@@ -217,7 +217,7 @@ module _ (p : Program) where
       → IfSome (typed_statement k (source.repeat q (scheme.While e) ss)) (IsOf p visible k (source.repeat q (scheme.While e) ss))
   while_typed visible k q e ss known statements =
       if_then (IsTested p visible (text.expr_nodes e)) (IsOf p visible k (source.repeat q (scheme.While e) ss)) _ _
-      (tested_plain p (regions_of k) visible k.objects e known)
+      (tested_plain p k.places.decisions (regions_of k) visible k.objects e known)
       (λ t test. if_map (AreOf p visible (in_loop k) ss) (IsOf p visible k (source.repeat q (scheme.While e) ss)) _ _ statements
       (λ xs typed. record {
         plain = λ total fits. (test.plain, typed.plain total fits);
@@ -228,7 +228,7 @@ module _ (p : Program) where
   exit_typed : (visible : List ℕ) (k : Context) (q : Pos) (e : Expr) → AreKnown visible k.objects
       → IfSome (typed_statement k (source.exit q (Some e))) (IsOf p visible k (source.exit q (Some e)))
   exit_typed visible k q e known =
-      if_then (IsTested p visible (text.expr_nodes e)) (IsOf p visible k (source.exit q (Some e))) _ _ (tested_plain p (regions_of k) visible k.objects e known)
+      if_then (IsTested p visible (text.expr_nodes e)) (IsOf p visible k (source.exit q (Some e))) _ _ (tested_plain p k.places.decisions (regions_of k) visible k.objects e known)
       (λ t test. in_loops (IsOf p visible k (source.exit q (Some e))) k.looping (tree.exit_when (statement_label k q) (decision_label k e) t)
       (record { plain = λ total fits. test.plain; size = let own = test.size in omega (arith, own); declared = refl }))
 
@@ -253,7 +253,7 @@ module _ (p : Program) where
     statement_typed visible k (source.null q) known = simple_typed visible k (tree.null_statement (statement_label k q)) 1 (λ total. tt) (omega (arith)) refl
     statement_typed visible k (source.assignment q n i) known = assignment_typed visible k q n i known
     statement_typed visible k (source.call q n) known =
-        if_then (IsPlainDenoted p visible (text.name_nodes n)) (IsOf p visible k (source.call q n)) _ _ (denoted_plain p (regions_of k) visible k.objects known n)
+        if_then (IsPlainDenoted p visible (text.name_nodes n)) (IsOf p visible k (source.call q n)) _ _ (denoted_plain p k.places.decisions (regions_of k) visible k.objects known n)
         (λ d is. called_typed p visible k.next (statement_label k q) (text.name_nodes n) d is)
     statement_typed visible k (source.exemption q a) known = tt
     statement_typed visible k (source.conditional q e ss bs es) known =

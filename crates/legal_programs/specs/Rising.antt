@@ -1,9 +1,9 @@
 -- Places that rise in the order of the text: by file, line and column.
-use Rattle.std.specs.Prelude.{Bool, true, ◌&&◌, List, [], ◌∷◌, ◌≡◌}
+use Rattle.std.specs.Prelude.{Bool, true, false, not, ◌&&◌, ◌||◌, List, [], ◌∷◌, ◌≡◌}
 use Rattle.cov_base.specs.declared.position.Pos.{Pos}
 use Rattle.ada_syntax.specs.declared.unit.Unit.{Unit as LibraryUnit}
 use Rattle.ada_meaning.specs.Obligations.{precedes}
-use Rattle.ada_places.specs.Places.{places_of, decision_places}
+use Rattle.ada_places.specs.Places.{Order, outer, inner, Found, places_of, decisions_of_units}
 
 -- whether a place comes before the first of these, if there is one
 abbrev pub is_followed : Pos → List Pos → Bool
@@ -19,6 +19,24 @@ rise (p ∷ ps) = is_followed p ps && rise ps
 abbrev pub StatementsRise : List LibraryUnit → Type 0
 StatementsRise units = rise (places_of units) ≡ true
 
--- and so do their decisions
+-- whether a decision comes before another: at an earlier place, or at the same one as the outer of the two
+abbrev pub is_outer_of : Order → Order → Bool
+is_outer_of outer inner = true
+is_outer_of a b = false
+
+abbrev pub stands_before : Found → Found → Bool
+stands_before a b = precedes a.place b.place || not (precedes b.place a.place) && is_outer_of a.order b.order
+
+-- whether a decision comes before the first of these, if there is one
+abbrev pub is_followed_by : Found → List Found → Bool
+is_followed_by d [] = true
+is_followed_by d (e ∷ es) = stands_before d e
+
+-- whether each decision comes before the next
+abbrev pub decisions_rise : List Found → Bool
+decisions_rise [] = true
+decisions_rise (d ∷ ds) = is_followed_by d ds && decisions_rise ds
+
+-- and so do their decisions, of which two may begin at one place
 abbrev pub DecisionsRise : List LibraryUnit → Type 0
-DecisionsRise units = rise (decision_places units) ≡ true
+DecisionsRise units = decisions_rise (decisions_of_units units) ≡ true

@@ -2,7 +2,7 @@
 //! functions here do nothing: each carries a law of the definitions as its contract.
 #![tactic(auto)]
 
-ghost use Rattle.std.specs.Prelude.{◌≡◌, ◌≤◌, ◌<◌, ◌+◌, ◌-◌, ◌^◌, ℕ, List, [], ◌∷◌, Some, length, map, sum_by};
+ghost use Rattle.std.specs.Prelude.{◌≡◌, ◌≤◌, ◌<◌, ◌+◌, ◌-◌, ◌^◌, ℕ, true, List, [], ◌∷◌, Some, length, map, sum_by};
 ghost use Rattle.ada_syntax.specs.Nodes.{capped, unit_nodes};
 ghost use Rattle.ada_syntax.specs.declared.unit.Unit.{Unit as LibraryUnit};
 ghost use Rattle.cov_base.specs.declared.obligations.Region.{Region};
@@ -12,11 +12,13 @@ ghost use Rattle.ada_meaning.specs.Collected.{labels_of, decisions_of};
 ghost use Rattle.ada_meaning.specs.Objects.{IsDeclaredOnce};
 ghost use Rattle.ada_meaning.specs.Obligations.{numbers, obligations_of, ordered_labels, ordered_decisions, IsNumbered, IsResolved};
 ghost use Rattle.ada_meaning.specs.Program.{Program};
-ghost use Rattle.ada_places.specs.Places.{label_at, places_of, decision_places, condition_places};
+ghost use Rattle.ada_meaning.specs.Tree.{shape_of, conditions_of};
+ghost use Rattle.ada_places.specs.Places.{label_at, label_of_found, most_conditions, places_of, decisions_of_units, decision_places};
+ghost use Rattle.decision_meaning.specs.Expr.{negates_once};
 ghost use Rattle.ada_types.specs.Legal.{elaborated};
-ghost use Rattle.legal_programs.specs.Listed.{HasOneCondition, condition_at, obligations_at, row_at};
+ghost use Rattle.legal_programs.specs.Listed.{obligations_at, row_at};
 ghost use Rattle.legal_programs.specs.Rising.{DecisionsRise, StatementsRise};
-ghost use Rattle.lower.specs.Marked.{condition_of, row_of};
+ghost use Rattle.lower.specs.Marked.{row_of};
 ghost use Rattle.lower.specs.Sizes.{all_nodes};
 ghost use Rattle.lower.specs.Structured.{IsStructured};
 
@@ -45,15 +47,19 @@ pub fn labels_stand_at_their_statements()
         → map (λ l. l.place) (labels_of p.subprograms) ≡ places_of units }
 {}
 
-/// Its decisions stand where the conditions of its if statements, while loops and exit statements do,
-/// in the order of the text. Each has one condition, and is held by one of the statements.
+/// Its decisions are those of the text, in their order: after `if`, `elsif`, `while` and `exit when`,
+/// and the expressions with a short-circuit control form. Each has the conditions of its text, of
+/// which there are at most 32; no `not` stands directly in another; and it is held by one of the
+/// statements.
 pub fn decisions_stand_at_their_conditions()
     ensures labels { (units : List LibraryUnit) (main : List ℕ) (p : Program) → elaborated units main ≡ Some p
-        → map (λ h. h.label) (decisions_of p.subprograms) ≡ map (label_at (decision_places units)) (decision_places units) }
+        → map (λ h. h.label) (decisions_of p.subprograms) ≡ map (label_of_found (decision_places units)) (decisions_of_units units) }
     ensures conditions { (units : List LibraryUnit) (main : List ℕ) (p : Program) → elaborated units main ≡ Some p
-        → map (λ h. collected.condition_places h.test) (decisions_of p.subprograms) ≡ map (λ place. place ∷ []) (condition_places units) }
-    ensures tests { (units : List LibraryUnit) (main : List ℕ) (p : Program) → elaborated units main ≡ Some p
-        → Everywhere (λ h. HasOneCondition h.test) (decisions_of p.subprograms) }
+        → map (λ h. collected.condition_places h.test) (decisions_of p.subprograms) ≡ map (λ d. d.conditions) (decisions_of_units units) }
+    ensures few { (units : List LibraryUnit) (main : List ℕ) (p : Program) → elaborated units main ≡ Some p
+        → Everywhere (λ h. conditions_of h.test ≤ most_conditions) (decisions_of p.subprograms) }
+    ensures once { (units : List LibraryUnit) (main : List ℕ) (p : Program) → elaborated units main ≡ Some p
+        → Everywhere (λ h. negates_once (shape_of h.test) ≡ true) (decisions_of p.subprograms) }
     ensures statements { (units : List LibraryUnit) (main : List ℕ) (p : Program) → elaborated units main ≡ Some p
         → Everywhere (λ h. h.statement < length (places_of units)) (decisions_of p.subprograms) }
 {}
@@ -80,13 +86,13 @@ pub fn obligations_are_statements_and_decisions()
 {}
 
 /// The rows of a legal program's statement obligations, in the order of the text, have the numbers
-/// from 0 on, where the places of its statements rise: row k is that of obligation k. So have the
-/// conditions of its decisions, where their places rise.
+/// from 0 on, where the places of its statements rise: row k is that of obligation k. So have its
+/// decisions, where they come one after the other.
 pub fn rows_have_the_numbers_of_obligations()
     ensures rows { (units : List LibraryUnit) (main : List ℕ) (p : Program) → elaborated units main ≡ Some p → StatementsRise units
         → map row_of (labels_of p.subprograms) ≡ map row_at (numbers 0 (length (places_of units))) }
-    ensures conditions { (units : List LibraryUnit) (main : List ℕ) (p : Program) → elaborated units main ≡ Some p → DecisionsRise units
-        → map condition_of (decisions_of p.subprograms) ≡ map condition_at (numbers 0 (length (decision_places units))) }
+    ensures decisions { (units : List LibraryUnit) (main : List ℕ) (p : Program) → elaborated units main ≡ Some p → DecisionsRise units
+        → map (λ h. h.label.number) (decisions_of p.subprograms) ≡ numbers 0 (length (decisions_of p.subprograms)) }
 {}
 
 /// A legal program has a statement obligation and a decision for each place of its units, and where

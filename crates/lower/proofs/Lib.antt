@@ -9,3 +9,4 @@ pub mod Fits
 pub mod Small
 pub mod Building
 pub mod Whole
+pub mod Forms

@@ -1,76 +1,30 @@
 -- The code of a decision finds its outcome, and what comes after it goes on by that.
-use Rattle.std.proofs.Common.{◌≡◌, ℕ, zero, suc, ◌+◌, ◌<◌, ◌≤◌, Bool, true, false, not, List, [], ◌∷◌, if◌then◌else◌, refl, ap, subst, arith}
-use Rattle.cov_base.specs.declared.event.Event.TheVariants.{Done}
+use Rattle.std.proofs.Common.{◌≡◌, ℕ, zero, suc, ◌+◌, ◌<◌, ◌≤◌, Bool, true, false, List, [], if◌then◌else◌, refl, arith}
 use Rattle.decision_meaning.specs.Path as path
-use Rattle.decision_meaning.specs.Path.{vector_of}
-use Rattle.ada_meaning.specs.Arithmetic.{number_of_truth, is_true}
+use Rattle.ada_meaning.specs.Arithmetic.{number_of_truth}
 use Rattle.ada_meaning.specs.Calls.{Calls}
-use Rattle.ada_meaning.specs.Expressions.{Evaluation, value, test, decides, completed}
+use Rattle.ada_meaning.specs.Expressions.{test, decides, completed}
 use Rattle.ada_meaning.specs.Program.{Program}
 use Rattle.ada_meaning.specs.Resolved.{number_in, bounds_in}
-use Rattle.ada_meaning.specs.State as state
-use Rattle.ada_meaning.specs.State.{Store, World, Outcome, Gives, Action, goes_to, give}
+use Rattle.ada_meaning.specs.State.{Store, World, Outcome, Action, goes_to, give}
 use Rattle.ada_meaning.specs.Statements.{Flow, goes_on, looped, turns}
 use Rattle.ada_meaning.specs.Tree as tree
 use Rattle.kernel_ir.proofs.Joining.{goes_on_same, single_does}
 use Rattle.kernel_ir.proofs.Memories.{with_slot_at}
-use Rattle.kernel_ir.specs.declared.code.Edge.{Edge}
 use Rattle.kernel_ir.specs.declared.code.Edge.TheVariants as edge
 use Rattle.kernel_ir.specs.Meaning as code
-use Rattle.kernel_ir.specs.Meaning.{taken, follows, completes}
 use Rattle.kernel_ir.specs.Tree.{Code, no_node, choose, exit}
-use Rattle.kernel_ir.specs.World.{Memory, Ended, Ends, slot_in, with_slot, paid, noted}
+use Rattle.kernel_ir.specs.World.{Memory, Ended, slot_in, with_slot, paid}
 use Rattle.kernel_ir.specs.World as kernel
-use Rattle.lower.specs.Lowered.{single, end_of_test, expr_code, nodes_code, decide_on, decided_code, kernel_of}
+use Rattle.lower.specs.Lowered.{single, end_of_test, decide_on, decided_code, kernel_of}
 use Rattle.lower.specs.Structured.{IsPlainTest}
 use Rattle.lower.proofs.Flows.{Step, turn_step}
-use Rattle.lower.proofs.Relation.{Inside, observed, worked, AtStops, runs_then, goes_to_twice}
-use Rattle.lower.proofs.Values.{Held, ticked, inside_ticked, inside_paid, inside_less, value_does}
+use Rattle.lower.proofs.Relation.{Inside, AtStops, goes_to_twice}
+use Rattle.lower.proofs.Values.{ticked, evaluated, code_evaluated, by_outcome, inside_ticked, inside_paid, inside_less, ending_of, completed_in, tested_then, test_does}
 
 module _ (p : Program) (calls : Calls) (kcalls : code.Calls) (fuel width fp left : ℕ) (depth objects : ℕ) (store : Store) (memory : Memory) (n : List ℕ) where
   abbrev In : ℕ → World → kernel.World → Type 0
   In = Inside fp depth objects store memory n
-
-  -- what comes at the end of the edge that an outcome takes
-  abbrev ending_of : tree.Label → (k at : ℕ) → Edge → Edge → Bool → List path.Step → kernel.World → Ended
-  ending_of d k at t f outcome steps v =
-      follows (taken outcome t f) (λ o. completes fp (record { 0 = d.number }) (record { 0 = 0 }) k steps o v)
-      (λ others. code.walks (kernel_of p) kcalls fuel width fp left (record { 0 = d.number }) (record { 0 = 0 }) k no_node (suc at) others steps v)
-
-  -- `not` exchanges the edges
-  exchanged : (d : tree.Label) (k at : ℕ) (t f : Edge) (outcome : Bool) (steps : List path.Step) (v : kernel.World)
-      → ending_of d k at t f (not outcome) steps v ≡ ending_of d k at f t outcome steps v
-  exchanged d k at t f true steps v = refl
-  exchanged d k at t f false steps v = refl
-
-  -- the walk over a test's nodes takes the edge of its outcome
-  test_does : {B : Type 0} (R : Outcome B → Ended → Type 0) → AtStops R → (d : tree.Label) (t : tree.Test) (on_true on_false : Edge) (k at l : ℕ) (steps : List path.Step)
-      → IsPlainTest p n t → objects ≤ k → end_of_test k t ≤ fp → (f : Evaluation → Action B)
-      → ((outcome : Bool) (longer : List path.Step) (w : World) (v : kernel.World) → In (l + 4) w v
-      → R (f (record { outcome = outcome; steps = longer }) w) (ending_of d k at on_true on_false outcome longer v))
-      → (w : World) (v : kernel.World) → In l w v
-      → R (goes_to (test p calls 0 t at steps w) f)
-      (code.walks (kernel_of p) kcalls fuel width fp left (record { 0 = d.number }) (record { 0 = 0 }) k
-      (nodes_code (number_in p zero) (bounds_in p zero) k t on_true on_false) at zero steps v)
-  test_does R stops d (tree.condition at_place e) on_true on_false k at l steps plain behind room f next w v h =
-      let expr = expr_code (number_in p zero) (bounds_in p zero) k e in
-      let longer : Bool → List path.Step = λ b. record { at_node = at; value = b } ∷ steps in
-      rw (goes_to_twice (value p calls 0 e (ticked w)) (λ x. give (record { outcome = is_true x; steps = longer (is_true x) })) f)
-      (runs_then (Held fp depth objects store memory n (l + 2 + 2) k (paid 1 v)) R stops
-      (λ x. f (record { outcome = is_true x; steps = longer (is_true x) }))
-      (λ u. ending_of d k at on_true on_false (is_true (slot_in fp k u)) (longer (is_true (slot_in fp k u))) u)
-      (λ x u t g. rw g.slot (next (is_true x) (longer (is_true x)) u t (inside_less fp depth objects store memory n (l + 2 + 2) (l + 4) u t (omega arith) g.inside)))
-      (value p calls 0 e (ticked w)) (code.does_code (kernel_of p) kcalls fuel width fp left expr (paid 1 v))
-      (value_does p calls kcalls fuel width fp left depth objects store memory n e (l + 2) k (ticked w) (paid 1 v) plain behind room
-      (inside_paid fp depth objects store memory n (l + 2) (ticked w) v
-      (inside_less fp depth objects store memory n (l + 3) (l + 2 + 1) (ticked w) v (omega arith) (inside_ticked fp depth objects store memory n l w v h)))))
-  test_does R stops d (tree.negation t) on_true on_false k at l steps plain behind room f next w v h =
-      rw (goes_to_twice (test p calls 0 t at steps (ticked w)) (λ x. give (record { outcome = not x.outcome; steps = x.steps })) f)
-      (test_does R stops d t on_false on_true k at (l + 3) steps plain behind room (λ x. f (record { outcome = not x.outcome; steps = x.steps }))
-      (λ outcome longer u s g. subst (R (f (record { outcome = not outcome; steps = longer }) u)) (exchanged d k at on_true on_false outcome longer s)
-      (next (not outcome) longer u s (inside_less fp depth objects store memory n (l + 3 + 4) (l + 4) u s (omega arith) g)))
-      (ticked w) v (inside_ticked fp depth objects store memory n l w v h))
-  test_does R stops d (tree.operator neutral t u) on_true on_false k at l steps plain behind room f next w v h = absurd plain
 
   -- a decision is evaluated, noted, and its outcome stands in a slot
   outcome_does : {B : Type 0} (R : Outcome B → Ended → Type 0) → AtStops R → (d : tree.Label) (t : tree.Test) (k l : ℕ)
@@ -81,28 +35,18 @@ module _ (p : Program) (calls : Calls) (kcalls : code.Calls) (fuel width fp left
       (kernel.goes_on (code.does_op (kernel_of p) kcalls fuel width fp left (decide_on (number_in p zero) (bounds_in p zero) k d t) v) g)
   outcome_does R stops d t k l plain behind below room f g next w v h =
       rw (goes_to_twice (test p calls 0 t 0 [] w) (completed d 0) f)
-      (test_does (λ r e. R r (kernel.goes_on e g)) (record { raises = stops.raises; cut = stops.cut }) d t (edge.Leaf true) (edge.Leaf false) k 0 l [] plain behind room
-      (λ x y. goes_to (completed d 0 x y) f) noted_so w v h)
+      (tested_then p calls kcalls fuel width fp left depth objects store memory n (λ r e. R r (kernel.goes_on e g)) (record { raises = stops.raises; cut = stops.cut }) k (l + 4) v
+      (ending_of p calls kcalls fuel width fp left d k (tree.conditions_of t) no_node (edge.Leaf true) (edge.Leaf false)) (λ x y. goes_to (completed d 0 x y) f)
+      (by_outcome _ (λ longer u s i kept. next true _ _ (noted_so true longer u s i) (with_slot_at fp k (number_of_truth true) (code_evaluated d longer s)))
+      (λ longer u s i kept. next false _ _ (noted_so false longer u s i) (with_slot_at fp k (number_of_truth false) (code_evaluated d longer s))))
+      _ _ (test_does p calls kcalls fuel width fp left depth objects store memory n d t (edge.Leaf true) (edge.Leaf false) no_node k 0 (tree.conditions_of t) l [] v plain behind room
+      (omega arith) w v h (λ j lt. refl)))
     where
-      after : Bool → List path.Step → World → World
-      after outcome longer u = state.with_seen (record { events = Done (record { 0 = d.number }) (record { 0 = 0 }) (vector_of longer) ∷ u.seen.events; output = u.seen.output; cost = u.seen.cost }) u
-
-      told : List path.Step → kernel.World → kernel.World
-      told longer s = noted (Done (record { 0 = d.number }) (record { 0 = 0 }) (vector_of longer)) (paid 2 s)
-
-      completed_in : (outcome : Bool) (longer : List path.Step) (u : World) (s : kernel.World) → In (l + 4) u s
-          → In (l + 2) (after outcome longer u)
-          (with_slot fp k (number_of_truth outcome) (told longer s))
-      completed_in outcome longer u s i =
-          worked fp depth objects store memory n (l + 2) k (number_of_truth outcome) (after outcome longer u) (told longer s) behind below
-          (observed fp depth objects store memory n (l + 4) (l + 2) u s _ _ i
-          (record { events = ap (λ es. Done (record { 0 = d.number }) (record { 0 = 0 }) (vector_of longer) ∷ es) i.seen.events; output = i.seen.output; cost = omega (arith, i.seen.cost) }))
-
       noted_so : (outcome : Bool) (longer : List path.Step) (u : World) (s : kernel.World) → In (l + 4) u s
-          → R (goes_to (completed d 0 (record { outcome = outcome; steps = longer }) u) f)
-          (kernel.goes_on (ending_of d k 0 (edge.Leaf true) (edge.Leaf false) outcome longer s) g)
-      noted_so true longer u s i = next true _ _ (completed_in true longer u s i) (with_slot_at fp k (number_of_truth true) (told longer s))
-      noted_so false longer u s i = next false _ _ (completed_in false longer u s i) (with_slot_at fp k (number_of_truth false) (told longer s))
+          → In (l + 2) (evaluated d longer u) (with_slot fp k (number_of_truth outcome) (code_evaluated d longer s))
+      noted_so outcome longer u s i =
+          completed_in p calls kcalls fuel width fp left depth objects store memory n d k (l + 2) outcome longer u s behind below
+          (inside_less fp depth objects store memory n (l + 4) (l + 2 + 2) u s (omega arith) i)
 
   -- what is done by an outcome
   pub decided_does : {B : Type 0} (R : Outcome B → Ended → Type 0) → AtStops R → (d : tree.Label) (t : tree.Test) (a b : Code) (k l : ℕ)

@@ -6,7 +6,6 @@ use Rattle.ada_meaning.specs.Program.{Subprogram, Program}
 use Rattle.ada_meaning.specs.Resolved.{number_in, bounds_in}
 use Rattle.ada_meaning.specs.Tree as tree
 use Rattle.ada_meaning.specs.Types as type
-use Rattle.ada_tree.specs.Sizes.{expr_size, actuals_size, test_size}
 use Rattle.decision_meaning.specs.Pair.{Everywhere}
 use Rattle.kernel_ir.proofs.Joining.{joined_instructions}
 use Rattle.kernel_ir.specs.declared.code.Edge.{Edge}
@@ -14,9 +13,9 @@ use Rattle.kernel_ir.specs.declared.code.Edge.TheVariants as edge
 use Rattle.kernel_ir.specs.Limits.{IsWithin, kernel_instructions, code_instructions, nodes_instructions, simple_instructions, body_instructions, most_arguments, widest}
 use Rattle.kernel_ir.specs.declared.simple.Simple.TheVariants as op
 use Rattle.kernel_ir.specs.Sequence.{joined}
-use Rattle.kernel_ir.specs.Tree.{Code, simple, exit, no_op, and_op}
-use Rattle.lower.specs.Lowered.{one, single, within, sign_on, operator_on, relation_on, complement_on, end_of, end_of_test, end_of_call, end_of_value, end_of_declarations, end_of_statement, end_of_statements, end_of_branches, end_of_block, objects_in, expr_code, nodes_code, decided_code, value_code, call_code, declaration_code, declarations_code, statement_code, statements_code, branches_code, block_code, body_of, kernel_of}
-use Rattle.lower.specs.Sizes.{value_nodes, declaration_nodes, declarations_nodes, statement_nodes, statements_nodes, branches_nodes, block_nodes, all_nodes}
+use Rattle.kernel_ir.specs.Tree.{Code, simple, exit, no_op, and_op, Nodes, no_node}
+use Rattle.lower.specs.Lowered.{one, single, within, sign_on, operator_on, relation_on, complement_on, past, end_of, end_of_test, end_of_call, end_of_value, end_of_declarations, end_of_statement, end_of_statements, end_of_branches, end_of_block, objects_in, expr_code, nodes_code, decided_code, value_code, call_code, declaration_code, declarations_code, statement_code, statements_code, branches_code, block_code, body_of, kernel_of}
+use Rattle.lower.specs.Sizes.{expr_nodes, test_nodes, actuals_nodes, value_nodes, declaration_nodes, declarations_nodes, statement_nodes, statements_nodes, branches_nodes, block_nodes, all_nodes}
 use Rattle.lower.specs.Structured.{behind, behind_all, IsPlainExpr, IsPlainTest, IsPlainValue, IsPlainCall, IsPlainDeclaration, ArePlainDeclarations, IsPlainStatement, ArePlainStatements, ArePlainBranches, IsPlainBlock, IsPlainProcedure, IsStructured}
 use Rattle.lower.proofs.Follows.{block_above}
 
@@ -27,44 +26,59 @@ module _ (p : Program) where
   sign_short k type.unary_minus = omega arith
   sign_short k type.absolute_value = omega arith
 
-  expr_short : (e : tree.Expr) (n : List ℕ) (k : ℕ) → IsPlainExpr p n e → code_instructions (expr_code (number_in p zero) (bounds_in p zero) k e) ≤ 24 * expr_size e
-  expr_short (tree.literal x) n k plain = omega arith
-  expr_short (tree.constant e) n k plain = omega arith
-  expr_short (tree.read (tree.local_object d) tree.whole) n k plain = omega arith
-  expr_short (tree.signed s e) n k plain =
-      omega (arith, joined_instructions (expr_code (number_in p zero) (bounds_in p zero) k e) (one (sign_on k s)), expr_short e n k plain, sign_short k s)
-  expr_short (tree.operation o e f) n k plain =
-      let second = expr_code (number_in p zero) (bounds_in p zero) (k + 1) f in
-      omega (
-        arith,
-        joined_instructions (expr_code (number_in p zero) (bounds_in p zero) k e) (joined second (one (operator_on k o))),
-        joined_instructions second (one (operator_on k o)),
-        expr_short e n k plain.0,
-        expr_short f n (k + 1) plain.1,
-      )
-  expr_short (tree.relation r e f) n k plain =
-      let second = expr_code (number_in p zero) (bounds_in p zero) (k + 1) f in
-      omega (
-        arith,
-        joined_instructions (expr_code (number_in p zero) (bounds_in p zero) k e) (joined second (one (relation_on k r))),
-        joined_instructions second (one (relation_on k r)),
-        expr_short e n k plain.0,
-        expr_short f n (k + 1) plain.1,
-      )
-  expr_short (tree.complement e) n k plain =
-      omega (arith, joined_instructions (expr_code (number_in p zero) (bounds_in p zero) k e) (one (complement_on k)), expr_short e n k plain)
-  expr_short e n k plain = absurd plain
+  mutual
+    expr_short : (e : tree.Expr) (n : List ℕ) (k : ℕ) → IsPlainExpr p n e → code_instructions (expr_code (number_in p zero) (bounds_in p zero) k e) ≤ 24 * expr_nodes e
+    expr_short (tree.literal x) n k plain = omega arith
+    expr_short (tree.constant e) n k plain = omega arith
+    expr_short (tree.read (tree.local_object d) tree.whole) n k plain = omega arith
+    expr_short (tree.signed s e) n k plain =
+        omega (arith, joined_instructions (expr_code (number_in p zero) (bounds_in p zero) k e) (one (sign_on k s)), expr_short e n k plain, sign_short k s)
+    expr_short (tree.operation o e f) n k plain =
+        let second = expr_code (number_in p zero) (bounds_in p zero) (k + 1) f in
+        omega (
+          arith,
+          joined_instructions (expr_code (number_in p zero) (bounds_in p zero) k e) (joined second (one (operator_on k o))),
+          joined_instructions second (one (operator_on k o)),
+          expr_short e n k plain.0,
+          expr_short f n (k + 1) plain.1,
+        )
+    expr_short (tree.relation r e f) n k plain =
+        let second = expr_code (number_in p zero) (bounds_in p zero) (k + 1) f in
+        omega (
+          arith,
+          joined_instructions (expr_code (number_in p zero) (bounds_in p zero) k e) (joined second (one (relation_on k r))),
+          joined_instructions second (one (relation_on k r)),
+          expr_short e n k plain.0,
+          expr_short f n (k + 1) plain.1,
+        )
+    expr_short (tree.complement e) n k plain =
+        omega (arith, joined_instructions (expr_code (number_in p zero) (bounds_in p zero) k e) (one (complement_on k)), expr_short e n k plain)
+    expr_short (tree.decision d t) n k plain = omega (arith, nodes_short t n k (edge.Leaf true) (edge.Leaf false) no_node plain)
+    expr_short e n k plain = absurd plain
 
-  -- a decision takes 18 beside its condition, and the choice by its outcome 8
-  nodes_short : (t : tree.Test) (n : List ℕ) (k : ℕ) (on_true on_false : Edge) → IsPlainTest p n t
-      → nodes_instructions (nodes_code (number_in p zero) (bounds_in p zero) k t on_true on_false) + 16 ≤ 24 * test_size t
-  nodes_short (tree.condition at e) n k on_true on_false plain = omega (arith, expr_short e n k plain)
-  nodes_short (tree.negation t) n k on_true on_false plain = omega (arith, nodes_short t n k on_false on_true plain)
-  nodes_short (tree.operator neutral t u) n k on_true on_false plain = absurd plain
+    -- a decision takes 10 and 8 for each of its conditions, and the choice by its outcome 8
+    nodes_short : (t : tree.Test) (n : List ℕ) (k : ℕ) (on_true on_false : Edge) (rest : Nodes) → IsPlainTest p n t
+        → nodes_instructions (nodes_code (number_in p zero) (bounds_in p zero) k t on_true on_false rest) ≤ 24 * test_nodes t + 8 + nodes_instructions rest
+    nodes_short (tree.condition at e) n k on_true on_false rest plain = omega (arith, expr_short e n k plain)
+    nodes_short (tree.negation t) n k on_true on_false rest plain = omega (arith, nodes_short t n k on_false on_true rest plain)
+    nodes_short (tree.operator true t u) n k on_true on_false rest plain =
+        let right = nodes_code (number_in p zero) (bounds_in p zero) k u on_true on_false rest in
+        omega (
+          arith,
+          nodes_short t n k (edge.NodeAfter 0) (past (tree.conditions_of u) on_false) right plain.0,
+          nodes_short u n k on_true on_false rest plain.1,
+        )
+    nodes_short (tree.operator false t u) n k on_true on_false rest plain =
+        let right = nodes_code (number_in p zero) (bounds_in p zero) k u on_true on_false rest in
+        omega (
+          arith,
+          nodes_short t n k (past (tree.conditions_of u) on_true) (edge.NodeAfter 0) right plain.0,
+          nodes_short u n k on_true on_false rest plain.1,
+        )
 
   decided_short : (d : tree.Label) (t : tree.Test) (n : List ℕ) (k : ℕ) (a b : Code) → IsPlainTest p n t
-      → code_instructions (decided_code (number_in p zero) (bounds_in p zero) k d t a b) ≤ 28 * test_size t + code_instructions a + code_instructions b
-  decided_short d t n k a b plain = omega (arith, nodes_short t n k (edge.Leaf true) (edge.Leaf false) plain)
+      → code_instructions (decided_code (number_in p zero) (bounds_in p zero) k d t a b) ≤ 28 * (test_nodes t + 1) + code_instructions a + code_instructions b
+  decided_short d t n k a b plain = omega (arith, nodes_short t n k (edge.Leaf true) (edge.Leaf false) no_node plain)
 
   value_short : (x : tree.NewValue) (n : List ℕ) (k d : ℕ) → IsPlainValue p n x
       → code_instructions (value_code (number_in p zero) (bounds_in p zero) k (tree.local_object d) x) ≤ 24 * value_nodes x + 19
@@ -78,7 +92,7 @@ module _ (p : Program) where
   value_short x n k d plain = absurd plain
 
   call_short : (c : tree.Callee) (actuals : tree.Actuals) (n : List ℕ) (k : ℕ) → IsPlainCall p n c actuals
-      → code_instructions (call_code (number_in p zero) (bounds_in p zero) k c actuals) ≤ 27 * actuals_size actuals + 18
+      → code_instructions (call_code (number_in p zero) (bounds_in p zero) k c actuals) ≤ 27 * actuals_nodes actuals + 18
   call_short tree.test_put (tree.by_expression e tree.no_actual) n k plain =
       omega (arith, joined_instructions (expr_code (number_in p zero) (bounds_in p zero) k e) (and_op (simple (within k base_range)) (one (op.Put k))), expr_short e n k plain)
   call_short tree.test_get (tree.by_variable (tree.local_object d) tree.whole r tree.no_actual) n k plain = omega arith
@@ -167,27 +181,29 @@ module _ (p : Program) where
         bodies_short ss plain.1,
       )
 
-  -- a value takes no more slots than it has nodes
-  expr_narrow : (e : tree.Expr) (n : List ℕ) (k : ℕ) → IsPlainExpr p n e → end_of k e ≤ k + expr_size e
-  expr_narrow (tree.literal x) n k plain = omega arith
-  expr_narrow (tree.constant e) n k plain = omega arith
-  expr_narrow (tree.read (tree.local_object d) tree.whole) n k plain = omega arith
-  expr_narrow (tree.signed s e) n k plain = omega (arith, expr_narrow e n k plain)
-  expr_narrow (tree.operation o e f) n k plain = omega (arith, expr_narrow e n k plain.0, expr_narrow f n (k + 1) plain.1)
-  expr_narrow (tree.relation r e f) n k plain = omega (arith, expr_narrow e n k plain.0, expr_narrow f n (k + 1) plain.1)
-  expr_narrow (tree.complement e) n k plain = omega (arith, expr_narrow e n k plain)
-  expr_narrow e n k plain = absurd plain
+  mutual
+    -- a value takes no more slots than it has nodes
+    expr_narrow : (e : tree.Expr) (n : List ℕ) (k : ℕ) → IsPlainExpr p n e → end_of k e ≤ k + expr_nodes e
+    expr_narrow (tree.literal x) n k plain = omega arith
+    expr_narrow (tree.constant e) n k plain = omega arith
+    expr_narrow (tree.read (tree.local_object d) tree.whole) n k plain = omega arith
+    expr_narrow (tree.signed s e) n k plain = omega (arith, expr_narrow e n k plain)
+    expr_narrow (tree.operation o e f) n k plain = omega (arith, expr_narrow e n k plain.0, expr_narrow f n (k + 1) plain.1)
+    expr_narrow (tree.relation r e f) n k plain = omega (arith, expr_narrow e n k plain.0, expr_narrow f n (k + 1) plain.1)
+    expr_narrow (tree.complement e) n k plain = omega (arith, expr_narrow e n k plain)
+    expr_narrow (tree.decision d t) n k plain = omega (arith, test_narrow t n k plain)
+    expr_narrow e n k plain = absurd plain
 
-  test_narrow : (t : tree.Test) (n : List ℕ) (k : ℕ) → IsPlainTest p n t → end_of_test k t ≤ k + test_size t
-  test_narrow (tree.condition at e) n k plain = omega (arith, expr_narrow e n k plain)
-  test_narrow (tree.negation t) n k plain = omega (arith, test_narrow t n k plain)
-  test_narrow (tree.operator neutral t u) n k plain = absurd plain
+    test_narrow : (t : tree.Test) (n : List ℕ) (k : ℕ) → IsPlainTest p n t → end_of_test k t ≤ k + test_nodes t
+    test_narrow (tree.condition at e) n k plain = omega (arith, expr_narrow e n k plain)
+    test_narrow (tree.negation t) n k plain = omega (arith, test_narrow t n k plain)
+    test_narrow (tree.operator neutral t u) n k plain = omega (arith, test_narrow t n k plain.0, test_narrow u n k plain.1)
 
   value_narrow : (x : tree.NewValue) (n : List ℕ) (k : ℕ) → IsPlainValue p n x → end_of_value k x ≤ k + value_nodes x + 1
   value_narrow (tree.scalar_value r e) n k plain = omega (arith, expr_narrow e n k plain.1)
   value_narrow x n k plain = absurd plain
 
-  call_narrow : (c : tree.Callee) (actuals : tree.Actuals) (n : List ℕ) (k : ℕ) → IsPlainCall p n c actuals → end_of_call k c actuals ≤ k + actuals_size actuals + 1
+  call_narrow : (c : tree.Callee) (actuals : tree.Actuals) (n : List ℕ) (k : ℕ) → IsPlainCall p n c actuals → end_of_call k c actuals ≤ k + actuals_nodes actuals + 1
   call_narrow tree.test_put (tree.by_expression e tree.no_actual) n k plain = omega (arith, expr_narrow e n k plain)
   call_narrow tree.test_get (tree.by_variable (tree.local_object d) tree.whole r tree.no_actual) n k plain = omega arith
   call_narrow (tree.subprogram (type.of_instance zero) m) tree.no_actual n k plain = omega arith

@@ -4,3 +4,4 @@ pub mod Lowered
 pub mod Same
 pub mod Marked
 pub mod Chain
+pub mod Forms

@@ -77,13 +77,21 @@ relation_on k r = op.Compare (relation_for r) k k (k + 1)
 abbrev pub complement_on : (slot : ℕ) → Simple
 complement_on k = op.Complement k k
 
--- the first slot behind those that the value of an expression is worked out in, of which k is the first
-abbrev pub end_of : (k : ℕ) → tree.Expr → ℕ
-end_of k (tree.signed s e) = end_of k e
-end_of k (tree.operation o e f) = max (end_of k e) (end_of (k + 1) f)
-end_of k (tree.relation r e f) = max (end_of k e) (end_of (k + 1) f)
-end_of k (tree.complement e) = end_of k e
-end_of k e = k + 1
+abbrev mutual
+  -- the first slot behind those that the value of an expression is worked out in, of which k is the first
+  pub end_of : (k : ℕ) → tree.Expr → ℕ
+  end_of k (tree.signed s e) = end_of k e
+  end_of k (tree.operation o e f) = max (end_of k e) (end_of (k + 1) f)
+  end_of k (tree.relation r e f) = max (end_of k e) (end_of (k + 1) f)
+  end_of k (tree.complement e) = end_of k e
+  end_of k (tree.decision d t) = end_of_test k t
+  end_of k e = k + 1
+
+  -- of a decision, whose conditions are all worked out from the same slot on
+  pub end_of_test : (k : ℕ) → tree.Test → ℕ
+  end_of_test k (tree.condition at e) = end_of k e
+  end_of_test k (tree.negation t) = end_of_test k t
+  end_of_test k (tree.operator neutral t u) = max (end_of_test k t) (end_of_test k u)
 
 -- the same of the first actual of Test_IO.Put
 abbrev pub end_of_put : (k : ℕ) → tree.Actuals → ℕ
@@ -94,12 +102,6 @@ end_of_put k actuals = k + 1
 abbrev pub end_of_call : (k : ℕ) → tree.Callee → tree.Actuals → ℕ
 end_of_call k tree.test_put actuals = end_of_put k actuals
 end_of_call k c actuals = k + 1
-
--- of a decision, whose conditions are all worked out from the same slot on
-abbrev pub end_of_test : (k : ℕ) → tree.Test → ℕ
-end_of_test k (tree.condition at e) = end_of k e
-end_of_test k (tree.negation t) = end_of_test k t
-end_of_test k (tree.operator neutral t u) = k + 1
 
 -- of what an object is set to, of declarations and of statements
 abbrev pub end_of_value : (k : ℕ) → tree.NewValue → ℕ
@@ -158,28 +160,38 @@ module _ (bounds : type.Range → Bounds) where
   get_code k (tree.by_variable o parts r rest) = input_code k o r
   get_code k actuals = no_op
 
+-- an edge that leads past so many more nodes
+abbrev pub past : ℕ → Edge → Edge
+past n (edge.Leaf outcome) = edge.Leaf outcome
+past n (edge.NodeAfter skipped) = edge.NodeAfter (n + skipped)
+
 -- by the values of static expressions too
 module _ (number : type.Static → ℤ) (bounds : type.Range → Bounds) where
-  -- the value of an expression, into a slot
-  abbrev pub expr_code : (k : ℕ) → tree.Expr → Code
-  expr_code k (tree.literal x) = one (op.Number k x)
-  expr_code k (tree.constant e) = one (op.Number k (number e))
-  expr_code k (tree.read o parts) = one (op.Move k (slot_of o))
-  expr_code k (tree.signed s e) = joined (expr_code k e) (one (sign_on k s))
-  expr_code k (tree.operation o e f) = joined (expr_code k e) (joined (expr_code (k + 1) f) (one (operator_on k o)))
-  expr_code k (tree.relation r e f) = joined (expr_code k e) (joined (expr_code (k + 1) f) (one (relation_on k r)))
-  expr_code k (tree.complement e) = joined (expr_code k e) (one (complement_on k))
-  expr_code k e = no_op
+  abbrev mutual
+    -- the value of an expression, into a slot
+    pub expr_code : (k : ℕ) → tree.Expr → Code
+    expr_code k (tree.literal x) = one (op.Number k x)
+    expr_code k (tree.constant e) = one (op.Number k (number e))
+    expr_code k (tree.read o parts) = one (op.Move k (slot_of o))
+    expr_code k (tree.signed s e) = joined (expr_code k e) (one (sign_on k s))
+    expr_code k (tree.operation o e f) = joined (expr_code k e) (joined (expr_code (k + 1) f) (one (operator_on k o)))
+    expr_code k (tree.relation r e f) = joined (expr_code k e) (joined (expr_code (k + 1) f) (one (relation_on k r)))
+    expr_code k (tree.complement e) = joined (expr_code k e) (one (complement_on k))
+    expr_code k (tree.decision d t) =
+        single (decide (record { 0 = d.number }) (record { 0 = 0 }) k (nodes_code k t (edge.Leaf true) (edge.Leaf false) no_node))
+    expr_code k e = no_op
 
-  -- the nodes of a test, whose edges of True and False lead there: `not` exchanges them
-  abbrev pub nodes_code : (k : ℕ) → tree.Test → (on_true on_false : Edge) → Nodes
-  nodes_code k (tree.condition at e) t f = and_node (expr_code k e) k t f no_node
-  nodes_code k (tree.negation u) t f = nodes_code k u f t
-  nodes_code k (tree.operator neutral u v) t f = no_node
+    -- The nodes of a test before others, where its edges of True and False lead there from its last node: `not` exchanges them. The right
+    -- operand of a form stands directly behind the left one, whose neutral edges lead to it (RM 4.5.1).
+    pub nodes_code : (k : ℕ) → tree.Test → (on_true on_false : Edge) → Nodes → Nodes
+    nodes_code k (tree.condition at e) t f rest = and_node (expr_code k e) k t f rest
+    nodes_code k (tree.negation u) t f rest = nodes_code k u f t rest
+    nodes_code k (tree.operator true u v) t f rest = nodes_code k u (edge.NodeAfter 0) (past (tree.conditions_of v) f) (nodes_code k v t f rest)
+    nodes_code k (tree.operator false u v) t f rest = nodes_code k u (past (tree.conditions_of v) t) (edge.NodeAfter 0) (nodes_code k v t f rest)
 
   -- evaluates a decision, into a slot
   abbrev pub decide_on : (k : ℕ) → tree.Label → tree.Test → Op
-  decide_on k d t = decide (record { 0 = d.number }) (record { 0 = 0 }) k (nodes_code k t (edge.Leaf true) (edge.Leaf false))
+  decide_on k d t = decide (record { 0 = d.number }) (record { 0 = 0 }) k (nodes_code k t (edge.Leaf true) (edge.Leaf false) no_node)
 
   -- evaluates a decision, and goes on with the first code where it is True, and else with the second
   abbrev pub decided_code : (k : ℕ) → tree.Label → tree.Test → (if_true if_false : Code) → Code

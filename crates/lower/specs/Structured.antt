@@ -1,4 +1,4 @@
--- Programs of structured code over objects of one word: sequences, branches and loops, with decisions of one condition.
+-- Programs of structured code over objects of one word: sequences, branches and loops, with short-circuit control forms.
 use Rattle.std.specs.Prelude.{◌≡◌, ℕ, zero, ◌<◌, ◌≤◌, true, List, [], ◌∷◌, length}
 use Rattle.ada_meaning.specs.Arithmetic.{base_range, is_within}
 use Rattle.ada_meaning.specs.Objects.{block_objects}
@@ -34,22 +34,24 @@ module _ (p : Program) where
   abbrev pub IsPlainRange : type.Range → Type 0
   IsPlainRange r = AreInBase (bounds_in p zero r)
 
-  -- a literal, an attribute of a type, the value of a visible object, an operation on integers, a relation, or `not`
-  abbrev pub IsPlainExpr : (visible : List ℕ) → tree.Expr → Type 0
-  IsPlainExpr visible (tree.literal x) = is_within base_range x ≡ true
-  IsPlainExpr visible (tree.constant e) = is_within base_range (number_in p zero e) ≡ true
-  IsPlainExpr visible (tree.read (tree.local_object d) tree.whole) = IsVisible visible d
-  IsPlainExpr visible (tree.signed s e) = IsPlainExpr visible e
-  IsPlainExpr visible (tree.operation o e f) = IsPlainExpr visible e × IsPlainExpr visible f
-  IsPlainExpr visible (tree.relation r e f) = IsPlainExpr visible e × IsPlainExpr visible f
-  IsPlainExpr visible (tree.complement e) = IsPlainExpr visible e
-  IsPlainExpr visible e = ⊥
+  abbrev mutual
+    -- a literal, an attribute of a type, the value of a visible object, an operation on integers, a relation, `not`, or a decision
+    pub IsPlainExpr : (visible : List ℕ) → tree.Expr → Type 0
+    IsPlainExpr visible (tree.literal x) = is_within base_range x ≡ true
+    IsPlainExpr visible (tree.constant e) = is_within base_range (number_in p zero e) ≡ true
+    IsPlainExpr visible (tree.read (tree.local_object d) tree.whole) = IsVisible visible d
+    IsPlainExpr visible (tree.signed s e) = IsPlainExpr visible e
+    IsPlainExpr visible (tree.operation o e f) = IsPlainExpr visible e × IsPlainExpr visible f
+    IsPlainExpr visible (tree.relation r e f) = IsPlainExpr visible e × IsPlainExpr visible f
+    IsPlainExpr visible (tree.complement e) = IsPlainExpr visible e
+    IsPlainExpr visible (tree.decision d t) = IsPlainTest visible t
+    IsPlainExpr visible e = ⊥
 
-  -- one condition, or its negation
-  abbrev pub IsPlainTest : (visible : List ℕ) → tree.Test → Type 0
-  IsPlainTest visible (tree.condition at e) = IsPlainExpr visible e
-  IsPlainTest visible (tree.negation t) = IsPlainTest visible t
-  IsPlainTest visible (tree.operator neutral t u) = ⊥
+    -- the expression of a decision
+    pub IsPlainTest : (visible : List ℕ) → tree.Test → Type 0
+    IsPlainTest visible (tree.condition at e) = IsPlainExpr visible e
+    IsPlainTest visible (tree.negation t) = IsPlainTest visible t
+    IsPlainTest visible (tree.operator neutral t u) = IsPlainTest visible t × IsPlainTest visible u
 
   abbrev pub IsPlainValue : (visible : List ℕ) → tree.NewValue → Type 0
   IsPlainValue visible (tree.scalar_value r e) = IsPlainRange r × IsPlainExpr visible e
@@ -108,7 +110,7 @@ module _ (p : Program) where
     pub body : IsPlainBlock (length (block_objects s.body)) [] s.body
 
 -- Procedures without parameters, with objects of one word. Their statements are null, return, exit, assignments, Put, Get, calls of one
--- another, if, loops and blocks; decisions have one condition.
+-- another, if, loops and blocks.
 pub record IsStructured (p : Program) : Type 0 where
   pub bodies : Everywhere (IsPlainProcedure p) p.subprograms
   pub main : p.main < length p.subprograms

@@ -1,73 +1,108 @@
 //! Code of decisions.
 
 ghost use Rattle.std.specs.Prelude.{◌≡◌, IfOk, OnOk};
-ghost use Rattle.ada_tree.specs.View.{label_of};
+ghost use Rattle.ada_tree.specs.View.{label_of, neutral_of};
 ghost use Rattle.kernel_ir.specs.Sequence.{joined};
-ghost use Rattle.kernel_ir.specs.Tree.{exit, no_op, no_node, and_node};
+ghost use Rattle.kernel_ir.specs.Tree.{exit, no_op, Nodes};
 ghost use Rattle.lower.specs.Chain.{number_of, bounds_of};
+ghost use Rattle.lower.specs.Forms.{with_nodes, operand_nodes, end_of_tests};
 ghost use Rattle.lower.specs.Lowered.{single, end_of_test, nodes_code, decide_on, decided_code};
 
-use crate::expressions::put_expr;
-use ada_tree::{Decision, Test, TestKind};
+use crate::edges::{Edges, OUTCOMES, edges_before};
+use crate::expressions::{put_expr, slot_behind};
+use ada_tree::{Decision, Label, ShortCircuit, Test, TestKind};
 use cov_base::{DecId, InstId};
-use kernel_ir::{Code, Edge, Node, Op, Slot};
+use kernel_ir::{Code, Node, Op, Slot};
 use std::alloc::{AllocError, Global};
 
-/// The node of a test, and the first slot behind those that its condition is worked out in.
-#[derive(Drop)]
-struct Tested {
-    node: Node,
-    end: Slot,
-}
-
-/// The node of a test, whose edges of True and False lead there: `not` exchanges them (RM 4.5.6). The
-/// condition is worked out in the slots from `slot` on.
-fn node_of(
+/// Puts the nodes of a test behind others, where its edges lead there from its last node: `not`
+/// exchanges them (RM 4.5.6). Each condition is worked out in the slots from `slot` on. Answers the
+/// first slot behind those.
+#[cycle(value)]
+fn put_nodes(
     alloc: Global,
+    nodes: &mut Vec<Node>,
     slot: Slot,
     test: &Test,
-    on_true: Edge,
-    on_false: Edge,
-) -> Result<Tested, AllocError>
-    ensures node { IfOk result (λ t. and_node t.node.operand t.node.slot t.node.on_true t.node.on_false no_node ≡ nodes_code number_of bounds_of slot test.now on_true on_false) }
-    ensures end { IfOk result (λ t. t.end ≡ end_of_test slot test.now) }
+    edges: Edges,
+) -> Result<Slot, AllocError>
+    ensures nodes { OnOk result ((rest : Nodes) → with_nodes nodes.new.items rest ≡ with_nodes nodes.old.items (nodes_code number_of bounds_of slot test.now edges.on_true edges.on_false rest)) }
+    ensures end { IfOk result (λ end. end ≡ end_of_test slot test.now) }
 {
     match &test.kind {
         TestKind::Condition(_, expr) => {
             let mut operand = Code::new(alloc);
-            let end = put_expr(&mut operand, slot, expr)?;
-            let node = Node {
+            let end = put_expr(alloc, &mut operand, slot, expr)?;
+            nodes.push(Node {
                 operand,
                 slot,
-                on_true,
-                on_false,
-            };
-            Ok(Tested { node, end })
+                on_true: edges.on_true,
+                on_false: edges.on_false,
+            })?;
+            Ok(end)
         }
-        TestKind::Negation(inner) => node_of(alloc, slot, inner, on_false, on_true),
+        TestKind::Negation(operand) => {
+            let exchanged = Edges {
+                on_true: edges.on_false,
+                on_false: edges.on_true,
+            };
+            put_nodes(alloc, nodes, slot, operand, exchanged)
+        }
+        TestKind::ShortCircuit(form, first, others) => {
+            let left = edges_before(*form, others, edges)?;
+            let end = put_nodes(alloc, nodes, slot, first, left)?;
+            let others_end = put_operand_nodes(alloc, nodes, slot, *form, others, edges)?;
+            Ok(end.max(others_end))
+        }
     }
 }
 
+/// Puts the nodes of the operands of a short-circuit control form that stand right of its first one
+/// behind others, where the edges of the whole form lead there from the last node.
+#[cycle(value)]
+fn put_operand_nodes(
+    alloc: Global,
+    nodes: &mut Vec<Node>,
+    slot: Slot,
+    form: ShortCircuit,
+    operands: &[Test],
+    edges: Edges,
+) -> Result<Slot, AllocError>
+    ensures nodes { OnOk result ((rest : Nodes) → with_nodes nodes.new.items rest ≡ with_nodes nodes.old.items (operand_nodes slot (neutral_of form) operands.now edges.on_true edges.on_false rest)) }
+    ensures end { IfOk result (λ end. end ≡ end_of_tests slot operands.now) }
+{
+    let mut end = slot_behind(slot)?;
+    let mut left = operands;
+    while let Some((operand, right)) = left.split_first() {
+        let own = edges_before(form, right, edges)?;
+        end = end.max(put_nodes(alloc, nodes, slot, operand, own)?);
+        left = right;
+    }
+    Ok(end)
+}
+
 /// Puts the evaluation of a decision behind code, into a slot. Answers the first slot behind those that
-/// its condition is worked out in.
-fn put_decision(
+/// its conditions are worked out in.
+#[cycle(value)]
+pub(crate) fn put_decision(
     alloc: Global,
     code: &mut Code,
     slot: Slot,
-    decision: &Decision,
+    label: Label,
+    test: &Test,
 ) -> Result<Slot, AllocError>
-    ensures code { OnOk result (code.new ≡ joined code.old (single (decide_on number_of bounds_of slot (label_of decision.now.label) decision.now.test))) }
-    ensures end { IfOk result (λ end. end ≡ end_of_test slot decision.now.test) }
+    ensures code { OnOk result (code.new ≡ joined code.old (single (decide_on number_of bounds_of slot (label_of label) test.now))) }
+    ensures end { IfOk result (λ end. end ≡ end_of_test slot test.now) }
 {
-    let test = &decision.test;
-    let tested = node_of(alloc, slot, test, Edge::Leaf(true), Edge::Leaf(false))?;
+    let mut nodes = Vec::new(alloc);
+    let end = put_nodes(alloc, &mut nodes, slot, test, OUTCOMES)?;
     code.push(Op::Decide {
-        decision: DecId(decision.label.number),
+        decision: DecId(label.number),
         instance: InstId(0),
         slot,
-        nodes: vec![in alloc; tested.node]?,
+        nodes,
     })?;
-    Ok(tested.end)
+    Ok(end)
 }
 
 /// Puts a decision behind code, and the code that goes on by its outcome (RM 5.3). The outcome stands
@@ -83,7 +118,7 @@ pub(crate) fn put_decided(
     ensures code { OnOk result (code.new ≡ joined code.old (decided_code number_of bounds_of slot (label_of decision.now.label) decision.now.test if_true if_false)) }
     ensures end { IfOk result (λ end. end ≡ end_of_test slot decision.now.test) }
 {
-    let end = put_decision(alloc, code, slot, decision)?;
+    let end = put_decision(alloc, code, slot, decision.label, &decision.test)?;
     code.push(Op::Choose {
         slot,
         if_true,

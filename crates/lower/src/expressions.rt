@@ -8,9 +8,10 @@ ghost use Rattle.kernel_ir.specs.declared.simple.Simple.TheVariants as op;
 ghost use Rattle.lower.specs.Chain.{number_of, bounds_of, operands_code, end_of_operands};
 ghost use Rattle.lower.specs.Lowered.{one, within, slot_of, sign_on, operator_for, operator_on, relation_for, end_of, expr_code};
 
+use crate::decisions::put_decision;
 use ada_tree::{Expr, ExprKind, Object, Operand, Operator, Range, Relation, Sign, Static};
 use kernel_ir::{Code, Simple, Slot};
-use std::alloc::AllocError;
+use std::alloc::{AllocError, Global};
 
 /// The base range of each integer type, which is that of Integer too (RM 3.5.4).
 pub(crate) const INTEGER: Range = Range {
@@ -123,7 +124,12 @@ fn put_read(code: &mut Code, to: Slot, object: Object) -> Result<Slot, AllocErro
 /// Puts the value of an expression behind code, into a slot. Answers the first slot behind those that
 /// it is worked out in.
 #[cycle(value)]
-pub(crate) fn put_expr(code: &mut Code, to: Slot, expr: &Expr) -> Result<Slot, AllocError>
+pub(crate) fn put_expr(
+    alloc: Global,
+    code: &mut Code,
+    to: Slot,
+    expr: &Expr,
+) -> Result<Slot, AllocError>
     ensures code { OnOk result (code.new ≡ joined code.old (expr_code number_of bounds_of to expr.now)) }
     ensures end { IfOk result (λ end. end ≡ end_of to expr.now) }
 {
@@ -132,21 +138,24 @@ pub(crate) fn put_expr(code: &mut Code, to: Slot, expr: &Expr) -> Result<Slot, A
         ExprKind::Constant(value) => put_number(code, to, number_of(*value)),
         ExprKind::Read(object) => put_read(code, to, *object),
         ExprKind::Signed(sign, operand) => {
-            let end = put_expr(code, to, operand)?;
+            let end = put_expr(alloc, code, to, operand)?;
             code.push_simple(sign_on(to, *sign))?;
             Ok(end)
         }
         ExprKind::Operations(first, others) => {
-            let end = put_expr(code, to, first)?;
-            let others_end = put_operands(code, to, others)?;
+            let end = put_expr(alloc, code, to, first)?;
+            let others_end = put_operands(alloc, code, to, others)?;
             Ok(end.max(others_end))
         }
-        ExprKind::Relation(relation, left, right) => put_relation(code, to, *relation, left, right),
+        ExprKind::Relation(relation, left, right) => {
+            put_relation(alloc, code, to, *relation, left, right)
+        }
         ExprKind::Complement(operand) => {
-            let end = put_expr(code, to, operand)?;
+            let end = put_expr(alloc, code, to, operand)?;
             code.push_simple(Simple::Complement { to, from: to })?;
             Ok(end)
         }
+        ExprKind::Decision(label, test) => put_decision(alloc, code, to, *label, test),
     }
 }
 
@@ -154,6 +163,7 @@ pub(crate) fn put_expr(code: &mut Code, to: Slot, expr: &Expr) -> Result<Slot, A
 /// is worked out in.
 #[cycle(value)]
 fn put_relation(
+    alloc: Global,
     code: &mut Code,
     to: Slot,
     relation: Relation,
@@ -163,9 +173,9 @@ fn put_relation(
     ensures code { OnOk result (code.new ≡ joined code.old (expr_code number_of bounds_of to (tree.relation (relation_of relation) left.now right.now))) }
     ensures end { IfOk result (λ end. end ≡ end_of to (tree.relation (relation_of relation) left.now right.now)) }
 {
-    let left_end = put_expr(code, to, left)?;
+    let left_end = put_expr(alloc, code, to, left)?;
     let behind = slot_behind(to)?;
-    let right_end = put_expr(code, behind, right)?;
+    let right_end = put_expr(alloc, code, behind, right)?;
     code.push_simple(Simple::Compare {
         relation: relation_for(relation),
         to,
@@ -178,14 +188,19 @@ fn put_relation(
 /// Puts operators with their right operands behind code, from the left, where a slot holds what stands
 /// left of them. Answers the first slot behind those that they are worked out in.
 #[cycle(value)]
-fn put_operands(code: &mut Code, to: Slot, operands: &[Operand]) -> Result<Slot, AllocError>
+fn put_operands(
+    alloc: Global,
+    code: &mut Code,
+    to: Slot,
+    operands: &[Operand],
+) -> Result<Slot, AllocError>
     ensures code { OnOk result (code.new ≡ joined code.old (operands_code to operands.now)) }
     ensures end { IfOk result (λ end. end ≡ end_of_operands to operands.now) }
 {
     let right = slot_behind(to)?;
     let mut end = right;
     for operand in operands {
-        end = end.max(put_expr(code, right, &operand.operand)?);
+        end = end.max(put_expr(alloc, code, right, &operand.operand)?);
         code.push_simple(Simple::Arithmetic {
             operator: operator_for(operand.operator),
             to,

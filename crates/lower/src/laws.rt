@@ -1,19 +1,20 @@
 //! What kernels of programs do.
 
-ghost use Rattle.std.specs.Prelude.{◌≡◌, ◌≢◌, ◌+◌, ◌*◌, ◌≤◌, ℕ, ℤ, List, length, map};
+ghost use Rattle.std.specs.Prelude.{◌≡◌, ◌≢◌, ◌+◌, ◌*◌, ◌≤◌, ℕ, ℤ, List, length, map, sum_by};
 ghost use Rattle.ada_meaning.specs.Collected.{labels_of, decisions_of};
 ghost use Rattle.ada_meaning.specs.Execution as source;
 ghost use Rattle.ada_meaning.specs.Program.{Program};
 ghost use Rattle.cov_base.specs.declared.position.DecId.{DecId};
-ghost use Rattle.ada_meaning.specs.Tree.{shape_of};
+ghost use Rattle.ada_meaning.specs.Obligations.{numbers};
+ghost use Rattle.ada_meaning.specs.Tree.{shape_of, conditions_of};
 ghost use Rattle.decision_meaning.specs.Graph.{Edges};
 ghost use Rattle.decision_meaning.specs.Graph as logic;
 ghost use Rattle.decision_meaning.specs.Pair.{Everywhere};
 ghost use Rattle.kernel_ir.specs.Limits.{IsWellFormed, IsWithin, kernel_instructions};
 ghost use Rattle.kernel_ir.specs.Meaning as code;
-ghost use Rattle.kernel_ir.specs.Obligations.{rows, conditions};
+ghost use Rattle.kernel_ir.specs.Obligations.{Condition, rows, conditions};
 ghost use Rattle.lower.specs.Lowered.{kernel_of};
-ghost use Rattle.lower.specs.Marked.{row_of, condition_of};
+ghost use Rattle.lower.specs.Marked.{row_of, all_conditions};
 ghost use Rattle.lower.specs.Same.{Same};
 ghost use Rattle.lower.specs.Sizes.{all_nodes};
 ghost use Rattle.lower.specs.Structured.{IsStructured};
@@ -29,14 +30,19 @@ pub fn kernels_do_what_their_programs_do()
 {}
 
 /// The kernel of a structured program is well-formed, where decisions have the graphs of their
-/// expressions. Its rows are the statement obligations, in the order of the text, and its conditions
-/// those of the decisions.
+/// expressions, at most 32 conditions, and the numbers from 0 on. Its rows are the statement
+/// obligations, in the order of the text. Its conditions are those of the decisions, each as often as
+/// it is one of theirs: in the code those of a nested decision stand before the condition that holds
+/// it.
 pub fn kernels_hold_the_obligations()
     ensures well_formed { (p : Program) → IsStructured p → (graph : DecId → List Edges)
         → Everywhere (λ h. graph (record { 0 = h.label.number }) ≡ logic.graph (shape_of h.test)) (decisions_of p.subprograms)
+        → map (λ h. h.label.number) (decisions_of p.subprograms) ≡ numbers 0 (length (decisions_of p.subprograms))
+        → Everywhere (λ h. conditions_of h.test ≤ 32) (decisions_of p.subprograms)
         → IsWellFormed graph (kernel_of p) }
     ensures rows { (p : Program) → IsStructured p → rows (kernel_of p) ≡ map row_of (labels_of p.subprograms) }
-    ensures conditions { (p : Program) → IsStructured p → conditions (kernel_of p) ≡ map condition_of (decisions_of p.subprograms) }
+    ensures conditions { (p : Program) → IsStructured p → (weight : Condition → ℕ)
+        → sum_by weight (conditions (kernel_of p)) ≡ sum_by weight (all_conditions (decisions_of p.subprograms)) }
 {}
 
 /// It takes at most 28 instructions for each node, 8 for each procedure and 16 beside; within the

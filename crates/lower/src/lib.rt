@@ -6,6 +6,7 @@
 #![tactic(auto)]
 
 mod decisions;
+mod edges;
 mod expressions;
 mod laws;
 mod lowering;

@@ -31,6 +31,7 @@ fn put_start(code: &mut Code, label: Label) -> Result<(), AllocError>
 
 /// Puts behind code what sets an object to a value that its subtype has.
 fn put_value(
+    alloc: Global,
     code: &mut Code,
     objects: Slot,
     object: Object,
@@ -40,12 +41,13 @@ fn put_value(
     ensures end { IfOk result (λ end. end ≡ end_of_value objects (value_of value.now)) }
 {
     let NewValue::Scalar(range, expr) = value;
-    put_scalar(code, objects, object, *range, expr)
+    put_scalar(alloc, code, objects, object, *range, expr)
 }
 
 /// Puts behind code what sets an object to a value that lies within a range.
 #[tactic(auto, using(crate::proofs::Building::two_put))]
 fn put_scalar(
+    alloc: Global,
     code: &mut Code,
     objects: Slot,
     object: Object,
@@ -55,7 +57,7 @@ fn put_scalar(
     ensures code { OnOk result (code.new ≡ joined code.old (value_code number_of bounds_of objects (object_of object) (tree.scalar_value (range_of range) expr.now))) }
     ensures end { IfOk result (λ end. end ≡ end_of objects expr.now) }
 {
-    let end = put_expr(code, objects, expr)?;
+    let end = put_expr(alloc, code, objects, expr)?;
     put_checked(code, objects, object, range)?;
     Ok(end)
 }
@@ -79,7 +81,12 @@ fn put_checked(
 }
 
 /// Puts behind code what puts the value of the first actual, which has to be an Integer.
-fn put_output(code: &mut Code, objects: Slot, actuals: &[Actual]) -> Result<Slot, AllocError>
+fn put_output(
+    alloc: Global,
+    code: &mut Code,
+    objects: Slot,
+    actuals: &[Actual],
+) -> Result<Slot, AllocError>
     ensures code { OnOk result (code.new ≡ joined code.old (put_code number_of bounds_of objects (actuals_of actuals.now))) }
     ensures end { IfOk result (λ end. end ≡ end_of_put objects (actuals_of actuals.now)) }
 {
@@ -87,18 +94,23 @@ fn put_output(code: &mut Code, objects: Slot, actuals: &[Actual]) -> Result<Slot
         return slot_behind(objects);
     };
     match actual {
-        Actual::Expression(expr) => put_integer(code, objects, expr),
+        Actual::Expression(expr) => put_integer(alloc, code, objects, expr),
         Actual::Variable(..) => slot_behind(objects),
     }
 }
 
 /// Puts behind code what puts the value of an expression, which has to be an Integer.
 #[tactic(auto, using(crate::proofs::Building::two_put, crate::proofs::Building::one_then))]
-fn put_integer(code: &mut Code, objects: Slot, expr: &Expr) -> Result<Slot, AllocError>
+fn put_integer(
+    alloc: Global,
+    code: &mut Code,
+    objects: Slot,
+    expr: &Expr,
+) -> Result<Slot, AllocError>
     ensures code { OnOk result (code.new ≡ joined code.old (output_code number_of bounds_of objects expr.now)) }
     ensures end { IfOk result (λ end. end ≡ end_of objects expr.now) }
 {
-    let end = put_expr(code, objects, expr)?;
+    let end = put_expr(alloc, code, objects, expr)?;
     code.push_simple(within(objects, INTEGER))?;
     code.push_simple(Simple::Put { from: objects })?;
     Ok(end)
@@ -134,6 +146,7 @@ fn put_next_word(
 
 /// Puts behind code what a call does when its statement has started.
 fn put_call(
+    alloc: Global,
     code: &mut Code,
     objects: Slot,
     callee: Callee,
@@ -143,7 +156,7 @@ fn put_call(
     ensures end { IfOk result (λ end. end ≡ end_of_call objects (callee_of callee) (actuals_of actuals.now)) }
 {
     match callee {
-        Callee::TestPut => put_output(code, objects, actuals),
+        Callee::TestPut => put_output(alloc, code, objects, actuals),
         Callee::TestGet => {
             put_input(code, objects, actuals)?;
             slot_behind(objects)
@@ -159,6 +172,7 @@ fn put_call(
 /// Puts a declaration behind code.
 #[tactic(auto, using(crate::proofs::Building::one_then_put))]
 fn put_declaration(
+    alloc: Global,
     code: &mut Code,
     objects: Slot,
     declaration: &Declaration,
@@ -169,7 +183,7 @@ fn put_declaration(
     match declaration {
         Declaration::Initialized(obligation, object, value) => {
             put_start(code, *obligation)?;
-            put_value(code, objects, Object::Local(*object), value)
+            put_value(alloc, code, objects, Object::Local(*object), value)
         }
         Declaration::WithoutValue(object, Subtype::Scalar(range)) => {
             code.push_simple(Simple::Number {
@@ -193,6 +207,7 @@ fn put_null(code: &mut Code, objects: Slot, label: Label) -> Result<Slot, AllocE
 /// Puts an assignment behind code (RM 5.2).
 #[tactic(auto, using(crate::proofs::Building::one_then_put))]
 fn put_assignment(
+    alloc: Global,
     code: &mut Code,
     objects: Slot,
     label: Label,
@@ -203,12 +218,13 @@ fn put_assignment(
     ensures end { IfOk result (λ end. end ≡ end_of_value objects (value_of value.now)) }
 {
     put_start(code, label)?;
-    put_value(code, objects, object, value)
+    put_value(alloc, code, objects, object, value)
 }
 
 /// Puts a call of a procedure behind code (RM 6.4).
 #[tactic(auto, using(crate::proofs::Building::one_then_put))]
 fn put_call_statement(
+    alloc: Global,
     code: &mut Code,
     objects: Slot,
     label: Label,
@@ -219,7 +235,7 @@ fn put_call_statement(
     ensures end { IfOk result (λ end. end ≡ end_of_call objects (callee_of callee) (actuals_of actuals.now)) }
 {
     put_start(code, label)?;
-    put_call(code, objects, callee, actuals)
+    put_call(alloc, code, objects, callee, actuals)
 }
 
 /// Puts an exit statement without a condition behind code (RM 5.7).
@@ -246,6 +262,7 @@ fn put_return(code: &mut Code, objects: Slot, label: Label) -> Result<Slot, Allo
 
 /// Puts declarations behind code.
 fn put_declarations(
+    alloc: Global,
     code: &mut Code,
     objects: Slot,
     declarations: &[Declaration],
@@ -255,7 +272,7 @@ fn put_declarations(
 {
     let mut end = slot_behind(objects)?;
     for declaration in declarations {
-        end = end.max(put_declaration(code, objects, declaration)?);
+        end = end.max(put_declaration(alloc, code, objects, declaration)?);
     }
     Ok(end)
 }
@@ -287,10 +304,10 @@ fn put_statement(
         }
         StatementKind::Null(label) => put_null(code, objects, *label),
         StatementKind::Assignment(label, object, value) => {
-            put_assignment(code, objects, *label, *object, value)
+            put_assignment(alloc, code, objects, *label, *object, value)
         }
         StatementKind::Call(label, callee, actuals) => {
-            put_call_statement(code, objects, *label, *callee, actuals.as_slice())
+            put_call_statement(alloc, code, objects, *label, *callee, actuals.as_slice())
         }
         StatementKind::Exit(label) => put_exit(code, objects, *label),
         StatementKind::ExitWhen(label, decision) => {
@@ -390,7 +407,7 @@ pub(crate) fn put_block(
     ensures code { OnOk result (code.new ≡ joined code.old (block_code number_of bounds_of objects block.now)) }
     ensures end { IfOk result (λ end. end ≡ end_of_block objects block.now) }
 {
-    let declared = put_declarations(code, objects, block.declarations.as_slice())?;
+    let declared = put_declarations(alloc, code, objects, block.declarations.as_slice())?;
     let stated = put_statements(alloc, code, objects, &block.statements)?;
     Ok(declared.max(stated))
 }

@@ -1,15 +1,16 @@
 //! A program of three procedures, whose kernel was written by hand.
 
+use crate::decisions::put_decision;
 use crate::{
     kernels_are_small, kernels_do_what_their_programs_do, kernels_hold_the_obligations, lower,
 };
 use ada_tree::{
     Actual, Block, Branch, Callee, Decision, Declaration, Expr, Label, NewValue, Object, Operand,
-    Operator, Owner, Program, Range, Relation, Sign, Statement, StatementKind, Static, Subprogram,
-    Subtype, Test,
+    Operator, Owner, Program, Range, Relation, ShortCircuit, Sign, Statement, StatementKind,
+    Static, Subprogram, Subtype, Test,
 };
 use cov_base::{InstId, Pos, Seq, StmtId};
-use kernel_ir::{Code, Edge, Op, Simple, Slot};
+use kernel_ir::{Code, Edge, Node, Op, Simple, Slot};
 use std::alloc::{AllocError, Global};
 use std::test::Fail;
 
@@ -114,6 +115,24 @@ fn less(alloc: Global, number: u32) -> Result<Decision, AllocError> {
         label,
         test: Test::condition(label.place, relation),
     })
+}
+
+/// A short-circuit control form of so many operands, each `First < 5`.
+fn form(alloc: Global, form: ShortCircuit, operands: u32) -> Result<Test, AllocError> {
+    let mut others = Vec::new(alloc);
+    for _ in 1..operands {
+        others.push(less(alloc, 0)?.test)?;
+    }
+    Test::short_circuit(alloc, form, less(alloc, 0)?.test, others)
+}
+
+/// `(First < 5 and then First < 5 and then First < 5) or else (First < 5 or else First < 5) = True`
+fn forms(alloc: Global) -> Result<Test, AllocError> {
+    let nested = Expr::decision(alloc, label(1), form(alloc, ShortCircuit::OrElse, 2)?)?;
+    let same = Expr::relation(alloc, Relation::Equal, nested, Expr::literal(1))?;
+    let others = vec![in alloc; Test::condition(label(0).place, same)]?;
+    let first = form(alloc, ShortCircuit::AndThen, 3)?;
+    Test::short_circuit(alloc, ShortCircuit::OrElse, first, others)
 }
 
 /// `if First < 5 then exit when First < 5; elsif First < 5 then exit; end if;`
@@ -320,6 +339,27 @@ fn compares(code: &Code, on_true: Edge, on_false: Edge) -> bool {
         && is_due(&node.operand, &due)
 }
 
+/// The nodes of the decision that code begins with.
+fn nodes_of(code: &Code) -> Option<&[Node]> {
+    match code.ops.first() {
+        Some(Op::Decide { nodes, .. }) => Some(nodes.as_slice()),
+        _ => None,
+    }
+}
+
+/// Whether the edges of nodes are those that are due.
+fn lead(nodes: &[Node], due: &[(Edge, Edge)]) -> bool {
+    if nodes.len() != due.len() {
+        return false;
+    }
+    for (node, (on_true, on_false)) in nodes.iter().zip(due.iter()) {
+        if node.on_true != *on_true || node.on_false != *on_false {
+            return false;
+        }
+    }
+    true
+}
+
 /// Whether the branches of the if statement are as they are due.
 fn has_branches(code: &Code) -> bool {
     let Some((first, others)) = ways_of(code) else {
@@ -364,6 +404,30 @@ fn a_loop_has_its_kernel(rt: HostRuntime) -> Result<(), Fail> {
     assert!(rt; is_due(&body.code, &loops));
     let turn = turn_of(&body.code).expect(&rt, "a turn");
     assert!(rt; is_turn(turn));
+    Ok(())
+}
+
+#[test]
+fn forms_have_their_nodes(rt: HostRuntime) -> Result<(), Fail> {
+    let forms = forms(rt.alloc())?;
+    let mut code = Code::new(rt.alloc());
+    let end = put_decision(rt.alloc(), &mut code, 1, label(0), &forms)?;
+    let whole = [
+        (Edge::NodeAfter(0), Edge::NodeAfter(2)),
+        (Edge::NodeAfter(0), Edge::NodeAfter(1)),
+        (Edge::Leaf(true), Edge::NodeAfter(0)),
+        (Edge::Leaf(true), Edge::Leaf(false)),
+    ];
+    let nested = [
+        (Edge::Leaf(true), Edge::NodeAfter(0)),
+        (Edge::Leaf(true), Edge::Leaf(false)),
+    ];
+    let nodes = nodes_of(&code).expect(&rt, "a decision");
+    assert!(rt; lead(nodes, &whole));
+    let last = nodes.last().expect(&rt, "a node");
+    let nodes = nodes_of(&last.operand).expect(&rt, "a nested decision");
+    assert!(rt; lead(nodes, &nested));
+    assert_eq!(rt; end, 3);
     Ok(())
 }
 

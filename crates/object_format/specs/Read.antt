@@ -1,9 +1,7 @@
 -- What is read as an object, and what is not.
 use Rattle.std.specs.Prelude.{◌≡◌, ℕ, ◌⊎◌, ◌&&◌, ◌==◌, Bool, List, length, Ok, Err}
-use Rattle.std.specs.List.{list_all}
 use Rattle.cov_base.specs.declared.failure.Failure.{Failure}
 use Rattle.cov_base.specs.declared.failure.Failure.TheVariants.{Fault, WantOfMemory}
-use Rattle.cov_base.specs.declared.obligations.DecEntry.{DecEntry}
 use Rattle.object_format.specs.declared.fault.ObjectFault.{ObjectFault}
 use Rattle.object_format.specs.declared.object.Object.{Object}
 use Rattle.object_format.specs.Checked.{IsSound, FailsFirst}
@@ -16,15 +14,11 @@ pub record IsObject (o : Object) : Type 0 where
   pub closed : IsClosed o
   pub sound : IsSound o
 
--- each decision has one condition
-abbrev pub have_one_condition : List DecEntry → Bool
-have_one_condition decisions = list_all (λ decision. length decision.conditions == 1) decisions
-
--- what the language of the moment leaves out: data, declared exceptions, instances of generics, decisions of more than one condition, and regions
+-- what the language of the moment leaves out: data, declared exceptions, instances of generics, and regions
 abbrev pub is_plain : Object → Bool
 is_plain o =
     (length o.init == 0) && (length o.obligations.exceptions == 4) && (length o.obligations.instances == 1)
-    && have_one_condition o.obligations.decisions && (length o.obligations.regions == 0)
+    && (length o.obligations.regions == 0)
 
 -- the check `field` in the language of the moment
 abbrev pub passes_plain_field : Object → Bool

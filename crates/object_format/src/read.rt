@@ -5,21 +5,20 @@ ghost use Rattle.object_format.specs.declared.object.Object.{Object};
 ghost use Rattle.object_format.specs.Fields.{passes_field};
 ghost use Rattle.object_format.specs.Checked.{IsSound};
 ghost use Rattle.object_format.specs.File.{object_bytes, structured};
-ghost use Rattle.object_format.specs.Read.{IsObject, have_one_condition, is_plain, passes_plain_field, IsFailure};
+ghost use Rattle.object_format.specs.Read.{IsObject, is_plain, passes_plain_field, IsFailure};
 ghost use Rattle.spelling.specs.Outcome.{Delivers};
 
 use crate::checks::check;
 use crate::fault::ObjectFault;
 use crate::object::Object;
 use crate::structure::structure;
-use cov_base::{DecEntry, Failure};
+use cov_base::Failure;
 use std::alloc::Global;
 
 /// The object whose file the bytes are. The fault is the first check that fails: `Short` under 8
 /// bytes, `Magic`, `Version`, `Short` where a count runs past the end, and then the others in the
 /// order of [`ObjectFault`]. In the language of the moment an object has no data, no declared
-/// exceptions, one instance, decisions of one condition alone and no regions, and any other fails as
-/// [`ObjectFault::Field`].
+/// exceptions, one instance and no regions, and any other fails as [`ObjectFault::Field`].
 pub fn read_object(alloc: Global, bytes: &[u8]) -> Result<Object, Failure<ObjectFault>>
     // What is read is an object, and is spelled so.
     ensures found { IfOk result (λ o. IsObject o × (is_plain o ≡ true) × (bytes.now ≡ object_bytes o)) }
@@ -74,15 +73,5 @@ fn is_plain(value: &Object) -> bool
     value.init.len() == 0
         && due.exceptions.len() == 4
         && due.instances.len() == 1
-        && have_one_condition(due.decisions.as_slice())
         && due.regions.len() == 0
-}
-
-/// Whether each decision has one condition.
-fn have_one_condition(decisions: &[DecEntry]) -> bool
-    ensures { result ≡ have_one_condition decisions.now }
-{
-    decisions
-        .iter()
-        .all(|decision| decision.conditions.len() == 1)
 }

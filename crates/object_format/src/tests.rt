@@ -124,6 +124,7 @@ fn the_language_of_the_moment_is_read_and_written_again(rt: HostRuntime) -> Resu
         ONE_STATEMENT.as_slice(),
         TWO_BRANCHES.as_slice(),
         ONE_DECISION.as_slice(),
+        TWO_DECISIONS.as_slice(),
     ] {
         let bytes = whole(rt.alloc(), pieces)?;
         let written = again_plain(rt.alloc(), bytes.as_slice());
@@ -133,16 +134,12 @@ fn the_language_of_the_moment_is_read_and_written_again(rt: HostRuntime) -> Resu
 }
 
 #[test]
-fn the_language_of_the_moment_has_no_region_and_decides_by_one_condition(
-    rt: HostRuntime,
-) -> Result<(), Fail> {
-    for pieces in [ONE_REGION.as_slice(), TWO_DECISIONS.as_slice()] {
-        let bytes = whole(rt.alloc(), pieces)?;
-        assert_eq!(rt;
-            plain_refusal(rt.alloc(), bytes.as_slice())?,
-            Some(ObjectFault::Field)
-        );
-    }
+fn the_language_of_the_moment_has_no_region(rt: HostRuntime) -> Result<(), Fail> {
+    let bytes = whole(rt.alloc(), ONE_REGION.as_slice())?;
+    assert_eq!(rt;
+        plain_refusal(rt.alloc(), bytes.as_slice())?,
+        Some(ObjectFault::Field)
+    );
     Ok(())
 }
 

@@ -1,3 +1,4 @@
 pub mod Chains
 pub mod Lists
+pub mod Postfix
 pub mod Sizes

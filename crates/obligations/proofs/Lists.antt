@@ -15,7 +15,7 @@ use Rattle.ada_tree.specs.declared.program.Program.{Program}
 use Rattle.ada_tree.specs.declared.statement.Branch.{Branch}
 use Rattle.ada_tree.specs.declared.statement.Declaration.{Declaration}
 use Rattle.ada_tree.specs.declared.program.Subprogram.{Subprogram}
-use Rattle.obligations.specs.Entries.{Entries, no_entry, joined, listed, of_label, of_decision, of_declarations, of_statement, of_statements, of_block, of_branch, of_branches, of_subprograms, predefined}
+use Rattle.obligations.specs.Entries.{Entries, no_entry, joined, listed, of_label, of_nested, of_decision, of_declarations, of_statement, of_statements, of_block, of_branch, of_branches, of_subprograms, predefined}
 
 pub joined_nothing : (a : Entries) → joined a no_entry ≡ a
 unfolding joined
@@ -97,6 +97,21 @@ while_parts l d t ss =
     ap (joined (of_label l)) (decided_parts after_while l.number d t ss)
     ∙ sym (listed_joined (l ∷ []) (all_labels ss) [] (in_decision l.number after_while d t ++ in_stmts ss))
 
+-- decisions that a statement holds, and those behind them; where there is none
+pub nested_parts : (xs ys : List Decision) → joined (of_nested xs) (of_nested ys) ≡ of_nested (xs ++ ys)
+nested_parts xs ys = sym (listed_joined [] [] xs ys)
+
+pub nothing_added : (a : Entries) (hs : List Decision) → hs ≡ [] → a ≡ joined a (of_nested hs)
+nothing_added a hs none = sym (ap (λ xs. joined a (of_nested xs)) none ∙ ap (joined a) nothing_listed ∙ joined_nothing a)
+
+-- a statement and the decisions in its expressions
+pub held_parts : (l : Label) (hs : List Decision) → joined (of_label l) (of_nested hs) ≡ listed (l ∷ []) hs
+held_parts l hs = sym (listed_joined (l ∷ []) [] [] hs)
+
+pub initialized_parts : (l : Label) (d : ℕ) (v : tree.NewValue)
+    → joined (of_label l) (of_nested (in_value l.number v)) ≡ listed (declaration_labels (tree.initialized l d v ∷ [])) (in_declarations (tree.initialized l d v ∷ []))
+initialized_parts l d v = held_parts l (in_value l.number v) ∙ ap (λ hs. listed (l ∷ []) hs) (sym (append-nil (in_value l.number v)))
+
 pub exit_parts : (l d : Label) (t : Test) → joined (of_label l) (of_decision after_exit l.number d t) ≡ of_statement (tree.exit_when l d t)
 exit_parts l d t = sym (listed_joined (l ∷ []) [] [] (in_decision l.number after_exit d t))
 
@@ -143,11 +158,11 @@ unfolding joined listed
 statement_added ss new ds a e l view is pushed =
     (λ k. entries_of ((pushed ∙ ap (λ x. ss ++ x ∷ []) is) k) (sym (append-nil ds) k)) ∙ ap (λ z. joined z (of_label l)) view
 
-pub decision_added : (ss : List StmtEntry) (ds new : List DecEntry) (a : Entries) (e : DecEntry) (hs : List Decision)
-    → entries_of ss ds ≡ a → e ∷ [] ≡ map decision_entry hs → new ≡ ds ++ e ∷ [] → entries_of ss new ≡ joined a (listed [] hs)
+pub decision_added : (ss : List StmtEntry) (ds new : List DecEntry) (a : Entries) (e : DecEntry) (h : Decision)
+    → entries_of ss ds ≡ a → e ≡ decision_entry h → new ≡ ds ++ e ∷ [] → entries_of ss new ≡ joined a (of_nested (h ∷ []))
 unfolding joined listed
-decision_added ss ds new a e hs view is pushed =
-    (λ k. entries_of (sym (append-nil ss) k) ((pushed ∙ ap (λ xs. ds ++ xs) is) k)) ∙ ap (λ z. joined z (listed [] hs)) view
+decision_added ss ds new a e h view is pushed =
+    (λ k. entries_of (sym (append-nil ss) k) ((pushed ∙ ap (λ x. ds ++ x ∷ []) is) k)) ∙ ap (λ z. joined z (of_nested (h ∷ []))) view
 
 pub predefined_are : predefined ≡ predefined_names
 unfolding predefined

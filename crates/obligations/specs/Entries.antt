@@ -29,6 +29,15 @@ listed ls ds = record { statements = map statement_entry ls; decisions = map dec
 abbrev pub of_label : Label → Entries
 of_label l = listed (l ∷ []) []
 
+-- a decision: where it stands, the number of the statement obligation that holds it, its label and its expression
+abbrev pub the_decision : Standing → ℕ → Label → Test → Decision
+the_decision standing statement d t = record { standing = standing; statement = statement; label = d; test = t }
+
+-- decisions that are nested in an expression, or in the conditions of another decision
+abbrev pub of_nested : List Decision → Entries
+of_nested hs = listed [] hs
+
+-- a decision, and those nested in it
 abbrev pub of_decision : Standing → ℕ → Label → Test → Entries
 of_decision standing statement d t = listed [] (in_decision statement standing d t)
 

@@ -1,13 +1,13 @@
 //! The entries that were met so far.
 
-ghost use Rattle.std.specs.Prelude.{◌≡◌, [], OnOk};
+ghost use Rattle.std.specs.Prelude.{◌≡◌, [], ◌∷◌, OnOk};
 ghost use Rattle.ada_meaning.specs.Collected.{Standing};
 ghost use Rattle.ada_meaning.specs.Obligations.{letter_of, statement_entry};
 ghost use Rattle.ada_tree.specs.View.{label_of};
-ghost use Rattle.obligations.specs.Entries.{no_entry, joined, of_label, of_decision};
+ghost use Rattle.obligations.specs.Entries.{no_entry, joined, of_label, of_nested, the_decision};
 
 use crate::decisions::decision_entry;
-use ada_tree::{Decision, Label};
+use ada_tree::{Label, Test};
 use cov_base::{DecEntry, Letter, Seq, StmtEntry};
 use std::alloc::{AllocError, Global};
 use std::marker::Model;
@@ -53,12 +53,13 @@ impl Listing {
         &mut self,
         letter: Letter,
         statement: u32,
-        decision: &Decision,
+        label: Label,
+        test: &Test,
     ) -> Result<(), AllocError>
         ensures { (standing : Standing) → letter.0 ≡ letter_of standing
-            → OnOk result (self.new ≡ joined self.old (of_decision standing statement (label_of decision.now.label) decision.now.test)) }
+            → OnOk result (self.new ≡ joined self.old (of_nested (the_decision standing statement (label_of label) test.now ∷ []))) }
     {
-        let entry = decision_entry(self.alloc, letter, statement, decision)?;
+        let entry = decision_entry(self.alloc, letter, statement, label, test)?;
         self.decisions.push(entry)?;
         Ok(())
     }

@@ -1,68 +1,145 @@
-//! Decisions inside expressions, of which a statement would be the holder. No form of an expression is
-//! a decision, so there are none: each function here says so of what it is given, down to its leaves.
+//! Decisions and what is nested in them: in expressions, and so in what an object is set to, in actual
+//! parameters and in the conditions of other decisions.
 
-ghost use Rattle.std.specs.Prelude.{◌≡◌, ℕ, []};
-ghost use Rattle.ada_meaning.specs.Collected.{in_expr, in_actuals, in_value, in_test};
-ghost use Rattle.ada_tree.specs.View.{actuals_of, value_of};
-ghost use Rattle.obligations.specs.Operands.{in_operands};
+ghost use Rattle.std.specs.Prelude.{◌≡◌, OnOk};
+ghost use Rattle.ada_meaning.specs.Collected.{Standing, in_expr, in_actuals, in_value, in_test};
+ghost use Rattle.ada_meaning.specs.Obligations.{letter_of};
+ghost use Rattle.ada_tree.specs.View.{actuals_of, label_of, value_of};
+ghost use Rattle.obligations.specs.Entries.{joined, of_decision, of_nested};
+ghost use Rattle.obligations.specs.Operands.{in_actual, in_operands, in_tests};
 
-use ada_tree::{Actual, Expr, ExprKind, NewValue, Operand, Test, TestKind};
+use crate::listing::Listing;
+use ada_tree::{Actual, Decision, Expr, ExprKind, Label, NewValue, Operand, Test, TestKind};
+use cov_base::Letter;
+use std::alloc::AllocError;
 
-/// No decision is in an expression.
+/// Adds the entry of a decision with this letter, which the statement with this number holds, and then
+/// the entries of those nested in its conditions.
+pub(crate) fn add_decision(
+    listing: &mut Listing,
+    letter: Letter,
+    statement: u32,
+    decision: &Decision,
+) -> Result<(), AllocError>
+    ensures { (standing : Standing) → letter.0 ≡ letter_of standing
+        → OnOk result (listing.new ≡ joined listing.old (of_decision standing statement (label_of decision.now.label) decision.now.test)) }
+{
+    add_labelled(listing, letter, statement, decision.label, &decision.test)
+}
+
+/// The same of a decision by its label and its test.
 #[cycle(nested)]
-fn none_in_expression(expr: &Expr)
-    ensures { (statement : ℕ) → in_expr statement expr.now ≡ [] }
+fn add_labelled(
+    listing: &mut Listing,
+    letter: Letter,
+    statement: u32,
+    label: Label,
+    test: &Test,
+) -> Result<(), AllocError>
+    ensures { (standing : Standing) → letter.0 ≡ letter_of standing
+        → OnOk result (listing.new ≡ joined listing.old (of_decision standing statement (label_of label) test.now)) }
 {
-    match &expr.kind {
-        ExprKind::Literal(_) | ExprKind::Constant(_) | ExprKind::Read(_) => {}
-        ExprKind::Signed(_, operand) | ExprKind::Complement(operand) => none_in_expression(operand),
-        ExprKind::Relation(_, left, right) => {
-            none_in_expression(left);
-            none_in_expression(right);
-        }
-        ExprKind::Operations(first, others) => {
-            none_in_expression(first);
-            none_in_operands(others);
-        }
-    }
+    listing.add_decision(letter, statement, label, test)?;
+    add_in_test(listing, statement, test)
 }
 
-/// None is in the operands of a chain.
+/// Adds the entries of the decisions in the conditions of another.
 #[cycle(nested)]
-fn none_in_operands(operands: &[Operand])
-    ensures { (statement : ℕ) → in_operands statement operands.now ≡ [] }
-{
-    for operand in operands {
-        none_in_expression(&operand.operand);
-    }
-}
-
-/// None is in what an object is set to.
-pub(crate) fn none_in_value(value: &NewValue)
-    ensures { (statement : ℕ) → in_value statement (value_of value.now) ≡ [] }
-{
-    let NewValue::Scalar(_, expr) = value;
-    none_in_expression(expr)
-}
-
-/// None is in actual parameters.
-pub(crate) fn none_in_actuals(actuals: &[Actual])
-    ensures { (statement : ℕ) → in_actuals statement (actuals_of actuals.now) ≡ [] }
-{
-    for actual in actuals {
-        match actual {
-            Actual::Expression(expr) => none_in_expression(expr),
-            Actual::Variable(_, _) => {}
-        }
-    }
-}
-
-/// None is nested in the conditions of another.
-pub(crate) fn none_in_test(test: &Test)
-    ensures { (statement : ℕ) → in_test statement test.now ≡ [] }
+fn add_in_test(listing: &mut Listing, statement: u32, test: &Test) -> Result<(), AllocError>
+    ensures { OnOk result (listing.new ≡ joined listing.old (of_nested (in_test statement test.now))) }
 {
     match &test.kind {
-        TestKind::Condition(_, expr) => none_in_expression(expr),
-        TestKind::Negation(operand) => none_in_test(operand),
+        TestKind::Condition(_, expr) => add_in_expression(listing, statement, expr),
+        TestKind::Negation(operand) => add_in_test(listing, statement, operand),
+        TestKind::ShortCircuit(_, first, others) => {
+            add_in_test(listing, statement, first)?;
+            add_in_tests(listing, statement, others)
+        }
+    }
+}
+
+/// Adds those in the operands right of the first one.
+#[cycle(nested)]
+fn add_in_tests(listing: &mut Listing, statement: u32, tests: &[Test]) -> Result<(), AllocError>
+    ensures { OnOk result (listing.new ≡ joined listing.old (of_nested (in_tests statement tests.now))) }
+{
+    for test in tests {
+        add_in_test(listing, statement, test)?;
+    }
+    Ok(())
+}
+
+/// Adds those in an expression: an outer one before those nested in it.
+#[cycle(nested)]
+fn add_in_expression(listing: &mut Listing, statement: u32, expr: &Expr) -> Result<(), AllocError>
+    ensures { OnOk result (listing.new ≡ joined listing.old (of_nested (in_expr statement expr.now))) }
+{
+    match &expr.kind {
+        ExprKind::Literal(_) | ExprKind::Constant(_) | ExprKind::Read(_) => Ok(()),
+        ExprKind::Signed(_, operand) | ExprKind::Complement(operand) => {
+            add_in_expression(listing, statement, operand)
+        }
+        ExprKind::Relation(_, left, right) => {
+            add_in_expression(listing, statement, left)?;
+            add_in_expression(listing, statement, right)
+        }
+        ExprKind::Operations(first, others) => {
+            add_in_expression(listing, statement, first)?;
+            add_in_operands(listing, statement, others)
+        }
+        ExprKind::Decision(label, test) => {
+            add_labelled(listing, Letter::EXPRESSION, statement, *label, test)
+        }
+    }
+}
+
+/// Adds those in the operands of a chain.
+#[cycle(nested)]
+fn add_in_operands(
+    listing: &mut Listing,
+    statement: u32,
+    operands: &[Operand],
+) -> Result<(), AllocError>
+    ensures { OnOk result (listing.new ≡ joined listing.old (of_nested (in_operands statement operands.now))) }
+{
+    for operand in operands {
+        add_in_expression(listing, statement, &operand.operand)?;
+    }
+    Ok(())
+}
+
+/// Adds those in what an object is set to.
+pub(crate) fn add_in_value(
+    listing: &mut Listing,
+    statement: u32,
+    value: &NewValue,
+) -> Result<(), AllocError>
+    ensures { OnOk result (listing.new ≡ joined listing.old (of_nested (in_value statement (value_of value.now)))) }
+{
+    let NewValue::Scalar(_, expr) = value;
+    add_in_expression(listing, statement, expr)
+}
+
+/// Adds those in actual parameters.
+pub(crate) fn add_in_actuals(
+    listing: &mut Listing,
+    statement: u32,
+    actuals: &[Actual],
+) -> Result<(), AllocError>
+    ensures { OnOk result (listing.new ≡ joined listing.old (of_nested (in_actuals statement (actuals_of actuals.now)))) }
+{
+    for actual in actuals {
+        add_in_actual(listing, statement, actual)?;
+    }
+    Ok(())
+}
+
+/// Adds those in an actual parameter.
+fn add_in_actual(listing: &mut Listing, statement: u32, actual: &Actual) -> Result<(), AllocError>
+    ensures { OnOk result (listing.new ≡ joined listing.old (of_nested (in_actual statement actual.now))) }
+{
+    match actual {
+        Actual::Expression(expr) => add_in_expression(listing, statement, expr),
+        Actual::Variable(_, _) => Ok(()),
     }
 }

@@ -69,8 +69,9 @@ fn exception(alloc: Global, name: &str) -> Result<ExceptionName, AllocError>
 
 /// What coverage has to show of a program, without its exempt regions: that each statement is
 /// executed, also one after a return, and each declaration that gives an initial value; and that each
-/// decision after `if`, `elsif`, `while` and `exit when` gives both outcomes (Ada RM 2012, 3.3.1, 5.1,
-/// 5.3, 5.5, 5.7). The statements and the decisions stand in order in the program, as they do where
+/// decision gives both outcomes, where it stands after `if`, `elsif`, `while` and `exit when`, and where
+/// it is any other expression with `and then` or `or else` (Ada RM 2012, 3.3.1, 4.5.1, 5.1, 5.3, 5.5,
+/// 5.7). The statements and the decisions stand in order in the program, as they do where
 /// their sources are read from the left.
 pub fn obligations(alloc: Global, program: &Program) -> Result<Obligations, AllocError>
     requires in_order { ordered_labels (program_of program.now) ≡ labels_of (program_of program.now).subprograms }

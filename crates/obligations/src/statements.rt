@@ -5,7 +5,7 @@ ghost use Rattle.ada_tree.specs.View.{statements_of};
 ghost use Rattle.obligations.specs.Entries.{joined, of_declarations, of_statement, of_statements, of_branch, of_branches, of_block};
 
 use crate::listing::Listing;
-use crate::nested::{none_in_actuals, none_in_value};
+use crate::nested::{add_decision, add_in_actuals, add_in_value};
 use ada_tree::{Block, Branch, Declaration, Statement, StatementKind};
 use cov_base::Letter;
 use std::alloc::AllocError;
@@ -42,12 +42,12 @@ fn add_statement(listing: &mut Listing, statement: &Statement) -> Result<(), All
             listing.add_statement(*label)
         }
         StatementKind::Assignment(label, _, value) => {
-            none_in_value(value);
-            listing.add_statement(*label)
+            listing.add_statement(*label)?;
+            add_in_value(listing, label.number, value)
         }
         StatementKind::Call(label, _, actuals) => {
-            none_in_actuals(actuals.as_slice());
-            listing.add_statement(*label)
+            listing.add_statement(*label)?;
+            add_in_actuals(listing, label.number, actuals.as_slice())
         }
         StatementKind::If(label, branches, otherwise) => {
             listing.add_statement(*label)?;
@@ -60,12 +60,12 @@ fn add_statement(listing: &mut Listing, statement: &Statement) -> Result<(), All
         }
         StatementKind::While(label, decision, body) => {
             listing.add_statement(*label)?;
-            listing.add_decision(Letter::WHILE, label.number, decision)?;
+            add_decision(listing, Letter::WHILE, label.number, decision)?;
             add_statements(listing, body.as_slice())
         }
         StatementKind::ExitWhen(label, decision) => {
             listing.add_statement(*label)?;
-            listing.add_decision(Letter::EXIT, label.number, decision)
+            add_decision(listing, Letter::EXIT, label.number, decision)
         }
         StatementKind::Block(block) => add_block(listing, block),
     }
@@ -86,16 +86,16 @@ fn add_branches(
     Ok(())
 }
 
-/// Adds the entries of a branch: that of its decision, and those of its statements.
+/// Adds the entries of a branch: those of its decision, and those of its statements.
 #[cycle(statements)]
 fn add_branch(listing: &mut Listing, statement: u32, branch: &Branch) -> Result<(), AllocError>
     ensures { OnOk result (listing.new ≡ joined listing.old (of_branch statement branch.now)) }
 {
-    listing.add_decision(Letter::IF, statement, &branch.decision)?;
+    add_decision(listing, Letter::IF, statement, &branch.decision)?;
     add_statements(listing, branch.statements.as_slice())
 }
 
-/// Adds the entries of declarations: those with an initial value have one.
+/// Adds the entries of declarations.
 fn add_declarations(listing: &mut Listing, declarations: &[Declaration]) -> Result<(), AllocError>
     ensures { OnOk result (listing.new ≡ joined listing.old (of_declarations declarations.now)) }
 {
@@ -105,14 +105,15 @@ fn add_declarations(listing: &mut Listing, declarations: &[Declaration]) -> Resu
     Ok(())
 }
 
-/// Adds the entry of a declaration, where it has an initial value.
+/// Adds the entries of a declaration: where it has an initial value its own, and those of the decisions
+/// in that value.
 fn add_declaration(listing: &mut Listing, declaration: &Declaration) -> Result<(), AllocError>
     ensures { OnOk result (listing.new ≡ joined listing.old (of_declarations (declaration.now ∷ []))) }
 {
     match declaration {
         Declaration::Initialized(label, _, value) => {
-            none_in_value(value);
-            listing.add_statement(*label)
+            listing.add_statement(*label)?;
+            add_in_value(listing, label.number, value)
         }
         Declaration::WithoutValue(_, _) => Ok(()),
     }

@@ -9,10 +9,10 @@ ghost use Rattle.obligations.specs.Sample as sample;
 
 use crate::*;
 use ada_tree::{
-    Block, Branch, Decision, Declaration, Expr, Label, NewValue, Object, Program, Range, Statement,
-    StatementKind, Subprogram, Test,
+    Block, Branch, Decision, Declaration, Expr, Label, NewValue, Object, Program, Range, Relation,
+    ShortCircuit, Statement, StatementKind, Subprogram, Test,
 };
-use cov_base::{DecEntry, Letter, Pos, Seq, StmtId};
+use cov_base::{DecEntry, Letter, Place, Pos, Seq, StmtId};
 use std::alloc::{AllocError, Global};
 use std::test::Fail;
 
@@ -91,12 +91,31 @@ fn inner(alloc: Global) -> Result<Block, AllocError>
     })
 }
 
-/// `while B loop exit when not (B); declare .. end; end loop;`
+/// `B and then (B = (B or else not B))`
+fn going(alloc: Global) -> Result<Test, AllocError>
+    ensures { IfOk result (λ t. t ≡ sample.going) }
+{
+    let negation = Test::negation(alloc, condition(9, 37))?;
+    let others = vec![in alloc; negation]?;
+    let nested = Test::short_circuit(alloc, ShortCircuit::OrElse, condition(9, 27), others)?;
+    let nested = Expr::decision(alloc, label(3, 9, 27), nested)?;
+    let left = Expr::read(Object::Local(0));
+    let equal = Expr::relation(alloc, Relation::Equal, left, nested)?;
+    let place = Pos {
+        file: 0,
+        line: 9,
+        col: 22,
+    };
+    let others = vec![in alloc; Test::condition(place, equal)]?;
+    Test::short_circuit(alloc, ShortCircuit::AndThen, condition(9, 10), others)
+}
+
+/// `while .. loop exit when not (B); declare .. end; end loop;`
 fn turns(alloc: Global) -> Result<Statement, AllocError>
     ensures { IfOk result (λ s. s ≡ sample.turns) }
 {
     let leaving = Decision {
-        label: label(3, 10, 17),
+        label: label(4, 10, 17),
         test: Test::negation(alloc, condition(10, 22))?,
     };
     let exit = Statement {
@@ -107,7 +126,7 @@ fn turns(alloc: Global) -> Result<Statement, AllocError>
     };
     let going = Decision {
         label: label(2, 9, 10),
-        test: condition(9, 10),
+        test: going(alloc)?,
     };
     let body = vec![in alloc; exit, block]?;
     Ok(Statement {
@@ -149,28 +168,79 @@ const STATEMENTS: [(u32, u32); 8] = [
     (14, 10),
 ];
 
-/// What a decision is to be: its statement, line, column and letter, its bytes, and the line and column
-/// of its condition.
-#[derive(Drop)]
+/// What a decision is to be: its statement, line, column and letter, its bytes, and the lines and
+/// columns of its conditions.
 struct Due {
     statement: u32,
     line: u32,
     column: u32,
-    letter: Letter,
+    letter: u8,
     postfix: &'static [u8],
-    condition: (u32, u32),
+    conditions: &'static [(u32, u32)],
 }
+
+static DUES: [Due; 5] = [
+    Due {
+        statement: 1,
+        line: 4,
+        column: 7,
+        letter: b'I',
+        postfix: &[0],
+        conditions: &[(4, 7)],
+    },
+    Due {
+        statement: 1,
+        line: 6,
+        column: 10,
+        letter: b'I',
+        postfix: &[0, 32],
+        conditions: &[(6, 15)],
+    },
+    Due {
+        statement: 4,
+        line: 9,
+        column: 10,
+        letter: b'W',
+        postfix: &[0, 1, 33],
+        conditions: &[(9, 10), (9, 22)],
+    },
+    Due {
+        statement: 4,
+        line: 9,
+        column: 27,
+        letter: b'X',
+        postfix: &[0, 1, 32, 34],
+        conditions: &[(9, 27), (9, 37)],
+    },
+    Due {
+        statement: 5,
+        line: 10,
+        column: 17,
+        letter: b'E',
+        postfix: &[0, 32],
+        conditions: &[(10, 22)],
+    },
+];
 
 /// Whether a decision is what it is to be.
 fn is_due(decision: &DecEntry, due: &Due) -> bool {
-    let [condition] = decision.conditions.as_slice() else {
-        return false;
-    };
+    let conditions = decision.conditions.as_slice();
     decision.statement == StmtId(due.statement)
         && (decision.file, decision.line, decision.column) == (0, due.line, due.column)
-        && decision.letter == due.letter
+        && decision.letter == Letter(due.letter)
         && decision.expression.postfix.as_slice() == due.postfix
-        && (condition.line, condition.column) == due.condition
+        && conditions.len() == due.conditions.len()
+        && are_at(conditions, due.conditions)
+}
+
+/// Whether conditions have these lines and columns.
+fn are_at(conditions: &[Place], dues: &[(u32, u32)]) -> bool {
+    for (condition, due) in conditions.iter().zip(dues) {
+        if (condition.line, condition.column) != *due {
+            return false;
+        }
+    }
+    true
 }
 
 #[test]
@@ -182,42 +252,8 @@ fn statements_and_decisions_are_obligations(rt: HostRuntime) -> Result<(), Fail>
         assert_eq!(rt; entry.file, 0);
         assert_eq!(rt; (entry.line, entry.column), *place);
     }
-    let dues = [
-        Due {
-            statement: 1,
-            line: 4,
-            column: 7,
-            letter: Letter::IF,
-            postfix: &[0],
-            condition: (4, 7),
-        },
-        Due {
-            statement: 1,
-            line: 6,
-            column: 10,
-            letter: Letter::IF,
-            postfix: &[0, 32],
-            condition: (6, 15),
-        },
-        Due {
-            statement: 4,
-            line: 9,
-            column: 10,
-            letter: Letter::WHILE,
-            postfix: &[0],
-            condition: (9, 10),
-        },
-        Due {
-            statement: 5,
-            line: 10,
-            column: 17,
-            letter: Letter::EXIT,
-            postfix: &[0, 32],
-            condition: (10, 22),
-        },
-    ];
-    assert_eq!(rt; obligations.decisions.len(), dues.len());
-    for (decision, due) in obligations.decisions.as_slice().iter().zip(&dues) {
+    assert_eq!(rt; obligations.decisions.len(), DUES.len());
+    for (decision, due) in obligations.decisions.as_slice().iter().zip(&DUES) {
         assert!(rt; is_due(decision, due), "at line {}", due.line);
     }
     assert_eq!(rt; obligations.instances.len(), 1);

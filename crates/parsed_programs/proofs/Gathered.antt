@@ -1,8 +1,9 @@
--- What is gathered from statements in the order of the text: something at each statement, at each decision and at each declaration.
-use Rattle.std.proofs.Common.{◌≡◌, List, [], ◌∷◌, ◌++◌, map, Option, Some, None, refl, sym, ap, ◌∙◌, append-nil}
-use Rattle.std.proofs.lemmas.List.{append_assoc, map-append}
+-- What is gathered from statements in the order of the text: something at each statement, in its names and values, at each decision and at
+-- each declaration.
+use Rattle.std.proofs.Common.{◌≡◌, List, [], ◌∷◌, ◌++◌, Option, Some, None, refl, sym, ap, ◌∙◌, append-nil}
+use Rattle.std.proofs.lemmas.List.{append_assoc}
 use Rattle.cov_base.specs.declared.position.Pos.{Pos}
-use Rattle.ada_syntax.specs.Tree.{Expr}
+use Rattle.ada_syntax.specs.Tree.{Expr, Name}
 use Rattle.ada_syntax.specs.StatementTree.{Statement, null, assignment, call, exemption, conditional, case_of, repeat, exit, returns, raise, block, Statements, no_statements, then_also, Branches, no_branches, branch, Handled, handled}
 use Rattle.ada_syntax.specs.StatementView.{statements_of}
 use Rattle.ada_syntax.specs.declared.declaration.Declaration.{Declaration}
@@ -13,32 +14,34 @@ use Rattle.ada_syntax.specs.declared.unit.Unit.{Unit as LibraryUnit}
 use Rattle.statement_parser.specs.Trees.{with_branch}
 use Rattle.ada_names.specs.Library.{declarations_of_item, statements_of_item}
 use Rattle.ada_names.specs.Naming.{declarations_in}
-use Rattle.ada_places.specs.Places.{kind_places, declaration_places, statement_places, all_places, branch_places, handled_places, statement_decisions, all_decisions, branch_decisions, handled_decisions, places_of, decisions_of_units}
+use Rattle.ada_places.specs.Places.{Found, kind_places, declaration_places, statement_places, all_places, branch_places, handled_places, places_of, name_decisions, value_decisions, tested_decisions, kind_decisions, declaration_decisions, scheme_decisions, exit_decisions, statement_decisions, all_decisions, branch_decisions, handled_decisions, decisions_of_units}
 
--- the places that are gathered at a statement, at a decision and at a declaration
-pub record Gathering : Type 0 where
-  pub at_statement : Pos → List Pos
-  pub at_decision : Expr → List Pos
-  pub at_declaration : Declaration → List Pos
+-- what is gathered at the first token of a statement, in the names and values of statements, at a decision and at a declaration
+pub record Gathering (X : Type 0) : Type 0 where
+  pub at_statement : Pos → List X
+  pub at_name : Name → List X
+  pub at_value : Expr → List X
+  pub at_decision : Expr → List X
+  pub at_declaration : Declaration → List X
 
-abbrev pub of_declarations : Gathering → List Declaration → List Pos
+abbrev pub of_declarations : {X : Type 0} → Gathering X → List Declaration → List X
 of_declarations g [] = []
 of_declarations g (d ∷ ds) = g.at_declaration d ++ of_declarations g ds
 
-abbrev pub of_scheme : Gathering → LoopScheme → List Pos
+abbrev pub of_scheme : {X : Type 0} → Gathering X → LoopScheme → List X
 of_scheme g scheme.Forever = []
 of_scheme g (scheme.While e) = g.at_decision e
 of_scheme g (scheme.For i d r) = []
 
-abbrev pub of_exit : Gathering → Option Expr → List Pos
+abbrev pub of_exit : {X : Type 0} → Gathering X → Option Expr → List X
 of_exit g None = []
 of_exit g (Some e) = g.at_decision e
 
 abbrev mutual
-  pub of_statement : Gathering → Statement → List Pos
+  pub of_statement : {X : Type 0} → Gathering X → Statement → List X
   of_statement g (null p) = g.at_statement p
-  of_statement g (assignment p n i) = g.at_statement p
-  of_statement g (call p n) = g.at_statement p
+  of_statement g (assignment p n i) = (g.at_statement p ++ g.at_name n) ++ g.at_value i.value
+  of_statement g (call p n) = g.at_statement p ++ g.at_name n
   of_statement g (conditional p e ss bs es) = g.at_statement p ++ ((g.at_decision e ++ of_statements g ss) ++ (of_branches g bs ++ of_statements g es))
   of_statement g (repeat p s ss) = g.at_statement p ++ (of_scheme g s ++ of_statements g ss)
   of_statement g (exit p e) = g.at_statement p ++ of_exit g e
@@ -46,27 +49,27 @@ abbrev mutual
   of_statement g (block p ds h) = of_declarations g (declarations_in ds) ++ of_handled g h
   of_statement g _ = []
 
-  pub of_statements : Gathering → Statements → List Pos
+  pub of_statements : {X : Type 0} → Gathering X → Statements → List X
   of_statements g no_statements = []
   of_statements g (then_also s ss) = of_statement g s ++ of_statements g ss
 
-  pub of_branches : Gathering → Branches → List Pos
+  pub of_branches : {X : Type 0} → Gathering X → Branches → List X
   of_branches g no_branches = []
   of_branches g (branch e ss bs) = (g.at_decision e ++ of_statements g ss) ++ of_branches g bs
 
-  pub of_handled : Gathering → Handled → List Pos
+  pub of_handled : {X : Type 0} → Gathering X → Handled → List X
   of_handled g (handled ss hs) = of_statements g ss
 
-abbrev pub of_item : Gathering → LibraryItem → List Pos
+abbrev pub of_item : {X : Type 0} → Gathering X → LibraryItem → List X
 of_item g i = of_declarations g (declarations_of_item i) ++ of_statements g (statements_of_item i)
 
-abbrev pub of_units : Gathering → List LibraryUnit → List Pos
+abbrev pub of_units : {X : Type 0} → Gathering X → List LibraryUnit → List X
 of_units g [] = []
 of_units g (u ∷ us) = of_item g u.item ++ of_units g us
 
 -- the places of statement obligations
-abbrev pub obligations : Gathering
-obligations = record { at_statement = λ p. p ∷ []; at_decision = λ e. []; at_declaration = λ d. kind_places d.pos d.kind }
+abbrev pub obligations : Gathering Pos
+obligations = record { at_statement = λ p. p ∷ []; at_name = λ n. []; at_value = λ e. []; at_decision = λ e. []; at_declaration = λ d. kind_places d.pos d.kind }
 
 declarations_same : (ds : List Declaration) → of_declarations obligations ds ≡ declaration_places ds
 declarations_same [] = refl
@@ -104,59 +107,55 @@ pub units_same : (us : List LibraryUnit) → of_units obligations us ≡ places_
 units_same [] = refl
 units_same (u ∷ us) = λ i. (declarations_same (declarations_of_item u.item) i ++ statements_same (statements_of_item u.item) i) ++ units_same us i
 
--- a place of each decision
-abbrev pub deciding : (Expr → Pos) → Gathering
-deciding f = record { at_statement = λ p. []; at_decision = λ e. f e ∷ []; at_declaration = λ d. [] }
+-- the decisions
+abbrev pub decisions : Gathering Found
+decisions = record { at_statement = λ p. []; at_name = name_decisions; at_value = value_decisions; at_decision = tested_decisions; at_declaration = λ d. kind_decisions d.kind }
 
-module _ (f : Expr → Pos) where
-  none_declared : (ds : List Declaration) → of_declarations (deciding f) ds ≡ []
-  none_declared [] = refl
-  none_declared (d ∷ ds) = none_declared ds
+declarations_found : (ds : List Declaration) → of_declarations decisions ds ≡ declaration_decisions ds
+declarations_found [] = refl
+declarations_found (d ∷ ds) = ap (λ fs. kind_decisions d.kind ++ fs) (declarations_found ds)
 
-  -- two lists, seen as places
-  both : {ps qs : List Pos} (xs ys : List Expr) → ps ≡ map f xs → qs ≡ map f ys → ps ++ qs ≡ map f (xs ++ ys)
-  both xs ys h k = (λ i. h i ++ k i) ∙ sym (map-append f xs ys)
+scheme_found : (s : LoopScheme) → of_scheme decisions s ≡ scheme_decisions s
+scheme_found scheme.Forever = refl
+scheme_found (scheme.While e) = refl
+scheme_found (scheme.For i d r) = refl
 
-  mutual
-    statement_decided : (s : Statement) → of_statement (deciding f) s ≡ map f (statement_decisions s)
-    statement_decided (null p) = refl
-    statement_decided (assignment p n i) = refl
-    statement_decided (call p n) = refl
-    statement_decided (exemption p a) = refl
-    statement_decided (conditional p e ss bs es) =
-        ap (λ ps. f e ∷ ps)
-        (both (all_decisions ss) (branch_decisions bs ++ all_decisions es) (statements_decided ss) (both (branch_decisions bs) (all_decisions es) (branches_decided bs) (statements_decided es)))
-    statement_decided (case_of p e xs) = refl
-    statement_decided (repeat p scheme.Forever ss) = statements_decided ss
-    statement_decided (repeat p (scheme.While e) ss) = ap (λ ps. f e ∷ ps) (statements_decided ss)
-    statement_decided (repeat p (scheme.For n d r) ss) = statements_decided ss
-    statement_decided (exit p None) = refl
-    statement_decided (exit p (Some e)) = refl
-    statement_decided (returns p e) = refl
-    statement_decided (raise p n) = refl
-    statement_decided (block p ds h) = ap (λ ps. ps ++ of_handled (deciding f) h) (none_declared (declarations_in ds)) ∙ handled_decided h
+exit_found : (e : Option Expr) → of_exit decisions e ≡ exit_decisions e
+exit_found None = refl
+exit_found (Some e) = refl
 
-    statements_decided : (ss : Statements) → of_statements (deciding f) ss ≡ map f (all_decisions ss)
-    statements_decided no_statements = refl
-    statements_decided (then_also s ss) = both (statement_decisions s) (all_decisions ss) (statement_decided s) (statements_decided ss)
+mutual
+  statement_found : (s : Statement) → of_statement decisions s ≡ statement_decisions s
+  statement_found (null p) = refl
+  statement_found (assignment p n i) = refl
+  statement_found (call p n) = refl
+  statement_found (exemption p a) = refl
+  statement_found (conditional p e ss bs es) =
+      (λ i. (tested_decisions e ++ statements_found ss i) ++ (branches_found bs i ++ statements_found es i)) ∙ append_assoc (tested_decisions e) (all_decisions ss) (branch_decisions bs ++ all_decisions es)
+  statement_found (case_of p e xs) = refl
+  statement_found (repeat p s ss) = λ i. scheme_found s i ++ statements_found ss i
+  statement_found (exit p e) = exit_found e
+  statement_found (returns p e) = refl
+  statement_found (raise p n) = refl
+  statement_found (block p ds h) = λ i. declarations_found (declarations_in ds) i ++ handled_found h i
 
-    branches_decided : (bs : Branches) → of_branches (deciding f) bs ≡ map f (branch_decisions bs)
-    branches_decided no_branches = refl
-    branches_decided (branch e ss bs) = ap (λ ps. f e ∷ ps) (both (all_decisions ss) (branch_decisions bs) (statements_decided ss) (branches_decided bs))
+  statements_found : (ss : Statements) → of_statements decisions ss ≡ all_decisions ss
+  statements_found no_statements = refl
+  statements_found (then_also s ss) = λ i. statement_found s i ++ statements_found ss i
 
-    handled_decided : (h : Handled) → of_handled (deciding f) h ≡ map f (handled_decisions h)
-    handled_decided (handled ss hs) = statements_decided ss
+  branches_found : (bs : Branches) → of_branches decisions bs ≡ branch_decisions bs
+  branches_found no_branches = refl
+  branches_found (branch e ss bs) = (λ i. (tested_decisions e ++ statements_found ss i) ++ branches_found bs i) ∙ append_assoc (tested_decisions e) (all_decisions ss) (branch_decisions bs)
 
-  item_decided : (i : LibraryItem) → of_item (deciding f) i ≡ map f (all_decisions (statements_of_item i))
-  item_decided i =
-      ap (λ ps. ps ++ of_statements (deciding f) (statements_of_item i)) (none_declared (declarations_of_item i)) ∙ statements_decided (statements_of_item i)
+  handled_found : (h : Handled) → of_handled decisions h ≡ handled_decisions h
+  handled_found (handled ss hs) = statements_found ss
 
-  pub units_decided : (us : List LibraryUnit) → of_units (deciding f) us ≡ map f (decisions_of_units us)
-  units_decided [] = refl
-  units_decided (u ∷ us) = both (all_decisions (statements_of_item u.item)) (decisions_of_units us) (item_decided u.item) (units_decided us)
+pub units_found : (us : List LibraryUnit) → of_units decisions us ≡ decisions_of_units us
+units_found [] = refl
+units_found (u ∷ us) = λ i. (declarations_found (declarations_of_item u.item) i ++ statements_found (statements_of_item u.item) i) ++ units_found us i
 
 -- one more at the end
-module _ (g : Gathering) where
+module _ {X : Type 0} (g : Gathering X) where
   pub declarations_last : (ds : List Declaration) (d : Declaration) → of_declarations g (ds ++ d ∷ []) ≡ of_declarations g ds ++ g.at_declaration d
   declarations_last [] d = append-nil (g.at_declaration d)
   declarations_last (e ∷ ds) d = ap (λ ps. g.at_declaration e ++ ps) (declarations_last ds d) ∙ sym (append_assoc (g.at_declaration e) (of_declarations g ds) (g.at_declaration d))

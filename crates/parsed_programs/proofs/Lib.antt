@@ -1,6 +1,7 @@
-pub mod Picks
+pub mod Files
+pub mod Finds
 pub mod Gathered
 pub mod Nested
-pub mod Files
-pub mod Within
+pub mod Picks
 pub mod SourceLaws
+pub mod Within

@@ -1,10 +1,9 @@
 -- The places of expressions and declarations are those of some of the tokens, in their order.
-use Rattle.std.proofs.Common.{◌≡◌, List, [], ◌∷◌, ◌++◌, Option, Some, refl, ap, subst, append-nil}
+use Rattle.std.proofs.Common.{◌≡◌, List, [], ◌∷◌, ◌++◌, Option, Some, subst, append-nil}
 use Rattle.cov_base.specs.declared.position.Pos.{Pos}
 use Rattle.ada_lexer.specs.declared.token.Token.{Token}
-use Rattle.ada_syntax.specs.Tree.{Expr, unary, expr_pos, Name, name_pos}
+use Rattle.ada_syntax.specs.Tree.{Expr, expr_pos, Name, name_pos}
 use Rattle.ada_syntax.specs.declared.expr.LogicalOperator.{LogicalOperator}
-use Rattle.ada_syntax.specs.declared.expr.UnaryOperator.{UnaryOperator}
 use Rattle.ada_syntax.specs.declared.expr.UnaryOperator.TheVariants as operator
 use Rattle.ada_syntax.specs.declared.declaration.Bounds.{Bounds}
 use Rattle.ada_syntax.specs.declared.declaration.Constancy.{Constancy}
@@ -18,14 +17,14 @@ use Rattle.expression_parser.specs.Reading.{Tokens}
 use Rattle.expression_parser.specs.Expressions.{Level, Joins, by_and, by_or, by_xor, by_and_then, by_or_else, IsExpr, a_numeral, a_name, in_parentheses, a_primary, an_abs, a_not, a_factor, a_product, a_term, a_signed_term, a_first_term, a_sum, a_simple, a_relation, a_single, a_chain, IsChain, a_pair, a_longer, IsName, an_identifier, a_selection, an_attribute, an_application, AreExprs, one_expr, more_exprs}
 use Rattle.expression_parser.specs.declared.symbol.Symbol.{Symbol}
 use Rattle.expression_parser.specs.declared.symbol.Symbol.TheVariants as symbol
-use Rattle.expression_parser.specs.Symbols.{symbol_of, sign_of}
+use Rattle.expression_parser.specs.Symbols.{sign_of}
 use Rattle.expression_parser.specs.Syntax.{Suffix, all, after}
 use Rattle.declaration_parser.specs.Identifiers.{AreIdentifiers, one_identifier, more_identifiers}
 use Rattle.declaration_parser.specs.Declarations.{IsDeclaration, a_type, a_subtype, an_object, an_exception, an_exemption, IsConstancy, a_variable, a_constant, no_initial, an_initial}
 use Rattle.declaration_parser.specs.Subtypes.{IsInitial, a_value, an_aggregate, AreBounds, low_and_high, IsRange, a_mark, a_range, IsConstraint, no_constraint, a_constraint, IsIndication, an_indication}
 use Rattle.statement_parser.specs.Words.{Word, word, Named, name}
 use Rattle.ada_parser.proofs.UnitSuffixes.{declaration_suffix}
-use Rattle.ada_places.specs.Places.{kind_places, condition_place}
+use Rattle.ada_places.specs.Places.{kind_places}
 
 -- these are the places of some of the tokens between two lists, in order
 pub data Picks : List Pos → Tokens → Tokens → Type 0 where
@@ -50,7 +49,7 @@ none_of ended = ended
 none_of (taken p) = passed (none_of p)
 none_of (passed p) = passed (none_of p)
 
-skips_operator : {x : Extent} {op : LogicalOperator} {ts rest : Tokens} → Joins x op ts rest → Picks [] ts rest
+pub skips_operator : {x : Extent} {op : LogicalOperator} {ts rest : Tokens} → Joins x op ts rest → Picks [] ts rest
 skips_operator (by_and o i) = passed ended
 skips_operator (by_or o i) = passed ended
 skips_operator (by_xor o i) = passed ended
@@ -76,7 +75,7 @@ mutual
   skips_expr (a_single e) = skips_expr e
   skips_expr (a_chain c) = skips_chain c
 
-  skips_chain : {x : Extent} {op : LogicalOperator} {e : Expr} {ts rest : Tokens} → IsChain x op e ts rest → Picks [] ts rest
+  pub skips_chain : {x : Extent} {op : LogicalOperator} {e : Expr} {ts rest : Tokens} → IsChain x op e ts rest → Picks [] ts rest
   skips_chain (a_pair a j b) = joined (skips_expr a) (joined (skips_operator j) (skips_expr b))
   skips_chain (a_longer a j b) = joined (skips_chain a) (joined (skips_operator j) (skips_expr b))
 
@@ -110,41 +109,15 @@ mutual
   expr_picked (a_single e) = expr_picked e
   expr_picked (a_chain c) = chain_picked c
 
-  chain_picked : {x : Extent} {op : LogicalOperator} {e : Expr} {ts rest : Tokens} → IsChain x op e ts rest → Picks (expr_pos e ∷ []) ts rest
+  pub chain_picked : {x : Extent} {op : LogicalOperator} {e : Expr} {ts rest : Tokens} → IsChain x op e ts rest → Picks (expr_pos e ∷ []) ts rest
   chain_picked (a_pair a j b) = with_rest (expr_picked a) (joined (skips_operator j) (skips_expr b))
   chain_picked (a_longer a j b) = with_rest (chain_picked a) (joined (skips_operator j) (skips_expr b))
 
 -- a sign is not `not`
-never_not : (s : Symbol) → sign_of s ≡ Some operator.Not → ⊥
+pub never_not : (s : Symbol) → sign_of s ≡ Some operator.Not → ⊥
 never_not symbol.Plus h = cc
 never_not symbol.Minus h = cc
 never_not s h = cc
-
-signed_place : (s : Symbol) (op : UnaryOperator) (p : Pos) (e : Expr) → sign_of s ≡ Some op → p ≡ condition_place (unary p op e)
-signed_place s operator.Plus p e h = refl
-signed_place s operator.Minus p e h = refl
-signed_place s operator.Abs p e h = refl
-signed_place s operator.Not p e h = absurd (never_not s h)
-
--- the first token of its condition
-pub condition_picked : {x : Extent} {l : Level} {e : Expr} {ts rest : Tokens} → IsExpr x l e ts rest → Picks (condition_place e ∷ []) ts rest
-condition_picked (a_numeral i) = taken ended
-condition_picked (a_name o n) = name_picked n
-condition_picked (in_parentheses o i e j) = passed (with_rest (condition_picked e) (passed ended))
-condition_picked (a_primary e) = condition_picked e
-condition_picked (an_abs o i e) = taken (skips_expr e)
-condition_picked (a_not o i e) = passed (condition_picked e)
-condition_picked (a_factor e) = condition_picked e
-condition_picked (a_product o a i b) = with_rest (expr_picked a) (passed (skips_expr b))
-condition_picked (a_term e) = condition_picked e
-condition_picked (a_signed_term {t = t} {op = op} {e = e} o i d) = same_places (ap (λ p. p ∷ []) (signed_place (symbol_of t.lexeme) op t.pos e i)) (taken (skips_expr d))
-condition_picked (a_first_term e) = condition_picked e
-condition_picked (a_sum o a i b) = with_rest (expr_picked a) (passed (skips_expr b))
-condition_picked (a_simple e) = condition_picked e
-condition_picked (a_relation o a i b) = with_rest (expr_picked a) (passed (skips_expr b))
-condition_picked (a_single e) = condition_picked e
-condition_picked (a_chain (a_pair a j b)) = with_rest (expr_picked a) (joined (skips_operator j) (skips_expr b))
-condition_picked (a_chain (a_longer a j b)) = with_rest (chain_picked a) (joined (skips_operator j) (skips_expr b))
 
 -- no token up to an end
 pub skipped : {ts rest : Tokens} → Suffix rest ts → Picks [] ts rest
@@ -170,7 +143,7 @@ first_identifier : {is : List Identifier} {t : Token} {ts rest : Tokens} → Are
 first_identifier (one_identifier i) = taken ended
 first_identifier (more_identifiers is i j) = with_rest (first_identifier is) (passed (passed ended))
 
-skips_constancy : {k : Constancy} {ts rest : Tokens} → IsConstancy k ts rest → Picks [] ts rest
+pub skips_constancy : {k : Constancy} {ts rest : Tokens} → IsConstancy k ts rest → Picks [] ts rest
 skips_constancy a_variable = ended
 skips_constancy (a_constant i) = passed ended
 
@@ -178,7 +151,7 @@ skips_constraint : {x : Extent} {c : Option Bounds} {ts rest : Tokens} → IsCon
 skips_constraint no_constraint = ended
 skips_constraint (a_constraint o i (low_and_high a j b)) = passed (joined (skips_expr a) (passed (skips_expr b)))
 
-skips_indication : {x : Extent} {s : SubtypeIndication} {ts rest : Tokens} → IsIndication x s ts rest → Picks [] ts rest
+pub skips_indication : {x : Extent} {s : SubtypeIndication} {ts rest : Tokens} → IsIndication x s ts rest → Picks [] ts rest
 skips_indication (an_indication n c) = joined (none_of (name_picked n)) (skips_constraint c)
 
 pub declaration_picked : {x : Extent} {d : Declaration} {ts rest : Tokens} → IsDeclaration x d ts rest → Picks (kind_places d.pos d.kind) ts rest

@@ -12,14 +12,14 @@ use Rattle.cov_base.specs.declared.failure.Failure.TheVariants.{Fault, WantOfMem
 use Rattle.cov_base.specs.declared.obligations.SourceFile.{SourceFile}
 use Rattle.cov_base.specs.declared.position.Pos.{Pos}
 use Rattle.expression_parser.specs.declared.extent.Extent.{Extent}
-use Rattle.expression_parser.specs.declared.extent.Extent.TheVariants.{Decisions}
+use Rattle.expression_parser.specs.declared.extent.Extent.TheVariants.{ShortCircuit}
 use Rattle.parsed_programs.specs.declared.fault.SourceFault.{SourceFault}
 use Rattle.parsed_programs.specs.declared.fault.Why.{Why}
 use Rattle.parsed_programs.specs.declared.fault.Why.TheVariants.{Limit, Lexical, Syntax}
 
 -- how much of the language is open
 abbrev pub open_extent : Extent
-open_extent = Decisions
+open_extent = ShortCircuit
 
 -- the most bytes of a source file
 abbrev pub size_limit : ℕ

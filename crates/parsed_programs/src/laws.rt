@@ -3,7 +3,7 @@
 
 ghost use Rattle.std.specs.Prelude.{ℕ, List};
 ghost use Rattle.ada_syntax.specs.declared.unit.Unit.{Unit as LibraryUnit};
-ghost use Rattle.ada_places.specs.Places.{condition_places, decision_places, places_of};
+ghost use Rattle.ada_places.specs.Places.{unit_conditions, decision_places, places_of};
 ghost use Rattle.cov_base.specs.declared.obligations.SourceFile.{SourceFile};
 ghost use Rattle.expression_parser.specs.declared.extent.Extent.{Extent};
 ghost use Rattle.legal_programs.specs.Rising.{DecisionsRise, StatementsRise};
@@ -23,7 +23,8 @@ pub fn statements_of_files_stand_in_them()
     ensures { (extent : Extent) (files : ℕ) (units : List LibraryUnit) → AreOfFiles extent files units → AreInFiles files (places_of units) }
 {}
 
-/// The decisions of such files stand one after the other.
+/// The decisions of such files stand one after the other, where of two that begin at one place the outer
+/// comes first.
 pub fn decisions_of_files_rise()
     ensures { (extent : Extent) (files : ℕ) (units : List LibraryUnit) → AreOfFiles extent files units → DecisionsRise units }
 {}
@@ -32,7 +33,7 @@ pub fn decisions_of_files_rise()
 /// count from 1.
 pub fn decisions_of_files_stand_in_them()
     ensures decisions { (extent : Extent) (files : ℕ) (units : List LibraryUnit) → AreOfFiles extent files units → AreInFiles files (decision_places units) }
-    ensures conditions { (extent : Extent) (files : ℕ) (units : List LibraryUnit) → AreOfFiles extent files units → AreInFiles files (condition_places units) }
+    ensures conditions { (extent : Extent) (files : ℕ) (units : List LibraryUnit) → AreOfFiles extent files units → AreInFiles files (unit_conditions units) }
 {}
 
 /// Sources that are refused have no units.

@@ -1,7 +1,7 @@
 //! The library units of source files. Each step looks at all files before the next begins.
 
 ghost use Rattle.std.specs.Prelude.{◌≡◌, ◌^◌, ◌<◌, List, [], ◌∷◌, None, Ok, IfOk, IfErr, length};
-ghost use Rattle.ada_places.specs.Places.{condition_places, decision_places, places_of};
+ghost use Rattle.ada_places.specs.Places.{unit_conditions, decision_places, places_of};
 ghost use Rattle.legal_programs.specs.Rising.{DecisionsRise, StatementsRise};
 ghost use Rattle.ada_parser.specs.Grammar.{IsFile};
 ghost use Rattle.ada_parser.specs.Refusal.{IsOnlyFile};
@@ -34,7 +34,7 @@ use std::alloc::Global;
 const MAX_SOURCE: usize = 1_048_576;
 
 /// How much of the language is open.
-const OPEN_EXTENT: Extent = Extent::Decisions;
+const OPEN_EXTENT: Extent = Extent::ShortCircuit;
 
 /// Where each file begins.
 const BEGINNING: Pos = Pos {
@@ -53,7 +53,7 @@ pub fn units_of(alloc: Global, files: &[SourceFile]) -> Result<Vec<Unit>, Failur
     ensures in_files { IfOk result (λ units. AreInFiles (length files.now) (places_of units.items)) }
     ensures decisions_rising { IfOk result (λ units. DecisionsRise units.items) }
     ensures decisions_in_files { IfOk result (λ units. AreInFiles (length files.now) (decision_places units.items)) }
-    ensures conditions_in_files { IfOk result (λ units. AreInFiles (length files.now) (condition_places units.items)) }
+    ensures conditions_in_files { IfOk result (λ units. AreInFiles (length files.now) (unit_conditions units.items)) }
     ensures refused { IfErr result (FailsFor files.now) }
 {
     let tokens = flat_tokens(alloc, files)?;

@@ -17,11 +17,11 @@ const WITHOUT_TOKEN: &str = "procedure R is\nbegin\n   null; #\nend R;\n";
 const DECISIONS: &str =
     "procedure R is\n   X : Integer := 1;\nbegin\n   if not (X = 1) then\n      X := 2;\n   elsif X > 3 or X < 0 then\n      null;\n   else\n      return;\n   end if;\n   while X < 5 loop\n      exit when X = 4;\n      declare\n         Y : Integer := X;\n      begin\n         X := Y + 1;\n      end;\n   end loop;\nend R;\n";
 
-const AND_THEN: &str =
-    "procedure R is\nbegin\n   if True and then False then\n      null;\n   end if;\nend R;\n";
+const FORMS: &str =
+    "procedure R is\n   X : Integer := 1;\nbegin\n   if (X = 1 and then not (X > 2 or else X < 0)) = (X > 1) then\n      R (X = 1 or else X = 2);\n   end if;\nend R;\n";
 
-const OR_ELSE: &str =
-    "procedure R is\nbegin\n   if True or else False then\n      null;\n   end if;\nend R;\n";
+const MIXED: &str =
+    "procedure R is\nbegin\n   exit when 1 = 1 and then 2 = 2 or else 3 = 3;\nend R;\n";
 
 const FOR: &str =
     "procedure R is\nbegin\n   for I in 1 .. 2 loop\n      null;\n   end loop;\nend R;\n";
@@ -99,13 +99,13 @@ fn the_first_fault_is_that_of_the_first_step(rt: HostRuntime) -> Result<(), Fail
     Ok(())
 }
 
-/// Of decisions those of one condition are read, and those of operators that evaluate both operands.
+/// Decisions are read, also nested ones. A chain has one operator.
 #[test]
 fn forms_that_come_later_are_refused(rt: HostRuntime) -> Result<(), Fail> {
     let alloc = rt.alloc();
     assert_eq!(rt; fault(alloc, &[DECISIONS])?, None);
-    assert_eq!(rt; fault(alloc, &[AND_THEN])?, fault_of(0, 3, 16, Why::Syntax));
-    assert_eq!(rt; fault(alloc, &[OR_ELSE])?, fault_of(0, 3, 15, Why::Syntax));
+    assert_eq!(rt; fault(alloc, &[FORMS])?, None);
+    assert_eq!(rt; fault(alloc, &[MIXED])?, fault_of(0, 3, 35, Why::Syntax));
     assert_eq!(rt; fault(alloc, &[FOR])?, fault_of(0, 3, 4, Why::Syntax));
     assert_eq!(rt; fault(alloc, &[CASE])?, fault_of(0, 3, 4, Why::Syntax));
     Ok(())

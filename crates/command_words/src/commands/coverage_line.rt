@@ -36,13 +36,15 @@ pub fn coverage<'a>(alloc: Global, words: &'a [String]) -> Result<Command<'a>, F
     })
 }
 
-/// The level of that name. There are two so far.
+/// The level of that name.
 fn level_named(name: &str) -> Result<Level, Failure<Usage>>
     ensures { Gives (λ level. level) (level_named name.now) result }
 {
     match name {
         "stmt" => Ok(Level::Stmt),
         "stmt+decision" => Ok(Level::Decision),
+        "stmt+mcdc" => Ok(Level::Mcdc),
+        "stmt+uc_mcdc" => Ok(Level::UcMcdc),
         _ => Err(Failure::Fault(Usage)),
     }
 }

@@ -2,6 +2,7 @@
 
 mod decisions;
 mod endings;
+mod pairs;
 mod refused_sources;
 mod rules;
 

@@ -19,9 +19,9 @@ returns-in_err-subtype c =
     let is = c.in-Object.names in
     let s = c.in-Object.indication in
     let f = c.in_err-subtype.field-0.0 in
-    let one : Refused (rule.indication (inner k is) k.objects s) f =
+    let one : Refused (rule.indication k.places.decisions (inner k is) k.objects s) f =
     move_inside a old is c.as_slice-names.result.now c.in_ok-hidden.hidden c.in_ok-hidden.ensures c.as_slice-names.ensures c.as_slice-objects.result.now c.as_slice-objects.ensures.value
-    (λ rs xs. Refused (rule.indication rs xs s) f) c.in_err-subtype.ensures in
+    (λ rs xs. Refused (rule.indication a.places.now.decisions rs xs s) f) c.in_err-subtype.ensures in
     let r : Refused (rule.declaration k c.args.declaration.now) f = law.in_indication k c.args.declaration.now is c.in-Object.constancy s c.in-Object.initial c.in-Object.is one in
     search (rules, r)
 
@@ -35,12 +35,12 @@ returns-in_err-typed c =
     let i = c.in-Object.initial in
     let t = c.in_ok-subtype.subtype in
     let f = c.in_err-typed.field-0.0 in
-    let typed : indicated (inner k is) k.objects s ≡ Some t =
+    let typed : indicated k.places.decisions (inner k is) k.objects s ≡ Some t =
     move_inside a old is c.as_slice-names.result.now c.in_ok-hidden.hidden c.in_ok-hidden.ensures c.as_slice-names.ensures c.as_slice-objects.result.now c.as_slice-objects.ensures.value
-    (λ rs xs. indicated rs xs s ≡ Some t) c.in_ok-subtype.ensures in
-    let one : SomeRefused (rule.value_behind (inner k is) k.objects (Some t) i) f =
+    (λ rs xs. indicated a.places.now.decisions rs xs s ≡ Some t) c.in_ok-subtype.ensures in
+    let one : SomeRefused (rule.value_behind k.places.decisions (inner k is) k.objects (Some t) i) f =
     move_inside a old is c.as_slice-names.result.now c.in_ok-hidden.hidden c.in_ok-hidden.ensures c.as_slice-names.ensures c.as_slice-objects.result.now c.as_slice-objects.ensures.value
-    (λ rs xs. SomeRefused (rule.value_behind rs xs (Some t) i) f) c.in_err-typed.ensures in
+    (λ rs xs. SomeRefused (rule.value_behind a.places.now.decisions rs xs (Some t) i) f) c.in_err-typed.ensures in
     let r : Refused (rule.declaration k c.args.declaration.now) f = law.in_initial k c.args.declaration.now is c.in-Object.constancy s i c.in-Object.is t typed one in
     search (rules, r)
 
@@ -60,14 +60,14 @@ returns c =
     let o : DeclaredObject = law.first_of k c.in-Object.constancy t in
     let l = label_of c.statement_label-label.result in
     let ds = declarations_view c.in-Some.typed in
-    let typed : indicated (inner k is) k.objects s ≡ Some t =
+    let typed : indicated k.places.decisions (inner k is) k.objects s ≡ Some t =
     move_inside a old is js c.in_ok-hidden.hidden c.in_ok-hidden.ensures names c.as_slice-objects.result.now c.as_slice-objects.ensures.value
-    (λ rs xs. indicated rs xs s ≡ Some t) c.in_ok-subtype.ensures in
-    let declares : DeclaresAs (inner k is) k.objects l js o i (Some ds) =
+    (λ rs xs. indicated a.places.now.decisions rs xs s ≡ Some t) c.in_ok-subtype.ensures in
+    let declares : DeclaresAs k.places.decisions (inner k is) k.objects l js o i (Some ds) =
     move_inside a old is js c.in_ok-hidden.hidden c.in_ok-hidden.ensures names c.as_slice-objects.result.now c.as_slice-objects.ensures.value
-    (λ rs xs. DeclaresAs rs xs l js o i (Some ds))
-    (subst (λ x. DeclaresAs (c.in_ok-hidden.hidden ∷ visible_regions a old) c.as_slice-objects.result.now l js o i (option_map declarations_view x)) c.in-Some.is c.in_ok-typed.ensures) in
-    let some : DeclaresAs (inner k is) k.objects l is o i (Some ds) = subst (λ (xs : List Identifier). DeclaresAs (inner k is) k.objects l xs o i (Some ds)) names declares in
+    (λ rs xs. DeclaresAs a.places.now.decisions rs xs l js o i (Some ds))
+    (subst (λ x. DeclaresAs a.places.now.decisions (c.in_ok-hidden.hidden ∷ visible_regions a old) c.as_slice-objects.result.now l js o i (option_map declarations_view x)) c.in-Some.is c.in_ok-typed.ensures) in
+    let some : DeclaresAs k.places.decisions (inner k is) k.objects l is o i (Some ds) = subst (λ (xs : List Identifier). DeclaresAs k.places.decisions (inner k is) k.objects l xs o i (Some ds)) names declares in
     let locals : new.locals ≡ with_objects (length old.objects.items) is old.locals = c.in_ok-add_objects.ensures.locals
     ∙ ap (λ (xs : List Identifier). with_objects (length old.objects.items) xs old.locals) names in
     let objects : new.objects.items ≡ old.objects.items ++ objects_from is o = c.in_ok-add_objects.ensures.objects
@@ -79,8 +79,8 @@ returns c =
       grown = law.declared_grown old new d.kind is c.in-Object.constancy s i (objects_from is o) c.in-Object.is locals objects next;
     }
 
-pub returns-in_default-2 : goal.returns-in_default-2
-returns-in_default-2 c =
+pub returns-in_default-typed : goal.returns-in_default-typed
+returns-in_default-typed c =
     let a = c.args.around.now in
     let old = c.args.declared.now in
     let k : Context = context a old in
@@ -93,15 +93,15 @@ returns-in_default-2 c =
     let t = c.in_ok-subtype.subtype in
     let o : DeclaredObject = law.first_of k c.in-Object.constancy t in
     let l = label_of c.statement_label-label.result in
-    let typed : indicated (inner k is) k.objects s ≡ Some t =
+    let typed : indicated k.places.decisions (inner k is) k.objects s ≡ Some t =
     move_inside a old is js c.in_ok-hidden.hidden c.in_ok-hidden.ensures names c.as_slice-objects.result.now c.as_slice-objects.ensures.value
-    (λ rs xs. indicated rs xs s ≡ Some t) c.in_ok-subtype.ensures in
-    let declares : DeclaresAs (inner k is) k.objects l js o i None =
+    (λ rs xs. indicated a.places.now.decisions rs xs s ≡ Some t) c.in_ok-subtype.ensures in
+    let declares : DeclaresAs k.places.decisions (inner k is) k.objects l js o i None =
     move_inside a old is js c.in_ok-hidden.hidden c.in_ok-hidden.ensures names c.as_slice-objects.result.now c.as_slice-objects.ensures.value
-    (λ rs xs. DeclaresAs rs xs l js o i None)
-    (subst (λ x. DeclaresAs (c.in_ok-hidden.hidden ∷ visible_regions a old) c.as_slice-objects.result.now l js o i (option_map declarations_view x)) c.in_default-2.is c.in_ok-typed.ensures) in
-    let none : DeclaresAs (inner k is) k.objects l is o i None = subst (λ (xs : List Identifier). DeclaresAs (inner k is) k.objects l xs o i None) names declares in
-    law.not_declared k d is c.in-Object.constancy s i c.in-Object.is t typed l c.statement_label-label.ensures none.parts none.same c.mistyped-in_default-2.ensures
+    (λ rs xs. DeclaresAs a.places.now.decisions rs xs l js o i None)
+    (subst (λ x. DeclaresAs a.places.now.decisions (c.in_ok-hidden.hidden ∷ visible_regions a old) c.as_slice-objects.result.now l js o i (option_map declarations_view x)) c.in_default-typed.is c.in_ok-typed.ensures) in
+    let none : DeclaresAs k.places.decisions (inner k is) k.objects l is o i None = subst (λ (xs : List Identifier). DeclaresAs k.places.decisions (inner k is) k.objects l xs o i None) names declares in
+    law.not_declared k d is c.in-Object.constancy s i c.in-Object.is t typed l c.statement_label-label.ensures none.parts none.same c.mistyped-in_default-typed.ensures
 
 pub returns-in_default : goal.returns-in_default
 returns-in_default c = law.other_declaration (context c.args.around.now c.args.declared.now) c.args.declaration.now c.in_default.not-Object c.mistyped.ensures

@@ -1,6 +1,7 @@
 use Rattle.gnatcov.proofs.ClauseLaws.{usage_law, done_law, files_law, others_law, line_law, rose_law, read_fault_law, write_fault_law}
 use Rattle.gnatcov.proofs.CompleteLaws.{compile_law, run_law, trap_law, coverage_law}
 use Rattle.gnatcov.proofs.HeadlineLaws.{headline_law}
+use Rattle.gnatcov.proofs.PairLaws.{pairs_law}
 use Rattle.gnatcov.proofs.RunsLaw.{runs_law}
 use Rattle.gnatcov.proofs.top_call.gnatcov.Goals as goal
 
@@ -33,6 +34,9 @@ returns-clause-runs g c = runs_law _ _ _ c.answer.ensures
 
 pub returns-clause-source : goal.returns-clause-source
 returns-clause-source g c = headline_law _ _ _ c.answer.ensures
+
+pub returns-clause-pairs : goal.returns-clause-pairs
+returns-clause-pairs g c = pairs_law _ _ _
 
 pub returns-clause-compiles : goal.returns-clause-compiles
 returns-clause-compiles g c = compile_law _ _ _ c.answer.ensures

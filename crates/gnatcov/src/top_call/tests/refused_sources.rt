@@ -147,6 +147,53 @@ fn a_program_has_4096_nodes_at_most(rt: HostRuntime) -> Result<(), Fail> {
     Ok(())
 }
 
+/// A procedure with a decision of one condition and so many more, and this statement behind it.
+fn decision(alloc: Global, more: usize, behind: &str) -> Result<String, AllocError> {
+    let others = " and then A".repeat(alloc, more)?;
+    format!(in alloc;
+        "procedure P1 is\n   A : Boolean;\nbegin\n   A := A{others};\n   {behind}\nend P1;\n"
+    )
+}
+
+/// Whether a decision of 33 conditions is refused here, where this statement stands behind it.
+fn is_refused_with(alloc: Global, behind: &str, refused: &Refused) -> Result<bool, Fail> {
+    let mut files = sources(alloc)?;
+    files.write("p1.adb", decision(alloc, 32, behind)?.as_bytes())?;
+    let status = Status::SourceRefused {
+        file: 0,
+        line: refused.line,
+        col: refused.col,
+        why: refused.why,
+    };
+    Ok(holds(alloc, &files, &quiet(COMPILE, status, refused.put))?)
+}
+
+const TOO_MANY_CONDITIONS: Refused = Refused {
+    text: "",
+    line: 4,
+    col: 9,
+    why: Why::Limit,
+    put: "gnatcov: p1.adb:4:9: limit\n",
+};
+
+const MISTYPED_BEHIND: Refused = Refused {
+    text: "",
+    line: 5,
+    col: 4,
+    why: Why::Typing,
+    put: "gnatcov: p1.adb:5:4: typing\n",
+};
+
+#[test]
+fn a_decision_has_32_conditions_at_most(rt: HostRuntime) -> Result<(), Fail> {
+    let alloc = rt.alloc();
+    let most = put_for(alloc, decision(alloc, 31, "null;")?.as_str())?;
+    assert!(rt; most.starts_with("obligations: 2 statements, 1 decisions, 32 conditions\n"));
+    assert!(rt; is_refused_with(alloc, "null;", &TOO_MANY_CONDITIONS)?);
+    assert!(rt; is_refused_with(alloc, "A := 1;", &MISTYPED_BEHIND)?);
+    Ok(())
+}
+
 #[test]
 fn a_source_has_1048576_bytes_at_most(rt: HostRuntime) -> Result<(), Fail> {
     let alloc = rt.alloc();

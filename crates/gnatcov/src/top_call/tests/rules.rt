@@ -104,7 +104,7 @@ static DECLARED: [Rule; 12] = [
 ];
 
 /// Rules that are broken in statements, in line 5, over a variable and a constant.
-static STATED: [Rule; 54] = [
+static STATED: [Rule; 55] = [
     // A name denotes what is declared, in any case, and each name once (RM 8.3).
     Rule {
         kept: "x := C;",
@@ -331,17 +331,23 @@ static STATED: [Rule; 54] = [
         col: 10,
         why: Why::Typing,
     },
-    // The short-circuit forms come later.
+    // The short-circuit forms join Booleans, and one chain has one of them (RM 4.4, 4.5.1).
     Rule {
-        kept: "if B then null; end if;",
-        broken: "if B and then B then null; end if;",
-        col: 13,
-        why: Why::Syntax,
+        kept: "if B and then B then null; end if;",
+        broken: "if B and then X then null; end if;",
+        col: 7,
+        why: Why::Typing,
     },
     Rule {
-        kept: "if not B then null; end if;",
-        broken: "if B or else B then null; end if;",
-        col: 12,
+        kept: "B := (B or else B) = B;",
+        broken: "B := (B or else X) = B;",
+        col: 10,
+        why: Why::Typing,
+    },
+    Rule {
+        kept: "B := B or else (B and then B);",
+        broken: "B := B or else B and then B;",
+        col: 21,
         why: Why::Syntax,
     },
     // Conditions are Boolean (RM 5.3, 5.5, 5.7), and their names are visible.

@@ -1,31 +1,113 @@
-use Rattle.std.proofs.Common.{sym, ap, ◌∙◌, arith}
-use Rattle.ada_meaning.specs.Collected.{in_expr}
+use Rattle.std.proofs.Common.{[], ◌∷◌, rules, sym, ap, ◌∙◌, arith}
+use Rattle.ada_meaning.specs.Collected.{in_expr, in_test}
 use Rattle.ada_tree.specs.declared.expr.Operand.{Operand}
-use Rattle.ada_tree.specs.Sizes.{expr_size}
-use Rattle.ada_tree.specs.View.{expr_at}
-use Rattle.obligations.specs.Operands.{in_operands}
-use Rattle.obligations.proofs.Chains.{neither, in_chain, operands_size, chain_size, operand_within, expr_positive}
+use Rattle.ada_tree.specs.Sizes.{expr_size, test_size}
+use Rattle.ada_tree.specs.View.{label_of, neutral_of, expr_at, test_at}
+use Rattle.obligations.specs.Entries.{the_decision, of_nested}
+use Rattle.obligations.specs.Operands.{in_operands, in_tests}
+use Rattle.obligations.proofs.Chains.{in_chain, in_forms, operands_size, chain_size, operand_within, expr_positive, tests_size, forms_size, test_within, test_positive}
+use Rattle.obligations.proofs.Lists.{then_added, same_added, one_more, none_left, nothing_listed, nothing_added, nested_parts}
 use Rattle.obligations.proofs.nested.+nested.Goals as goal
 
-pub none_in_expression-none_in_operands-requires : goal.none_in_expression-none_in_operands-requires
-none_in_expression-none_in_operands-requires t c =
+pub add_labelled-returns : goal.add_labelled-returns
+add_labelled-returns t c = λ standing letter.
+    let n = c.args.statement in
+    let test = c.args.test.now in
+    let own = the_decision standing n (label_of c.args.label) test ∷ [] in
+    same_added c.add_in_test.result _ _ _ _ (nested_parts own (in_test n test))
+    (then_added c.add_in_test.result _ _ _ (of_nested own) (of_nested (in_test n test)) (c.in_ok-add_decision.ensures standing letter) c.add_in_test.ensures)
+
+pub add_in_test-add_in_tests-requires : goal.add_in_test-add_in_tests-requires
+add_in_test-add_in_tests-requires t c =
+    let first = c.in-ShortCircuit.first.value in
+    let others = c.in-ShortCircuit.others.items in
+    let is = ap test_size (sym c.test.view_is ∙ ap test_at c.in-ShortCircuit.is) in (
+      omega (
+        arith,
+        c.decreases,
+        is,
+        forms_size (neutral_of c.in-ShortCircuit.field-0) first others,
+        test_positive first,
+        ap
+            tests_size c.deref-in-ShortCircuit-2.ensures.value,
+      ),
+      tt,
+    )
+
+pub add_in_test-returns-in_ok-add_in_test-in-ShortCircuit : goal.add_in_test-returns-in_ok-add_in_test-in-ShortCircuit
+add_in_test-returns-in_ok-add_in_test-in-ShortCircuit t c =
+    let n = c.args.statement in
+    let first = c.in-ShortCircuit.first.value in
+    let others = c.in-ShortCircuit.others.items in
+    rw (← c.test.view_is, c.in-ShortCircuit.is)
+    (same_added c.add_in_tests.result _ _ _ _
+    (nested_parts (in_test n first) (in_tests n others) ∙ ap of_nested (sym (in_forms n (neutral_of c.in-ShortCircuit.field-0) first others)))
+    (then_added c.add_in_tests.result _ _ _ (of_nested (in_test n first)) (of_nested (in_tests n others))
+    (rw c.deref-in-ShortCircuit.ensures at c.in_ok-add_in_test-in-ShortCircuit.ensures) (rw c.deref-in-ShortCircuit-2.ensures.value at c.add_in_tests.ensures)))
+
+pub add_in_tests-add_in_test-requires : goal.add_in_tests-add_in_test-requires
+add_in_tests-add_in_test-requires t c = (
+  omega (
+    arith,
+    c.decreases,
+    test_within c.args.tests.now c.loop-test.test-index c.test-item.result (omega arith),
+    ap
+        test_size c.test-item.is,
+  ),
+  tt,
+)
+
+pub add_in_tests-loop-test-preserved : goal.add_in_tests-loop-test-preserved
+add_in_tests-loop-test-preserved t c =
+    let u = c.test-item.result in
+    let n = c.args.statement in
+    one_more (λ us. of_nested (in_tests n us)) (λ u. of_nested (in_test n u)) (λ u us. sym (nested_parts (in_test n u) (in_tests n us)))
+    c.args.tests.now c.loop-test.test-index u u _ _ c.loop-test-test.true c.test-item.is c.in_ok-add_in_test.ensures
+    ∙ c.loop-test.invariant
+
+pub add_in_tests-returns : goal.add_in_tests-returns
+add_in_tests-returns t c =
+    none_left (λ us. of_nested (in_tests c.args.statement us)) nothing_listed
+    c.args.tests.now c.loop-test.test-index _ _ (omega (arith, c.loop-test-test.false)) c.loop-test.invariant
+
+pub add_in_expression-add_in_operands-requires : goal.add_in_expression-add_in_operands-requires
+add_in_expression-add_in_operands-requires t c =
     let first = c.in-Operations.first.value in
     let others = c.in-Operations.others.items in
     let is = ap expr_size (sym c.expr.view_is ∙ ap expr_at c.in-Operations.is) in
     (omega (arith, c.decreases, is, chain_size first others, expr_positive first, ap operands_size c.deref-in-Operations-2.ensures.value), tt)
 
-pub none_in_expression-returns-in-Operations : goal.none_in_expression-returns-in-Operations
-none_in_expression-returns-in-Operations t c = λ n.
+pub add_in_expression-returns-in_ok-add_in_expression-in-Relation : goal.add_in_expression-returns-in_ok-add_in_expression-in-Relation
+add_in_expression-returns-in_ok-add_in_expression-in-Relation t c =
+    let n = c.args.statement in
+    let left = c.in-Relation.left.value in
+    let right = c.in-Relation.right.value in
+    rw (← c.expr.view_is, c.in-Relation.is)
+    (same_added c.add_in_expression-in-Relation.result _ _ _ _ (nested_parts (in_expr n left) (in_expr n right))
+    (then_added c.add_in_expression-in-Relation.result _ _ _ (of_nested (in_expr n left)) (of_nested (in_expr n right))
+    (rw c.deref.ensures at c.in_ok-add_in_expression-in-Relation.ensures) (rw c.deref-in-Relation.ensures at c.add_in_expression-in-Relation.ensures)))
+
+pub add_in_expression-returns-in_ok-add_in_expression-in-Operations : goal.add_in_expression-returns-in_ok-add_in_expression-in-Operations
+add_in_expression-returns-in_ok-add_in_expression-in-Operations t c =
+    let n = c.args.statement in
     let first = c.in-Operations.first.value in
     let others = c.in-Operations.others.items in
     rw (← c.expr.view_is, c.in-Operations.is)
-    (in_chain n first others
-    ∙ neither (in_expr n first) (in_operands n others)
-    (rw c.deref-in-Operations.ensures at c.none_in_expression-in-Operations.ensures n)
-    (rw c.deref-in-Operations-2.ensures.value at c.none_in_operands.ensures n))
+    (same_added c.add_in_operands.result _ _ _ _ (nested_parts (in_expr n first) (in_operands n others) ∙ ap of_nested (sym (in_chain n first others)))
+    (then_added c.add_in_operands.result _ _ _ (of_nested (in_expr n first)) (of_nested (in_operands n others))
+    (rw c.deref-in-Operations.ensures at c.in_ok-add_in_expression-in-Operations.ensures) (rw c.deref-in-Operations-2.ensures.value at c.add_in_operands.ensures)))
 
-pub none_in_operands-none_in_expression-requires : goal.none_in_operands-none_in_expression-requires
-none_in_operands-none_in_expression-requires t c = (
+pub add_in_expression-returns-in-Literal : goal.add_in_expression-returns-in-Literal
+add_in_expression-returns-in-Literal t c = nothing_added c.args.listing.now (in_expr c.args.statement c.args.expr.now) (search rules)
+
+pub add_in_expression-returns-in-Literal-2 : goal.add_in_expression-returns-in-Literal-2
+add_in_expression-returns-in-Literal-2 t c = nothing_added c.args.listing.now (in_expr c.args.statement c.args.expr.now) (search rules)
+
+pub add_in_expression-returns-in-Literal-3 : goal.add_in_expression-returns-in-Literal-3
+add_in_expression-returns-in-Literal-3 t c = nothing_added c.args.listing.now (in_expr c.args.statement c.args.expr.now) (search rules)
+
+pub add_in_operands-add_in_expression-requires : goal.add_in_operands-add_in_expression-requires
+add_in_operands-add_in_expression-requires t c = (
   omega (
     arith,
     c.decreases,
@@ -35,3 +117,16 @@ none_in_operands-none_in_expression-requires t c = (
   ),
   tt,
 )
+
+pub add_in_operands-loop-operand-preserved : goal.add_in_operands-loop-operand-preserved
+add_in_operands-loop-operand-preserved t c =
+    let o = c.operand-item.result in
+    let n = c.args.statement in
+    one_more (λ os. of_nested (in_operands n os)) (λ (o : Operand). of_nested (in_expr n o.operand)) (λ o os. sym (nested_parts (in_expr n o.operand) (in_operands n os)))
+    c.args.operands.now c.loop-operand.operand-index o o _ _ c.loop-operand-test.true c.operand-item.is c.in_ok-add_in_expression.ensures
+    ∙ c.loop-operand.invariant
+
+pub add_in_operands-returns : goal.add_in_operands-returns
+add_in_operands-returns t c =
+    none_left (λ os. of_nested (in_operands c.args.statement os)) nothing_listed
+    c.args.operands.now c.loop-operand.operand-index _ _ (omega (arith, c.loop-operand-test.false)) c.loop-operand.invariant

@@ -1,9 +1,9 @@
 use Rattle.std.proofs.Common.{refl, sym, ap, ◌∙◌, arith}
-use Rattle.ada_meaning.specs.Collected.{after_if, after_while, after_exit}
+use Rattle.ada_meaning.specs.Collected.{after_if, after_while, after_exit, in_actuals, in_value}
 use Rattle.ada_tree.specs.Sizes.{stmt_size, stmts_size}
-use Rattle.ada_tree.specs.View.{label_of, statements_of, statement_at}
-use Rattle.obligations.specs.Entries.{of_label, of_decision, of_declarations, of_statement, of_statements, of_branch, of_branches}
-use Rattle.obligations.proofs.Lists.{then_added, three_added, same_added, one_more, none_left, nothing_listed, statements_front, loop_parts, while_parts, exit_parts, if_parts, block_parts}
+use Rattle.ada_tree.specs.View.{label_of, actuals_of, value_of, statements_of, statement_at}
+use Rattle.obligations.specs.Entries.{of_label, of_nested, of_decision, of_declarations, of_statement, of_statements, of_branch, of_branches}
+use Rattle.obligations.proofs.Lists.{then_added, three_added, same_added, one_more, none_left, nothing_listed, statements_front, held_parts, loop_parts, while_parts, exit_parts, if_parts, block_parts}
 use Rattle.obligations.proofs.Sizes.{statement_within, branch_within, else_behind, branch_size, all_branches_size}
 use Rattle.obligations.proofs.statements.+statements.Goals as goal
 
@@ -57,6 +57,23 @@ pub add_statement-add_statements-requires-in-While : goal.add_statement-add_stat
 add_statement-add_statements-requires-in-While t c =
     let is = ap stmt_size (sym c.statement.view_is ∙ ap statement_at c.in-While.is) in
     (omega (arith, c.decreases, is, ap (λ ss. stmts_size (statements_of ss)) c.as_slice-in-While.ensures.value), tt)
+
+pub add_statement-returns-in_ok-add_statement-in-Assignment : goal.add_statement-returns-in_ok-add_statement-in-Assignment
+add_statement-returns-in_ok-add_statement-in-Assignment t c =
+    let l = label_of c.in-Assignment.label in
+    let hs = in_value l.number (value_of c.in-Assignment.value) in
+    rw (← c.statement.view_is, c.in-Assignment.is)
+    (same_added c.add_in_value.result _ _ _ _ (held_parts l hs)
+    (then_added c.add_in_value.result _ _ _ (of_label l) (of_nested hs) c.in_ok-add_statement-in-Assignment.ensures c.add_in_value.ensures))
+
+pub add_statement-returns-in_ok-add_statement-in-Call : goal.add_statement-returns-in_ok-add_statement-in-Call
+add_statement-returns-in_ok-add_statement-in-Call t c =
+    let l = label_of c.in-Call.label in
+    let hs = in_actuals l.number (actuals_of c.in-Call.actuals) in
+    rw (← c.statement.view_is, c.in-Call.is)
+    (same_added c.add_in_actuals.result _ _ _ _ (held_parts l hs)
+    (then_added c.add_in_actuals.result _ _ _ (of_label l) (of_nested hs)
+    c.in_ok-add_statement-in-Call.ensures (rw c.as_slice.ensures at c.add_in_actuals.ensures)))
 
 pub add_statement-returns-in_ok-add_branches-in-If : goal.add_statement-returns-in_ok-add_branches-in-If
 add_statement-returns-in_ok-add_branches-in-If t c =

@@ -1,0 +1,10 @@
+//! The labels of obligations.
+
+use cov_base::Pos;
+
+/// The number of a statement obligation or of a decision, and the place of its first token.
+#[derive(Clone, Copy, Debug, PartialEq, Eq)]
+pub struct Label {
+    pub number: u32,
+    pub place: Pos,
+}
