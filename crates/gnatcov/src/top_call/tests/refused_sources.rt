@@ -179,9 +179,9 @@ const TOO_MANY_CONDITIONS: Refused = Refused {
 const MISTYPED_BEHIND: Refused = Refused {
     text: "",
     line: 5,
-    col: 4,
+    col: 9,
     why: Why::Typing,
-    put: "gnatcov: p1.adb:5:4: typing\n",
+    put: "gnatcov: p1.adb:5:9: typing\n",
 };
 
 #[test]
