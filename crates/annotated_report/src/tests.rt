@@ -36,3 +36,8 @@ fn reports_are_as_worked_out(rt: HostRuntime) -> Result<(), Fail> {
     }
     Ok(())
 }
+
+#[test]
+fn laws_are_called() {
+    crate::pairs_are_of_events();
+}
