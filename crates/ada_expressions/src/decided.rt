@@ -9,6 +9,7 @@ ghost use Rattle.ada_expressions.specs.ExpressionCode.{circuit_view, begun, leng
 
 use crate::judged::{Judged, signed_of};
 use crate::kind::{Kind, ScalarType, is_boolean};
+use crate::labels::inner_label_at;
 use ada_places::Ranks;
 use ada_syntax::{LogicalOperator, UnaryOperator};
 use ada_tree::{Expr, ExprKind, Label, ShortCircuit, Test, TestKind};
@@ -69,7 +70,7 @@ pub fn enclosed(places: &Ranks, pos: Pos, inner: Judged) -> Judged
     ensures { result ≡ spec.enclosed places.now pos inner }
 {
     Judged {
-        expr: relabelled(places.inner_label_at(pos), inner.expr),
+        expr: relabelled(inner_label_at(places, pos), inner.expr),
         kind: inner.kind,
         object: None,
     }
@@ -101,7 +102,7 @@ fn complement_of(
         return Ok(None);
     }
     Ok(Some(Judged {
-        expr: complemented(alloc, places.inner_label_at(pos), operand.expr)?,
+        expr: complemented(alloc, inner_label_at(places, pos), operand.expr)?,
         kind: operand.kind,
         object: None,
     }))

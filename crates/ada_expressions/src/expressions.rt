@@ -16,6 +16,7 @@ use crate::denoted::{Denoted, attribute_of, call_of, parameters_of, selected_of}
 use crate::fault::{TypeFault, mistyped};
 use crate::judged::{Chain, Judged, numeral_of, relation_between, value_of};
 use crate::kind::{DeclaredObject, Parameter};
+use crate::labels::label_at;
 use ada_names::Scope;
 use ada_places::{Ranks, condition_place};
 use ada_syntax::{Expr, ExprKind, LogicalOperator, Name, Operand, Suffix};
@@ -121,7 +122,7 @@ fn logical(
         };
         circuit = longer;
     }
-    Ok(circuit.judged(alloc, places.label_at(pos))?)
+    Ok(circuit.judged(alloc, label_at(places, pos))?)
 }
 
 /// The operands behind one that a logical operator doesn't take. The first token stands at this place.

@@ -9,7 +9,7 @@ use ada_syntax::{Constancy, Mode};
 use ada_tree::{Callee, Range};
 
 /// A scalar type. Types are distinct by declaration (RM 3.2.1).
-#[derive(Clone, Copy, Debug, PartialEq, Eq)]
+#[derive(Clone, Copy, PartialEq, Eq)]
 pub enum ScalarType {
     /// The predefined type Integer.
     Integer,
@@ -18,14 +18,14 @@ pub enum ScalarType {
 }
 
 /// A scalar subtype: its type, and its values (RM 3.2).
-#[derive(Clone, Copy, Debug, PartialEq, Eq)]
+#[derive(Clone, Copy)]
 pub struct ScalarSubtype {
     pub of: ScalarType,
     pub range: Range,
 }
 
 /// What an expression fits.
-#[derive(Clone, Copy, Debug, PartialEq, Eq)]
+#[derive(Clone, Copy, PartialEq, Eq)]
 pub enum Kind {
     /// Every integer type: it is of numerals and arithmetic alone (RM 3.4.1).
     Universal,
@@ -34,7 +34,7 @@ pub enum Kind {
 }
 
 /// An object that is declared in a subprogram (RM 3.3.1).
-#[derive(Clone, Copy, Debug, PartialEq, Eq)]
+#[derive(Clone, Copy)]
 pub struct DeclaredObject {
     /// Its number among those of the subprogram, with those of its blocks.
     pub number: u32,
@@ -43,7 +43,7 @@ pub struct DeclaredObject {
 }
 
 /// A parameter of what is called (RM 6.1).
-#[derive(Clone, Copy, Debug, PartialEq, Eq)]
+#[derive(Clone, Copy)]
 pub struct Parameter {
     pub mode: Mode,
     pub subtype: ScalarSubtype,

@@ -18,8 +18,7 @@ pub mod expressions;
 mod fault;
 mod judged;
 mod kind;
-#[cfg(test)]
-mod tests;
+pub mod labels;
 
 pub use denoted::Denoted;
 pub use fault::{TypeFault, mistyped};

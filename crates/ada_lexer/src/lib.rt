@@ -8,8 +8,6 @@
 mod cut;
 mod lexer;
 mod nesting;
-#[cfg(test)]
-mod tests;
 mod token;
 mod word;
 

@@ -1,5 +1,5 @@
 -- Actions that add no event and hang on no fuel: setting, copying, checks, and choices.
-use Rattle.std.proofs.Common.{ℕ, zero, suc, ℤ, pos, ◌+ℤ◌, false, List, [], ◌∷◌, drop, Option, Some, None, ◌&&◌, ◌||◌, int_eq}
+use Rattle.std.proofs.Common.{ℕ, zero, suc, ℤ, pos, ◌+ℤ◌, true, false, List, [], ◌∷◌, drop, Option, Some, None, ◌&&◌, ◌||◌, int_eq}
 use Rattle.ada_meaning.specs.Tree.{Choice, ExceptionChoice}
 use Rattle.ada_meaning.specs.Program.{Bounds, Mode, in_mode, out_mode, in_out_mode, Program}
 use Rattle.ada_meaning.specs.Arithmetic.{base_range, is_within, divides, exact}
@@ -119,9 +119,9 @@ raised_again_quiet (Some e) = raise_quiet e
 pub chooses_quiet : (p : Program) (calls : Calls) (fuel inst : ℕ) (cs : List Choice) (x : ℤ) → Quiet (chooses p calls fuel inst cs x)
 chooses_quiet p calls fuel inst [] x = give_quiet false
 chooses_quiet p calls fuel inst (c ∷ cs) x =
-    then_quiet tick_quiet (bind_quiet (chooses_quiet p calls fuel inst cs x) (λ b. give_quiet (is_chosen p calls fuel inst c x || b)))
+    then_quiet tick_quiet (if_quiet (is_chosen p calls fuel inst c x) (give_quiet true) (chooses_quiet p calls fuel inst cs x))
 
 pub catches_quiet : (p : Program) (calls : Calls) (fuel inst : ℕ) (cs : List ExceptionChoice) (e : ℕ) → Quiet (catches p calls fuel inst cs e)
 catches_quiet p calls fuel inst [] e = give_quiet false
 catches_quiet p calls fuel inst (c ∷ cs) e =
-    then_quiet tick_quiet (bind_quiet (catches_quiet p calls fuel inst cs e) (λ b. give_quiet (is_caught p calls fuel inst c e || b)))
+    then_quiet tick_quiet (if_quiet (is_caught p calls fuel inst c e) (give_quiet true) (catches_quiet p calls fuel inst cs e))

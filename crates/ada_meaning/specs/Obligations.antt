@@ -1,5 +1,6 @@
 -- The obligations of a program, and the numbers by which its trees name them.
 use Rattle.std.specs.Prelude.{◌≡◌, ℕ, zero, suc, nat_eq, nat_lt, Bool, not, ◌&&◌, ◌||◌, List, [], ◌∷◌, ◌++◌, codes, map, length, Option, Some, None, if◌then◌else◌}
+use Rattle.cov_base.specs.TextOrder.{precedes}
 use Rattle.cov_base.specs.declared.position.Pos.{Pos}
 use Rattle.cov_base.specs.declared.obligations.StmtEntry.{StmtEntry}
 use Rattle.cov_base.specs.declared.obligations.DecEntry.{DecEntry}
@@ -13,12 +14,6 @@ use Rattle.ada_meaning.specs.Tree.{Label, shape_of}
 use Rattle.ada_meaning.specs.Program.{FormalActual, actual_object, actual_type, actual_subprogram, Instance, ExceptionDeclaration, Raisable, Program}
 use Rattle.ada_meaning.specs.Resolved.{number_in, bounds_in}
 use Rattle.ada_meaning.specs.Collected.{Standing, after_if, after_while, after_exit, elsewhere, Decision, condition_places, labels_of, decisions_of}
-
--- whether a place comes before another: by file, line and column
-abbrev pub precedes : Pos → Pos → Bool
-precedes a b =
-    nat_lt a.file b.file
-    || nat_eq a.file b.file && (nat_lt a.line b.line || nat_eq a.line b.line && nat_lt a.col b.col)
 
 -- an item among items in order: before the first that doesn't come before it
 abbrev pub inserted : {X : Type 0} → (X → X → Bool) → X → List X → List X

@@ -1,5 +1,5 @@
 -- The execution of declarations and statements.
-use Rattle.std.specs.Prelude.{ℕ, zero, suc, nat_eq, ℤ, pos, negsuc, ◌+ℤ◌, Bool, true, false, ◌||◌, List, [], ◌∷◌, Option, Some, None, if◌then◌else◌}
+use Rattle.std.specs.Prelude.{ℕ, zero, suc, nat_eq, ℤ, pos, negsuc, ◌+ℤ◌, Bool, true, false, List, [], ◌∷◌, Option, Some, None, if◌then◌else◌}
 use Rattle.std.specs.Ordering.{int_eq}
 use Rattle.cov_base.specs.declared.event.Event.TheVariants.{Start}
 use Rattle.ada_meaning.specs.Tree.{Label, NewValue, scalar_value, composite_value, others_value, Choice, value_choice, range_choice, other_values, ExceptionChoice, named_exception, other_exceptions, LoopRange, over_subtype, over_bounds, Declaration, initialized, without_value, Stmt, null_statement, assignment, procedure_call, if_statement, case_statement, bare_loop, while_loop, for_loop, exit_statement, exit_when, return_statement, return_value, raise_statement, raise_again, block_statement, Stmts, no_statement, and_statement, Branches, else_part, branch, Alternatives, no_alternative, alternative, Handlers, no_handler, handler, Block, block}
@@ -101,26 +101,20 @@ module _ (p : Program) (calls : Calls) (fuel : ℕ) (inst : ℕ) where
   is_chosen (range_choice e f) x = is_within (record { low = number_in p inst e; high = number_in p inst f }) x
   is_chosen other_values x = true
 
-  -- looks at each choice of an alternative, in order: whether one of them has the value
+  -- looks at the choices of an alternative, in order, up to the first that has the value: whether there is one
   abbrev pub chooses : List Choice → ℤ → Action Bool
   chooses [] x = give false
-  chooses (c ∷ cs) x = do
-    tick
-    b ← chooses cs x
-    give (is_chosen c x || b)
+  chooses (c ∷ cs) x = tick >> (if is_chosen c x then give true else chooses cs x)
 
   -- whether an exception is that of a choice (RM 11.4)
   abbrev pub is_caught : ExceptionChoice → ℕ → Bool
   is_caught (named_exception x) e = nat_eq e (exception_in p inst x)
   is_caught other_exceptions e = true
 
-  -- looks at each choice of a handler, in order: whether one of them has the exception
+  -- looks at the choices of a handler, in order, up to the first that has the exception: whether there is one
   abbrev pub catches : List ExceptionChoice → ℕ → Action Bool
   catches [] e = give false
-  catches (c ∷ cs) e = do
-    tick
-    b ← catches cs e
-    give (is_caught c e || b)
+  catches (c ∷ cs) e = tick >> (if is_caught c e then give true else catches cs e)
 
   -- the bounds of a for loop, low before high
   abbrev pub turns_of : LoopRange → Action Bounds

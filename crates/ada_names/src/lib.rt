@@ -12,8 +12,6 @@
 //! what is visible where.
 #![tactic(auto)]
 
-#[cfg(test)]
-mod block_tests;
 mod declarations;
 mod entity;
 mod expressions;
@@ -25,8 +23,6 @@ mod objects;
 mod region;
 mod scope;
 mod statements;
-#[cfg(test)]
-mod tests;
 mod units;
 
 pub use entity::Entity;

@@ -19,8 +19,8 @@ use Rattle.expression_parser.specs.ExpressionReading as read
 use Rattle.declaration_parser.specs.NodeTokens.{node_tokens}
 use Rattle.declaration_parser.specs.Specifications.{specified, no_parameters, a_procedure}
 use Rattle.declaration_parser.specs.Declarations.{no_declarations}
-use Rattle.statement_parser.specs.Words.{word, name}
-use Rattle.statement_parser.specs.Statements.{a_null, one_statement, a_sequence, no_handlers}
+use Rattle.ada_parser.specs.Words.{word, name}
+use Rattle.ada_parser.specs.Statements.{a_null, one_statement, a_sequence, no_handlers}
 use Rattle.ada_parser.specs.Grammar.{IsFile, bodied, no_withs, an_end_name, an_end, a_body, a_subprogram, a_unit, one_unit}
 
 abbrev at_column : Lexeme → ℕ → Token

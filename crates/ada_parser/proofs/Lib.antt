@@ -1,3 +1,17 @@
+pub mod Below
+pub mod StatementLengths
+pub mod StatementLocal
+pub mod Sound
+pub mod StatementSound
+pub mod Complete
+pub mod StatementComplete
+pub mod Steps
+pub mod SimpleCode
+pub mod StatementNodes
+pub mod ArmCode
+pub mod CompoundCode
+pub mod StatementCode
+pub mod Suffixes
 pub mod UnitLocal
 pub mod UnitSound
 pub mod UnitComplete

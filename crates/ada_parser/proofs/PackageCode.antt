@@ -34,9 +34,9 @@ use Rattle.expression_parser.proofs.NameCode.{after_some, after_none}
 use Rattle.declaration_parser.specs.Identifiers.{identifiers_by}
 use Rattle.declaration_parser.specs.DeclarationReading.{specification_by, begins_declaration, declaration_by, declarations_by}
 use Rattle.declaration_parser.specs.FormalReading.{formals_by}
-use Rattle.statement_parser.specs.StatementReading.{pushed}
-use Rattle.statement_parser.specs.StatementDepth.{at_handled}
-use Rattle.statement_parser.proofs.Steps.{both, first_fails, word_then, no_word, done, takes, looks, leaves, refuses, turns, list_step, list_step_fail, list_end}
+use Rattle.ada_parser.specs.StatementReading.{pushed}
+use Rattle.ada_parser.specs.StatementDepth.{at_handled}
+use Rattle.ada_parser.proofs.Steps.{both, first_fails, word_then, no_word, done, takes, looks, leaves, refuses, turns, list_step, list_step_fail, list_end}
 use Rattle.ada_parser.specs.Grammar.{bodied, packaged, package_bodied, instanced}
 use Rattle.ada_parser.specs.UnitReading as read
 use Rattle.ada_parser.specs.UnitDepth as at

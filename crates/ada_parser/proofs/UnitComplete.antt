@@ -40,15 +40,15 @@ use Rattle.declaration_parser.specs.FormalReading.{formals_by, begins_formal}
 use Rattle.declaration_parser.proofs.IdentifierLaws.{identifiers_shorter, identifiers_complete}
 use Rattle.declaration_parser.proofs.DeclarationComplete.{specification_shorter, declaration_shorter, declarations_shorter, specification_complete, declaration_complete, declaration_first}
 use Rattle.declaration_parser.proofs.FormalLaws.{formals_shorter, formals_complete}
-use Rattle.statement_parser.specs.Words.{Word, word, Named, name}
-use Rattle.statement_parser.specs.Lists.{listed_turn}
-use Rattle.statement_parser.specs.Statements.{IsHandled}
-use Rattle.statement_parser.specs.StatementReading.{pushed}
-use Rattle.statement_parser.specs.StatementDepth.{at_handled}
-use Rattle.statement_parser.proofs.Below.{complete_below}
-use Rattle.statement_parser.proofs.Complete.{got_word, ends_word, next_word, list_take, list_leave, not_first}
-use Rattle.statement_parser.proofs.StatementLengths.{word_shorter, identifier_shorter, handled_takes}
-use Rattle.statement_parser.proofs.StatementComplete.{at_handled_complete}
+use Rattle.ada_parser.specs.Words.{Word, word, Named, name}
+use Rattle.ada_parser.specs.Lists.{listed_turn}
+use Rattle.ada_parser.specs.Statements.{IsHandled}
+use Rattle.ada_parser.specs.StatementReading.{pushed}
+use Rattle.ada_parser.specs.StatementDepth.{at_handled}
+use Rattle.ada_parser.proofs.Below.{complete_below}
+use Rattle.ada_parser.proofs.Complete.{got_word, ends_word, next_word, list_take, list_leave, not_first}
+use Rattle.ada_parser.proofs.StatementLengths.{word_shorter, identifier_shorter, handled_takes}
+use Rattle.ada_parser.proofs.StatementComplete.{at_handled_complete}
 use Rattle.ada_parser.specs.Grammar.{IsWith, a_with, AreWiths, no_withs, more_withs, IsEndName, no_end_name, an_end_name, IsEnd, an_end, bodied, IsBody, a_body, IsPackageItem, a_declaration, a_specification, ArePackageItems, no_package_items, more_package_items, IsBodyItem, declared_in_body, a_body_in_body, AreBodyItems, no_body_items, more_body_items, HasActuals, no_actuals, some_actuals, packaged, package_bodied, instanced, IsPackageRest, a_package_rest, IsItem, a_generic, a_package, a_package_body, an_instance, a_subprogram, IsUnit, a_unit, AreUnits, one_unit, more_units, IsFile}
 use Rattle.ada_parser.specs.UnitReading as read
 

@@ -29,9 +29,9 @@ use Rattle.declaration_parser.specs.FormalReading.{formals_by}
 use Rattle.declaration_parser.proofs.IdentifierLaws.{identifiers_local}
 use Rattle.declaration_parser.proofs.DeclarationLocal.{specification_local, declaration_local, declarations_local}
 use Rattle.declaration_parser.proofs.FormalLaws.{formals_local}
-use Rattle.statement_parser.specs.StatementReading.{pushed}
-use Rattle.statement_parser.specs.StatementDepth.{at_handled}
-use Rattle.statement_parser.proofs.StatementLocal.{at_handled_local, list_local}
+use Rattle.ada_parser.specs.StatementReading.{pushed}
+use Rattle.ada_parser.specs.StatementDepth.{at_handled}
+use Rattle.ada_parser.proofs.StatementLocal.{at_handled_local, list_local}
 use Rattle.ada_parser.specs.Grammar.{bodied, packaged, package_bodied, instanced}
 use Rattle.ada_parser.specs.UnitReading as read
 

@@ -17,7 +17,7 @@ use Rattle.expression_parser.specs.Reading.{Tokens}
 use Rattle.declaration_parser.specs.NodeTokens.{node_tokens}
 use Rattle.declaration_parser.proofs.ExpressionNodes.{exprs_nodes_of}
 use Rattle.declaration_parser.proofs.NodeLaws.{identifiers_nodes_of, specification_nodes_of, declaration_nodes_of, declarations_nodes_of, formals_nodes_of}
-use Rattle.statement_parser.proofs.StatementNodes.{word_nodes, named_nodes, handled_nodes_of}
+use Rattle.ada_parser.proofs.StatementNodes.{word_nodes, named_nodes, handled_nodes_of}
 use Rattle.ada_parser.specs.Grammar.{IsWith, a_with, AreWiths, no_withs, more_withs, IsEndName, no_end_name, an_end_name, IsEnd, an_end, bodied, IsBody, a_body, IsPackageItem, a_declaration, a_specification, ArePackageItems, no_package_items, more_package_items, IsBodyItem, declared_in_body, a_body_in_body, AreBodyItems, no_body_items, more_body_items, HasActuals, no_actuals, some_actuals, packaged, package_bodied, instanced, IsPackageRest, a_package_rest, IsItem, a_generic, a_package, a_package_body, an_instance, a_subprogram, IsUnit, a_unit, AreUnits, one_unit, more_units}
 
 exprs_are : (es : List Expr) → exprs_nodes (exprs_of es) ≡ sum_by expr_nodes es

@@ -36,12 +36,12 @@ use Rattle.declaration_parser.specs.FormalReading.{formals_by}
 use Rattle.declaration_parser.proofs.IdentifierLaws.{identifiers_sound}
 use Rattle.declaration_parser.proofs.DeclarationSound.{specification_sound, declaration_sound, declarations_sound}
 use Rattle.declaration_parser.proofs.FormalLaws.{formals_sound}
-use Rattle.statement_parser.specs.Words.{Word, word, Named, name}
-use Rattle.statement_parser.specs.Statements.{IsHandled}
-use Rattle.statement_parser.specs.StatementReading.{pushed}
-use Rattle.statement_parser.specs.StatementDepth.{at_handled}
-use Rattle.statement_parser.proofs.Sound.{Sound, and_then, behind_word, behind_identifier, by_token, rest_by_token, list_sound}
-use Rattle.statement_parser.proofs.StatementSound.{at_handled_sound}
+use Rattle.ada_parser.specs.Words.{Word, word, Named, name}
+use Rattle.ada_parser.specs.Statements.{IsHandled}
+use Rattle.ada_parser.specs.StatementReading.{pushed}
+use Rattle.ada_parser.specs.StatementDepth.{at_handled}
+use Rattle.ada_parser.proofs.Sound.{Sound, and_then, behind_word, behind_identifier, by_token, rest_by_token, list_sound}
+use Rattle.ada_parser.proofs.StatementSound.{at_handled_sound}
 use Rattle.ada_parser.specs.Grammar.{IsWith, a_with, AreWiths, no_withs, more_withs, IsEndName, no_end_name, an_end_name, IsEnd, an_end, bodied, IsBody, a_body, IsPackageItem, a_declaration, a_specification, ArePackageItems, no_package_items, more_package_items, IsBodyItem, declared_in_body, a_body_in_body, AreBodyItems, no_body_items, more_body_items, HasActuals, no_actuals, some_actuals, packaged, package_bodied, instanced, IsPackageRest, a_package_rest, IsItem, a_generic, a_package, a_package_body, an_instance, a_subprogram, IsUnit, a_unit, AreUnits, one_unit, more_units}
 use Rattle.ada_parser.specs.UnitReading as read
 

@@ -12,9 +12,9 @@ use Rattle.declaration_parser.specs.Declarations.{IsDeclaration}
 use Rattle.declaration_parser.specs.DeclarationReading.{specification_by, declaration_by}
 use Rattle.declaration_parser.proofs.DeclarationLocal.{specification_local, declaration_local}
 use Rattle.declaration_parser.proofs.DeclarationComplete.{specification_complete, declaration_complete}
-use Rattle.statement_parser.specs.Words.{Word}
-use Rattle.statement_parser.proofs.Complete.{ends_word}
-use Rattle.statement_parser.proofs.Suffixes.{suffix_of}
+use Rattle.ada_parser.specs.Words.{Word}
+use Rattle.ada_parser.proofs.Complete.{ends_word}
+use Rattle.ada_parser.proofs.Suffixes.{suffix_of}
 use Rattle.ada_parser.specs.Grammar.{IsItem}
 use Rattle.ada_parser.specs.UnitReading as read
 use Rattle.ada_parser.proofs.UnitLocal.{item_local}

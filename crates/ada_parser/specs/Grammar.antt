@@ -27,8 +27,8 @@ use Rattle.declaration_parser.specs.Identifiers.{AreIdentifiers}
 use Rattle.declaration_parser.specs.Specifications.{IsSpecification}
 use Rattle.declaration_parser.specs.Declarations.{IsDeclaration, AreDeclarations}
 use Rattle.declaration_parser.specs.Formals.{AreFormals}
-use Rattle.statement_parser.specs.Words.{Word, Named}
-use Rattle.statement_parser.specs.Statements.{IsHandled}
+use Rattle.ada_parser.specs.Words.{Word, Named}
+use Rattle.ada_parser.specs.Statements.{IsHandled}
 
 -- WITH id {, id} ;
 pub data IsWith : WithClause → Tokens → Tokens → Type 0 where

@@ -26,9 +26,9 @@ use Rattle.expression_parser.specs.Depth.{at_exprs}
 use Rattle.declaration_parser.specs.Identifiers.{identifiers_by}
 use Rattle.declaration_parser.specs.DeclarationReading.{specification_by, begins_declaration, declaration_by, declarations_by}
 use Rattle.declaration_parser.specs.FormalReading.{formals_by}
-use Rattle.statement_parser.specs.Lists.{listed_turn}
-use Rattle.statement_parser.specs.StatementReading.{pushed}
-use Rattle.statement_parser.specs.StatementDepth.{at_handled}
+use Rattle.ada_parser.specs.Lists.{listed_turn}
+use Rattle.ada_parser.specs.StatementReading.{pushed}
+use Rattle.ada_parser.specs.StatementDepth.{at_handled}
 use Rattle.ada_parser.specs.Grammar.{bodied, packaged, package_bodied, instanced}
 
 -- behind WITH

@@ -6,12 +6,12 @@ ghost use Rattle.ada_parser.specs.UnitReading as read;
 ghost use Rattle.ada_parser.specs.UnitDepth as at;
 
 use crate::contexts::end;
+use crate::statements::handled_statements;
 use ada_lexer::Token;
 use ada_syntax::{Specification, SubprogramBody};
 use cov_base::Seq;
 use declaration_parser::{local_declarations, specification};
 use expression_parser::{Parsed, Parser, Symbol, word};
-use statement_parser::handled_statements;
 
 /// `{ldecl} BEGIN stmts [handlers] END [id] ;` behind a specification and `IS`
 #[tactic(auto, using(crate::proofs::BodyCode::body_rest_rules))]

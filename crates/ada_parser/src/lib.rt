@@ -1,20 +1,26 @@
-//! The parser: from the tokens of a file to the syntax trees of its library units.
+//! The parser: from the tokens of a file to the syntax trees of its library units, by way of statements
+//! (Ada RM 2012, 5, 6, 7, 10, 11, 12).
 //!
 //! The grammar stands in `specs/` as what token lists derive, a case for each production; it knows
 //! nothing of the parser. Productions open with an [`Extent`](expression_parser::Extent): [`parse`] is for
-//! the extent of straight-line programs, and [`parse_within`] for any.
+//! the extent of straight-line programs, and [`parse_within`] for any. The tokens are read with one of
+//! them in view; that this reading is the derivation is proved in `proofs/`, for every extent.
 //!
 //! The contract that the layers above use: [`parse`] answers the units that the tokens derive, or
 //! else, where they derive none, the place at which they are refused.
 #![tactic(auto)]
 
+mod arms;
 mod bodies;
+mod choices;
+mod compound;
 mod contexts;
 mod items;
 mod packages;
 mod refusal;
-#[cfg(test)]
-mod tests;
+mod simple;
+mod statements;
 mod units;
+mod words;
 
 pub use crate::refusal::{SyntaxFault, parse, parse_within};

@@ -7,7 +7,7 @@ use Rattle.std.proofs.lemmas.Bool.{false≢true}
 use Rattle.std.proofs.lemmas.Bool.Decides.{nat_tests}
 use Rattle.decision_meaning.specs.Pair.{Everywhere}
 use Rattle.cov_base.specs.declared.position.Pos.{Pos}
-use Rattle.ada_meaning.specs.Obligations.{precedes}
+use Rattle.cov_base.specs.TextOrder.{precedes}
 use Rattle.ada_places.specs.Order.{AreOrdered}
 
 -- the order, in words

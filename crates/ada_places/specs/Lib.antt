@@ -1,3 +1,4 @@
 pub mod Order
 pub mod Places
+pub mod Rising
 pub mod Seen

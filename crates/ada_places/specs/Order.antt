@@ -1,6 +1,6 @@
 -- Places in the order of the text.
 use Rattle.std.specs.Prelude.{◌≡◌, false, List, [], ◌∷◌}
-use Rattle.ada_meaning.specs.Obligations.{precedes}
+use Rattle.cov_base.specs.TextOrder.{precedes}
 use Rattle.cov_base.specs.declared.position.Pos.{Pos}
 use Rattle.decision_meaning.specs.Pair.{Everywhere}
 

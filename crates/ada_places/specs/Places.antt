@@ -17,7 +17,7 @@ use Rattle.ada_syntax.specs.declared.statement.LoopScheme.{LoopScheme}
 use Rattle.ada_syntax.specs.declared.statement.LoopScheme.TheVariants as scheme
 use Rattle.ada_syntax.specs.declared.unit.LibraryItem.{LibraryItem}
 use Rattle.ada_syntax.specs.declared.unit.Unit.{Unit as LibraryUnit}
-use Rattle.ada_meaning.specs.Obligations.{precedes}
+use Rattle.cov_base.specs.TextOrder.{precedes}
 use Rattle.ada_meaning.specs.Tree as tree
 use Rattle.ada_names.specs.Library.{declarations_of_item, statements_of_item}
 use Rattle.ada_names.specs.Naming.{declarations_in}

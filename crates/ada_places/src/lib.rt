@@ -17,8 +17,6 @@ mod found;
 mod nested;
 mod places;
 mod ranks;
-#[cfg(test)]
-mod tests;
 mod walk;
 
 pub use conditions::condition_place;

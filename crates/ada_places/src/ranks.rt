@@ -1,23 +1,13 @@
 //! Places in the order of the text, and the numbers of the obligations that stand there.
 
-ghost use Rattle.std.specs.Prelude.{◌≡◌, ◌<◌, ◌^◌, ◌-◌, length, true, not, IfOk};
+ghost use Rattle.std.specs.Prelude.{◌≡◌, ◌<◌, ◌^◌, length, true, not, IfOk};
 ghost use Rattle.std.specs.List.{count_by};
-ghost use Rattle.ada_meaning.specs.Obligations.{precedes};
-ghost use Rattle.ada_tree.specs.View.{label_of};
+ghost use Rattle.cov_base.specs.TextOrder.{precedes};
 ghost use Rattle.ada_places.specs.Order.{AreOrdered};
-ghost use Rattle.ada_places.specs.Places.{label_at, inner_label_at};
 
-use ada_tree::Label;
 use cov_base::Pos;
 use std::alloc::AllocError;
 use std::marker::Model;
-
-/// Whether a place comes before another.
-fn precedes(a: Pos, b: Pos) -> bool
-    ensures { result ≡ precedes a b }
-{
-    a.file < b.file || a.file == b.file && (a.line < b.line || a.line == b.line && a.col < b.col)
-}
 
 /// Places in the order of the text, by which obligations are numbered, and whether none comes before
 /// an earlier one. In sources that are read from the left none does. There are fewer than 2^32.
@@ -55,8 +45,8 @@ impl Ranks {
         })
     }
 
-    /// How many places come before one.
-    fn rank(&self, place: Pos) -> u32
+    /// How many places come before one: the number of the obligation that stands there.
+    pub fn rank(&self, place: Pos) -> u32
         ensures { result ≡ count_by (λ q. precedes q place) self.now }
     {
         if self.rising {
@@ -67,7 +57,7 @@ impl Ranks {
     }
 
     /// How many places don't come behind one.
-    fn rank_behind(&self, place: Pos) -> u32
+    pub fn rank_behind(&self, place: Pos) -> u32
         ensures { result ≡ count_by (λ q. not (precedes place q)) self.now }
     {
         if self.rising {
@@ -76,34 +66,13 @@ impl Ranks {
             rank_behind(self.all.as_slice(), place)
         }
     }
-
-    /// The label of the obligation at this place: its number is how many places come before it.
-    pub fn label_at(&self, place: Pos) -> Label
-        ensures { label_of result ≡ label_at self.now place }
-    {
-        Label {
-            number: self.rank(place),
-            place,
-        }
-    }
-
-    /// The label of the last of the decisions that begin at this place: of one that begins with a
-    /// parenthesis or with `not`, in which no other begins there.
-    pub fn inner_label_at(&self, place: Pos) -> Label
-        ensures { label_of result ≡ inner_label_at self.now place }
-    {
-        Label {
-            number: self.rank_behind(place).saturating_sub(1),
-            place,
-        }
-    }
 }
 
 /// Whether no place comes before an earlier one.
 fn are_ordered(places: &[Pos]) -> bool
     ensures { result ≡ true → AreOrdered places.now }
 {
-    places.is_sorted_by(|one, next| !precedes(*next, *one))
+    places.is_sorted_by(|one, next| !next.precedes(*one))
 }
 
 /// How many places come before one, where they are in order: found by halving.
@@ -112,7 +81,7 @@ fn rank_in_order(places: &[Pos], place: Pos) -> u32
     requires ordered { AreOrdered places.now }
     ensures { result ≡ count_by (λ q. precedes q place) places.now }
 {
-    places.partition_point(|other| precedes(*other, place)) as u32
+    places.partition_point(|other| other.precedes(place)) as u32
 }
 
 /// How many places don't come behind one, where they are in order: found by halving.
@@ -121,7 +90,7 @@ fn rank_behind_in_order(places: &[Pos], place: Pos) -> u32
     requires ordered { AreOrdered places.now }
     ensures { result ≡ count_by (λ q. not (precedes place q)) places.now }
 {
-    places.partition_point(|other| !precedes(place, *other)) as u32
+    places.partition_point(|other| !place.precedes(*other)) as u32
 }
 
 /// How many places come before one.
@@ -131,7 +100,7 @@ fn rank(places: &[Pos], place: Pos) -> u32
 {
     let mut before = 0;
     for other in places {
-        if !precedes(*other, place) {
+        if !other.precedes(place) {
             continue;
         }
         before += 1;
@@ -146,7 +115,7 @@ fn rank_behind(places: &[Pos], place: Pos) -> u32
 {
     let mut up_to = 0;
     for other in places {
-        if precedes(place, *other) {
+        if place.precedes(*other) {
             continue;
         }
         up_to += 1;

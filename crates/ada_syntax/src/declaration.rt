@@ -5,21 +5,21 @@ use crate::name::{Identifier, Name};
 use cov_base::{Bytes, Pos, Seq};
 
 /// `simple .. simple`: the bounds of a range (RM 3.5).
-#[derive(Debug, Drop)]
+#[derive(Drop)]
 pub struct Bounds {
     pub low: Expr,
     pub high: Expr,
 }
 
 /// `name | simple .. simple`: the range of an index or of a loop parameter (RM 3.6.1).
-#[derive(Debug, Drop)]
+#[derive(Drop)]
 pub enum DiscreteRange {
     Mark(Name),
     Bounds(Bounds),
 }
 
 /// `name [RANGE simple .. simple]` (RM 3.2.2).
-#[derive(Debug, Drop)]
+#[derive(Drop)]
 pub struct SubtypeIndication {
     pub mark: Name,
     pub constraint: Option<Bounds>,
@@ -27,7 +27,7 @@ pub struct SubtypeIndication {
 
 /// An initial value or what is assigned: an expression, in any number of `( OTHERS => .. )`
 /// (RM 4.3.3).
-#[derive(Debug, Drop)]
+#[derive(Drop)]
 pub struct Initial {
     /// The place of each `(` before an `others`, the outermost first.
     pub others: Seq<Pos>,
@@ -35,7 +35,7 @@ pub struct Initial {
 }
 
 /// What a type declaration defines (RM 3.5.1, 3.5.4, 3.6, 3.8).
-#[derive(Debug, Drop)]
+#[derive(Drop)]
 pub enum TypeDefinition {
     /// `RANGE simple .. simple`
     Integer(Bounds),
@@ -48,14 +48,14 @@ pub enum TypeDefinition {
 }
 
 /// `id {, id} : sub ;` in a record (RM 3.8).
-#[derive(Debug, Drop)]
+#[derive(Drop)]
 pub struct Component {
     pub names: Seq<Identifier>,
     pub indication: SubtypeIndication,
 }
 
 /// Whether an object may be assigned (RM 3.3.1).
-#[derive(Clone, Copy, Debug, PartialEq, Eq)]
+#[derive(Clone, Copy, PartialEq, Eq)]
 pub enum Constancy {
     Variable,
     /// With the word `constant`.
@@ -63,14 +63,14 @@ pub enum Constancy {
 }
 
 /// A declaration, and the place of its first token.
-#[derive(Debug, Drop)]
+#[derive(Drop)]
 pub struct Declaration {
     pub pos: Pos,
     pub kind: DeclarationKind,
 }
 
 /// The declarations that may stand in a subprogram or a block.
-#[derive(Debug, Drop)]
+#[derive(Drop)]
 pub enum DeclarationKind {
     /// `TYPE id IS typedef ;`
     Type(Identifier, TypeDefinition),
@@ -85,7 +85,7 @@ pub enum DeclarationKind {
 }
 
 /// The two pragmas by which lines are exempted from coverage.
-#[derive(Debug, Drop)]
+#[derive(Drop)]
 pub enum Pragma {
     /// `PRAGMA Annotate ( Xcov , Exempt_On , string ) ;`, with the string literal as it is spelled.
     ExemptOn(Bytes),

@@ -6,7 +6,7 @@ use std::alloc::{AllocError, Global};
 use std::marker::Model;
 
 /// An operator with one operand (RM 4.5.4, 4.5.6).
-#[derive(Clone, Copy, Debug, PartialEq, Eq)]
+#[derive(Clone, Copy, PartialEq, Eq)]
 pub enum UnaryOperator {
     Plus,
     Minus,
@@ -15,7 +15,7 @@ pub enum UnaryOperator {
 }
 
 /// An adding or a multiplying operator (RM 4.5.3, 4.5.5).
-#[derive(Clone, Copy, Debug, PartialEq, Eq)]
+#[derive(Clone, Copy, PartialEq, Eq)]
 pub enum BinaryOperator {
     Add,
     Subtract,
@@ -26,7 +26,7 @@ pub enum BinaryOperator {
 }
 
 /// A relational operator (RM 4.5.2).
-#[derive(Clone, Copy, Debug, PartialEq, Eq)]
+#[derive(Clone, Copy, PartialEq, Eq)]
 pub enum RelationalOperator {
     Equal,
     NotEqual,
@@ -37,7 +37,7 @@ pub enum RelationalOperator {
 }
 
 /// A logical operator or a short-circuit control form (RM 4.5.1).
-#[derive(Clone, Copy, Debug, PartialEq, Eq)]
+#[derive(Clone, Copy, PartialEq, Eq)]
 pub enum LogicalOperator {
     And,
     Or,
@@ -47,7 +47,7 @@ pub enum LogicalOperator {
 }
 
 /// An expression, and the place of its first token.
-#[derive(Debug, Drop)]
+#[derive(Drop)]
 #[cycle(expr)]
 pub struct Expr {
     pub pos: Pos,
@@ -206,7 +206,7 @@ impl Expr {
 }
 
 /// The forms of an expression.
-#[derive(Debug, Drop)]
+#[derive(Drop)]
 #[cycle(expr)]
 pub enum ExprKind {
     /// A numeral, by its value: at most 2147483647.
@@ -230,7 +230,7 @@ pub enum ExprKind {
 }
 
 /// An operator and what stands right of it.
-#[derive(Debug, Drop)]
+#[derive(Drop)]
 #[cycle(expr)]
 pub struct Operand {
     pub operator: BinaryOperator,

@@ -14,8 +14,6 @@ mod expr;
 mod name;
 mod nodes;
 mod statement;
-#[cfg(test)]
-mod tests;
 mod unit;
 
 pub use declaration::{

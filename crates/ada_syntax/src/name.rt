@@ -5,14 +5,14 @@ use cov_base::{Bytes, Pos};
 use std::marker::Model;
 
 /// An identifier, as it is spelled in the source. Its case counts nothing.
-#[derive(Debug, Drop)]
+#[derive(Drop)]
 pub struct Identifier {
     pub pos: Pos,
     pub text: Bytes,
 }
 
 /// A name: an identifier, and what stands behind it, from the left.
-#[derive(Debug, Drop)]
+#[derive(Drop)]
 #[cycle(expr)]
 pub struct Name {
     pub prefix: Identifier,
@@ -60,7 +60,7 @@ impl Name {
 }
 
 /// What stands behind a part of a name.
-#[derive(Debug, Drop)]
+#[derive(Drop)]
 #[cycle(expr)]
 pub enum Suffix {
     /// `. id`: a part of a package, or a component of a record (RM 4.1.3).

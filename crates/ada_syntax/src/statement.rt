@@ -7,7 +7,7 @@ use cov_base::{Pos, Seq};
 use std::marker::Model;
 
 /// A statement, and the place of its first token.
-#[derive(Debug, Drop)]
+#[derive(Drop)]
 #[cycle(statement)]
 pub struct Statement {
     pub pos: Pos,
@@ -34,7 +34,7 @@ impl Model for Statement {
 }
 
 /// The forms of a statement. A list of statements has at least one.
-#[derive(Debug, Drop)]
+#[derive(Drop)]
 #[cycle(statement)]
 pub enum StatementKind {
     /// `NULL ;`
@@ -65,7 +65,7 @@ pub enum StatementKind {
 
 /// `stmts [handlers]`: statements, and what handles their exceptions (RM 11.2). Without an exception
 /// part there is no handler.
-#[derive(Debug, Drop)]
+#[derive(Drop)]
 #[cycle(statement)]
 pub struct HandledStatements {
     pub statements: Vec<Statement>,
@@ -92,7 +92,7 @@ impl Model for HandledStatements {
 }
 
 /// A condition, and the statements under it.
-#[derive(Debug, Drop)]
+#[derive(Drop)]
 #[cycle(statement)]
 pub struct Branch {
     pub condition: Expr,
@@ -100,7 +100,7 @@ pub struct Branch {
 }
 
 /// `WHEN choice {| choice} => stmts` (RM 5.4).
-#[derive(Debug, Drop)]
+#[derive(Drop)]
 #[cycle(statement)]
 pub struct Alternative {
     pub choices: Seq<Choice>,
@@ -108,7 +108,7 @@ pub struct Alternative {
 }
 
 /// `simple [.. simple] | OTHERS` (RM 3.8.1).
-#[derive(Debug, Drop)]
+#[derive(Drop)]
 pub enum Choice {
     Value(Expr),
     Range(Bounds),
@@ -116,7 +116,7 @@ pub enum Choice {
 }
 
 /// How a loop goes on (RM 5.5).
-#[derive(Debug, Drop)]
+#[derive(Drop)]
 pub enum LoopScheme {
     /// Without a scheme.
     Forever,
@@ -127,7 +127,7 @@ pub enum LoopScheme {
 }
 
 /// The order in which a loop parameter takes its values.
-#[derive(Clone, Copy, Debug, PartialEq, Eq)]
+#[derive(Clone, Copy, PartialEq, Eq)]
 pub enum Direction {
     Forward,
     /// With the word `reverse`.
@@ -135,7 +135,7 @@ pub enum Direction {
 }
 
 /// `WHEN exch {| exch} => stmts` (RM 11.2).
-#[derive(Debug, Drop)]
+#[derive(Drop)]
 #[cycle(statement)]
 pub struct Handler {
     pub choices: Seq<ExceptionChoice>,
@@ -143,7 +143,7 @@ pub struct Handler {
 }
 
 /// `name | OTHERS` (RM 11.2).
-#[derive(Debug, Drop)]
+#[derive(Drop)]
 pub enum ExceptionChoice {
     Named(Name),
     Others(Pos),

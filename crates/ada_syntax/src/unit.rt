@@ -7,7 +7,7 @@ use crate::statement::HandledStatements;
 use cov_base::{Pos, Seq};
 
 /// The mode of a parameter (RM 6.2).
-#[derive(Clone, Copy, Debug, PartialEq, Eq)]
+#[derive(Clone, Copy, PartialEq, Eq)]
 pub enum Mode {
     /// No mode is written, which means `in`.
     Default,
@@ -17,7 +17,7 @@ pub enum Mode {
 }
 
 /// `id {, id} : [IN | OUT | IN OUT] name` (RM 6.1).
-#[derive(Debug, Drop)]
+#[derive(Drop)]
 pub struct Parameter {
     pub names: Seq<Identifier>,
     pub mode: Mode,
@@ -26,7 +26,7 @@ pub struct Parameter {
 
 /// `PROCEDURE id [params] | FUNCTION id [params] RETURN name` (RM 6.1), and the place of its first
 /// token. A function has a result.
-#[derive(Debug, Drop)]
+#[derive(Drop)]
 pub struct Specification {
     pub pos: Pos,
     pub name: Identifier,
@@ -35,7 +35,7 @@ pub struct Specification {
 }
 
 /// `spec IS {ldecl} BEGIN stmts [handlers] END [id] ;` (RM 6.3).
-#[derive(Debug, Drop)]
+#[derive(Drop)]
 pub struct SubprogramBody {
     pub specification: Specification,
     pub declarations: Seq<Declaration>,
@@ -44,7 +44,7 @@ pub struct SubprogramBody {
 }
 
 /// A declaration in a package (RM 7.1).
-#[derive(Debug, Drop)]
+#[derive(Drop)]
 pub enum PackageItem {
     Declaration(Declaration),
     /// `spec ;`
@@ -52,21 +52,21 @@ pub enum PackageItem {
 }
 
 /// What stands in a package body (RM 7.2).
-#[derive(Debug, Drop)]
+#[derive(Drop)]
 pub enum BodyItem {
     Declared(PackageItem),
     Body(SubprogramBody),
 }
 
 /// A formal parameter of a generic package, and the place of its first token (RM 12.1).
-#[derive(Debug, Drop)]
+#[derive(Drop)]
 pub struct Formal {
     pub pos: Pos,
     pub kind: FormalKind,
 }
 
 /// The forms of a formal parameter (RM 12.4 to 12.6).
-#[derive(Debug, Drop)]
+#[derive(Drop)]
 pub enum FormalKind {
     /// `TYPE id IS ( <> ) ;`
     DiscreteType(Identifier),
@@ -79,7 +79,7 @@ pub enum FormalKind {
 }
 
 /// `[GENERIC {formal}] PACKAGE id IS {decl} END [id] ;` (RM 7.1, 12.1).
-#[derive(Debug, Drop)]
+#[derive(Drop)]
 pub struct PackageSpecification {
     /// The formal parameters, where the package is generic.
     pub formals: Option<Seq<Formal>>,
@@ -89,7 +89,7 @@ pub struct PackageSpecification {
 }
 
 /// `PACKAGE BODY id IS {decl | body} END [id] ;` (RM 7.2).
-#[derive(Debug, Drop)]
+#[derive(Drop)]
 pub struct PackageBody {
     pub name: Identifier,
     pub items: Seq<BodyItem>,
@@ -97,7 +97,7 @@ pub struct PackageBody {
 }
 
 /// `PACKAGE id IS NEW id [( expr {, expr} )] ;` (RM 12.3). Without parentheses there is no actual.
-#[derive(Debug, Drop)]
+#[derive(Drop)]
 pub struct Instance {
     pub name: Identifier,
     pub generic_name: Identifier,
@@ -105,7 +105,7 @@ pub struct Instance {
 }
 
 /// What a library unit declares.
-#[derive(Debug, Drop)]
+#[derive(Drop)]
 pub enum LibraryItem {
     Package(PackageSpecification),
     PackageBody(PackageBody),
@@ -114,13 +114,13 @@ pub enum LibraryItem {
 }
 
 /// `WITH id {, id} ;` (RM 10.1.2).
-#[derive(Debug, Drop)]
+#[derive(Drop)]
 pub struct WithClause {
     pub names: Seq<Identifier>,
 }
 
 /// A library unit with its context clauses (RM 10.1.1).
-#[derive(Debug, Drop)]
+#[derive(Drop)]
 pub struct Unit {
     /// The place of its first token.
     pub pos: Pos,

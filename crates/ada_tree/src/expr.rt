@@ -7,7 +7,7 @@ use std::alloc::{AllocError, Global};
 use std::marker::Model;
 
 /// Whose entity a name denotes.
-#[derive(Clone, Copy, Debug, PartialEq, Eq)]
+#[derive(Clone, Copy)]
 pub enum Owner {
     /// That of the instance whose text the name stands in.
     Here,
@@ -16,14 +16,14 @@ pub enum Owner {
 }
 
 /// An object by its declaration.
-#[derive(Clone, Copy, Debug, PartialEq, Eq)]
+#[derive(Clone, Copy)]
 pub enum Object {
     /// The object with this number among those of the subprogram that is executed.
     Local(u32),
 }
 
 /// What a call names (RM 6.4).
-#[derive(Clone, Copy, Debug, PartialEq, Eq)]
+#[derive(Clone, Copy)]
 pub enum Callee {
     /// `Test_IO.Get`
     TestGet,
@@ -36,7 +36,7 @@ pub enum Callee {
 }
 
 /// An expression.
-#[derive(Debug, Drop)]
+#[derive(Drop)]
 #[cycle(expr)]
 pub struct Expr {
     pub kind: ExprKind,
@@ -158,7 +158,7 @@ impl Expr {
 }
 
 /// The forms of an expression.
-#[derive(Debug, Drop)]
+#[derive(Drop)]
 #[cycle(expr)]
 pub enum ExprKind {
     /// A numeral, or the position number of an enumeration literal (RM 2.4, 3.5.1).
@@ -181,7 +181,7 @@ pub enum ExprKind {
 }
 
 /// An operator and what stands right of it.
-#[derive(Debug, Drop)]
+#[derive(Drop)]
 #[cycle(expr)]
 pub struct Operand {
     pub operator: Operator,
@@ -189,7 +189,7 @@ pub struct Operand {
 }
 
 /// The expression of a decision.
-#[derive(Debug, Drop)]
+#[derive(Drop)]
 #[cycle(expr)]
 pub struct Test {
     pub kind: TestKind,
@@ -262,7 +262,7 @@ impl Test {
 }
 
 /// The forms of a decision's expression.
-#[derive(Debug, Drop)]
+#[derive(Drop)]
 #[cycle(expr)]
 pub enum TestKind {
     /// A condition: an operand without `not` and parentheses, and the place of its first token.
@@ -275,14 +275,14 @@ pub enum TestKind {
 }
 
 /// A short-circuit control form (RM 4.5.1).
-#[derive(Clone, Copy, Debug, PartialEq, Eq)]
+#[derive(Clone, Copy)]
 pub enum ShortCircuit {
     AndThen,
     OrElse,
 }
 
 /// An actual parameter (RM 6.4.1).
-#[derive(Debug, Drop)]
+#[derive(Drop)]
 pub enum Actual {
     /// An expression, for a scalar parameter of mode in.
     Expression(Expr),

@@ -15,8 +15,6 @@ mod laws;
 mod objects;
 mod program;
 mod statement;
-#[cfg(test)]
-mod tests;
 mod types;
 
 pub use expr::{

@@ -7,14 +7,14 @@ use cov_base::Seq;
 use std::marker::Model;
 
 /// What an object is set to.
-#[derive(Debug, Drop)]
+#[derive(Drop)]
 pub enum NewValue {
     /// An expression, for a scalar object of this subtype.
     Scalar(Range, Expr),
 }
 
 /// A declaration of an object (RM 3.3.1), by its number among those of the subprogram.
-#[derive(Debug, Drop)]
+#[derive(Drop)]
 pub enum Declaration {
     /// With an initial value, and so a statement obligation.
     Initialized(Label, u32, NewValue),
@@ -22,14 +22,14 @@ pub enum Declaration {
 }
 
 /// A decision, with its label.
-#[derive(Debug, Drop)]
+#[derive(Drop)]
 pub struct Decision {
     pub label: Label,
     pub test: Test,
 }
 
 /// A statement.
-#[derive(Debug, Drop)]
+#[derive(Drop)]
 #[cycle(statement)]
 pub struct Statement {
     pub kind: StatementKind,
@@ -57,7 +57,7 @@ impl Model for Statement {
 }
 
 /// The forms of a statement. Each but a block has the label of its obligation.
-#[derive(Debug, Drop)]
+#[derive(Drop)]
 #[cycle(statement)]
 pub enum StatementKind {
     /// `null;` (RM 5.1)
@@ -83,7 +83,7 @@ pub enum StatementKind {
 }
 
 /// A decision after `if` or `elsif`, and the statements behind its `then` (RM 5.3).
-#[derive(Debug, Drop)]
+#[derive(Drop)]
 #[cycle(statement)]
 pub struct Branch {
     pub decision: Decision,
@@ -91,7 +91,7 @@ pub struct Branch {
 }
 
 /// The declarations and statements of a body or of a block statement (RM 5.6, 6.3).
-#[derive(Debug, Drop)]
+#[derive(Drop)]
 #[cycle(statement)]
 pub struct Block {
     pub declarations: Seq<Declaration>,

@@ -9,7 +9,7 @@ ghost use Rattle.ada_names.specs.Naming as naming;
 ghost use Rattle.ada_names.specs.Naming.{library_of, main_from};
 ghost use Rattle.ada_types.specs.declared.fault.CheckFault.{CheckFault};
 ghost use Rattle.ada_types.specs.Typing as spec;
-ghost use Rattle.ada_meaning.specs.Obligations.{precedes};
+ghost use Rattle.cov_base.specs.TextOrder.{precedes};
 ghost use Rattle.ada_places.specs.Places.{all_places_of};
 ghost use Rattle.ada_types.specs.Legal.{elaborated, typed, earlier};
 ghost use Rattle.ada_types.specs.Checked.{Refuses, entry_of};
@@ -104,19 +104,12 @@ fn too_many_words(units: &[Unit], subprograms: &[Subprogram]) -> Option<Pos>
     None
 }
 
-/// Whether a place comes before another.
-fn precedes(a: Pos, b: Pos) -> bool
-    ensures { result ≡ precedes a b }
-{
-    a.file < b.file || a.file == b.file && (a.line < b.line || a.line == b.line && a.col < b.col)
-}
-
 /// The earlier of two places, of which there may be none.
 fn earlier(one: Option<Pos>, other: Option<Pos>) -> Option<Pos>
     ensures { result ≡ earlier one other }
 {
     match (one, other) {
-        (Some(p), Some(q)) => { if precedes(q, p) { Some(q) } else { Some(p) } }
+        (Some(p), Some(q)) => { if q.precedes(p) { Some(q) } else { Some(p) } }
         (Some(p), None) => Some(p),
         (None, q) => q,
     }

@@ -5,13 +5,14 @@ ghost use Rattle.ada_tree.specs.View.{label_of};
 ghost use Rattle.ada_places.specs.Places.{label_at};
 
 use ada_expressions::DeclaredObject;
+use ada_expressions::labels::label_at;
 use ada_names::{Locals, Region};
 use ada_places::Places;
 use ada_tree::Label;
 use cov_base::Pos;
 
 /// Whether statements stand in a loop (RM 5.7).
-#[derive(Clone, Copy, Debug, PartialEq, Eq)]
+#[derive(Clone, Copy, PartialEq, Eq)]
 pub enum Looping {
     Outside,
     Inside,
@@ -31,14 +32,14 @@ impl Around<'_> {
     pub fn statement_label(&self, pos: Pos) -> Label
         ensures { label_of result ≡ label_at self.now.places.now.statements pos }
     {
-        self.places.statements.label_at(pos)
+        label_at(&self.places.statements, pos)
     }
 
     /// The label of the decision at a place.
     pub fn decision_label(&self, pos: Pos) -> Label
         ensures { label_of result ≡ label_at self.now.places.now.decisions pos }
     {
-        self.places.decisions.label_at(pos)
+        label_at(&self.places.decisions, pos)
     }
 }
 

@@ -18,8 +18,6 @@ mod context;
 mod declarations;
 mod fault;
 mod statements;
-#[cfg(test)]
-mod tests;
 mod units;
 
 pub use ada_expressions::TypeFault;

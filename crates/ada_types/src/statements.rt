@@ -145,7 +145,7 @@ pub fn typed_call(
 }
 
 /// The target of an assignment: a variable, by its number (RM 5.2).
-#[derive(Clone, Copy, Debug, PartialEq, Eq)]
+#[derive(Clone, Copy)]
 pub struct Target {
     pub number: u32,
     pub subtype: ScalarSubtype,

@@ -13,4 +13,3 @@ pub mod Same
 pub mod Judging
 pub mod Totals
 pub mod Alike
-pub mod Sound

@@ -18,8 +18,6 @@ mod selection;
 mod shown;
 mod started;
 mod statements;
-#[cfg(test)]
-mod tests;
 mod verdict;
 mod words;
 

@@ -11,8 +11,6 @@
 mod laws;
 mod piece;
 mod placing;
-#[cfg(test)]
-mod tests;
 
 pub use laws::{items_are_placed_in_parts, labels_lie_in_the_text, placed_items_stand};
 pub use piece::{Item, Label, Mark, Piece, PieceId};

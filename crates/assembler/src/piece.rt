@@ -8,15 +8,15 @@ use line_table::RoleKind;
 use rv_isa::{BranchOp, Instr, Reg};
 
 /// The number of a piece, from 0.
-#[derive(Clone, Copy, Debug, PartialEq, Eq)]
+#[derive(Clone, Copy)]
 pub struct PieceId(pub u32);
 
 /// The place of an item in its piece, from 0. The place behind the last item is a label too.
-#[derive(Clone, Copy, Debug, PartialEq, Eq)]
+#[derive(Clone, Copy)]
 pub struct Label(pub u32);
 
 /// What stands in a piece.
-#[derive(Clone, Copy, Debug, PartialEq, Eq)]
+#[derive(Clone, Copy)]
 pub enum Item {
     /// An instruction as it is.
     Plain(Instr),
@@ -53,7 +53,7 @@ impl Item {
 }
 
 /// What is said of an item: which statement it starts, or what its branch decides.
-#[derive(Clone, Copy, Debug, PartialEq, Eq)]
+#[derive(Clone, Copy)]
 pub enum Mark {
     /// The item is executed once for each start of the statement in the instance.
     Row {
@@ -73,7 +73,7 @@ pub enum Mark {
 }
 
 /// A piece of code: its items in order, and their marks. It is entered at any label.
-#[derive(Debug, Drop)]
+#[derive(Drop)]
 pub struct Piece {
     pub items: Seq<Item>,
     pub marks: Seq<Mark>,

@@ -18,7 +18,7 @@ pub const DATA_START: u32 = rv_semantics::DATA_START;
 
 /// What pieces become: the words of the text, from the start of the text on, and the address of each
 /// label, of the first piece first.
-#[derive(Debug, Drop)]
+#[derive(Drop)]
 pub struct Words {
     pub text: Seq<u32>,
     pub labels: Seq<Seq<u32>>,

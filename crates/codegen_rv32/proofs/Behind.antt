@@ -16,7 +16,7 @@ use Rattle.kernel_ir.specs.declared.code.Node.{Node}
 use Rattle.kernel_code.specs.Line.{Line, plain, jump, decides, checks, steers}
 use Rattle.kernel_code.specs.Words.{load_slot, store_slot, load_constant}
 use Rattle.kernel_code.specs.SimpleCode.{Setting, Targets, branch, call_piece}
-use Rattle.simple_code.proofs.Behind.{two_parts, three_parts, four_parts}
+use Rattle.kernel_code.proofs.LineParts.{two_parts, three_parts, four_parts}
 use Rattle.kernel_code.specs.Code.{load_truth, op_lines, op_length, code_lines, code_length}
 use Rattle.kernel_code.specs.Code.{nodes_lines, nodes_length, edge_place, body_lines, call_lines}
 

@@ -13,9 +13,9 @@ ghost use Rattle.kernel_code.specs.SimpleCode.{branch, call_piece};
 ghost use Rattle.kernel_code.specs.FillCode.{layout_lines, layout_word, counter_byte, keep_return, go_back};
 ghost use Rattle.kernel_ir.specs.declared.kernel.Layout.TheVariants as layout;
 
+use kernel_code::{Emitter, Said, addi, back, far, further, high, load, low, lui, store};
 use kernel_ir::Layout;
 use rv_isa::{BranchOp, Reg};
-use simple_code::{Emitter, Said, addi, back, far, further, high, load, low, lui, store};
 use std::alloc::AllocError;
 
 /// The first word behind the return addresses, where each layout has two words of its own.
@@ -54,7 +54,7 @@ pub(crate) fn put_layout(
 }
 
 /// A word.
-#[tactic(auto, using(simple_code::proofs::Lines::lines_assoc))]
+#[tactic(auto, using(kernel_code::proofs::Lines::lines_assoc))]
 fn put_word(emitter: &mut Emitter, first: u32, number: u32, value: i32) -> Result<(), AllocError>
     ensures { OnOk result (emitter.new ≡ emitter.old ++ layout_lines first number (layout.Word value)) }
 {
@@ -65,7 +65,7 @@ fn put_word(emitter: &mut Emitter, first: u32, number: u32, value: i32) -> Resul
 }
 
 /// Keeps the address to come back to.
-#[tactic(auto, using(simple_code::proofs::Lines::lines_assoc))]
+#[tactic(auto, using(kernel_code::proofs::Lines::lines_assoc))]
 fn keep_return(emitter: &mut Emitter, number: u32) -> Result<(), AllocError>
     ensures { OnOk result (emitter.new ≡ emitter.old ++ map plain (keep_return number)) }
 {
@@ -75,7 +75,7 @@ fn keep_return(emitter: &mut Emitter, number: u32) -> Result<(), AllocError>
 }
 
 /// Goes back there.
-#[tactic(auto, using(simple_code::proofs::Lines::lines_assoc))]
+#[tactic(auto, using(kernel_code::proofs::Lines::lines_assoc))]
 fn go_back(emitter: &mut Emitter, number: u32) -> Result<(), AllocError>
     ensures { OnOk result (emitter.new ≡ emitter.old ++ (map plain (go_back number) ++ (plain (Jalr 0 1 0) ∷ []))) }
 {
@@ -86,7 +86,7 @@ fn go_back(emitter: &mut Emitter, number: u32) -> Result<(), AllocError>
 }
 
 /// Sets the counter of the components that are left.
-#[tactic(auto, using(simple_code::proofs::Lines::lines_assoc))]
+#[tactic(auto, using(kernel_code::proofs::Lines::lines_assoc))]
 fn set_counter(emitter: &mut Emitter, number: u32, count: u32) -> Result<(), AllocError>
     ensures { OnOk result (emitter.new ≡ emitter.old ++ map plain
         (load_constant 11 count (Upper Lui 5 (high (counter_byte number)) ∷ Store Sw 5 11 (low (counter_byte number)) ∷ []))) }
@@ -98,7 +98,7 @@ fn set_counter(emitter: &mut Emitter, number: u32, count: u32) -> Result<(), All
 }
 
 /// Leaves the loop where no component is left, and else counts one.
-#[tactic(auto, using(simple_code::proofs::Lines::lines_assoc))]
+#[tactic(auto, using(kernel_code::proofs::Lines::lines_assoc))]
 fn count_down(emitter: &mut Emitter, number: u32) -> Result<(), AllocError>
     ensures { OnOk result (emitter.new ≡ emitter.old ++ (map plain
         (Upper Lui 5 (high (counter_byte number)) ∷ Load Lw 11 5 (low (counter_byte number)) ∷ [])

@@ -5,8 +5,8 @@ ghost use Rattle.kernel_ir.specs.declared.simple.Simple.TheVariants as simple;
 ghost use Rattle.kernel_ir.specs.TreeView.{op_of, ops_of, nodes_of};
 ghost use Rattle.kernel_code.specs.Code.{simple_length, op_length, code_length, nodes_length};
 
+use kernel_code::further;
 use kernel_ir::{Code, Node, Op, Operator, Relation, Simple};
-use simple_code::further;
 use std::alloc::AllocError;
 
 /// How many lines an operation has that holds no others.

@@ -10,7 +10,5 @@ mod parts;
 mod pieces;
 mod structure;
 mod targets;
-#[cfg(test)]
-mod tests;
 
 pub use pieces::generate;

@@ -13,16 +13,16 @@ ghost use Rattle.kernel_code.specs.Line.{plain, jump, decides, checks, steers};
 ghost use Rattle.kernel_code.specs.Words.{load_slot, store_slot, load_constant};
 ghost use Rattle.kernel_code.specs.SimpleCode.{branch, call_piece};
 ghost use Rattle.kernel_code.specs.Code.{load_truth, call_lines, start_lines, node_place, edge_place};
-ghost use Rattle.simple_code.specs.Set.{setting_of};
+ghost use Rattle.kernel_code.specs.Set.{setting_of};
 
 use crate::lengths::nodes_length;
 use crate::targets::Evaluation;
 use cov_base::CondIx;
-use kernel_ir::{Edge, Node, Slot};
-use rv_isa::{BranchOp, ImmediateOp, Instr, Reg, RegisterOp};
-use simple_code::{
+use kernel_code::{
     Emitter, Frame, Said, a3, addi, back, exception, further, immediate, load, lui, register, store,
 };
+use kernel_ir::{Edge, Node, Slot};
+use rv_isa::{BranchOp, ImmediateOp, Instr, Reg, RegisterOp};
 use std::alloc::AllocError;
 
 /// Where an edge leads: to the place of an outcome, or of one of the nodes that follow.
@@ -69,7 +69,7 @@ fn way_up(width: u32) -> u64
 }
 
 /// Goes on inside where a slot holds True, and else at another place.
-#[tactic(auto, using(simple_code::proofs::Lines::lines_assoc))]
+#[tactic(auto, using(kernel_code::proofs::Lines::lines_assoc))]
 pub(crate) fn put_test(
     emitter: &mut Emitter,
     slot: Slot,
@@ -86,7 +86,7 @@ pub(crate) fn put_test(
 }
 
 /// Goes past a handler, which begins with setting a slot to the number of the exception.
-#[tactic(auto, using(simple_code::proofs::Lines::lines_assoc))]
+#[tactic(auto, using(kernel_code::proofs::Lines::lines_assoc))]
 pub(crate) fn enter_handler(emitter: &mut Emitter, past: u32, slot: Slot) -> Result<(), AllocError>
     ensures { OnOk result (emitter.new ≡ emitter.old ++ jump past ∷ map plain (store_slot 12 slot [])) }
 {
@@ -95,7 +95,7 @@ pub(crate) fn enter_handler(emitter: &mut Emitter, past: u32, slot: Slot) -> Res
 }
 
 /// A slot gets a number below 2.
-#[tactic(auto, using(simple_code::proofs::Lines::lines_assoc))]
+#[tactic(auto, using(kernel_code::proofs::Lines::lines_assoc))]
 fn set_truth(emitter: &mut Emitter, slot: Slot, truth: u16) -> Result<(), AllocError>
     requires { truth < 2 ^ 12 }
     ensures { OnOk result (emitter.new ≡ emitter.old ++ map plain (Immediate Addi 10 0 truth ∷ store_slot 10 slot [])) }
@@ -105,7 +105,7 @@ fn set_truth(emitter: &mut Emitter, slot: Slot, truth: u16) -> Result<(), AllocE
 }
 
 /// The ends of a decision: a slot gets 1 for True and 0 for False.
-#[tactic(auto, using(simple_code::proofs::Lines::lines_assoc))]
+#[tactic(auto, using(kernel_code::proofs::Lines::lines_assoc))]
 pub(crate) fn set_outcome(emitter: &mut Emitter, slot: Slot, past: u32) -> Result<(), AllocError>
     ensures { OnOk result (emitter.new ≡ emitter.old ++ (map plain (Immediate Addi 10 0 1 ∷ store_slot 10 slot []) ++
         (jump past ∷ map plain (Immediate Addi 10 0 0 ∷ store_slot 10 slot [])))) }
@@ -116,7 +116,7 @@ pub(crate) fn set_outcome(emitter: &mut Emitter, slot: Slot, past: u32) -> Resul
 }
 
 /// `x10` is 1 where a slot holds True, and else 0.
-#[tactic(auto, using(simple_code::proofs::Lines::lines_assoc))]
+#[tactic(auto, using(kernel_code::proofs::Lines::lines_assoc))]
 fn load_truth(emitter: &mut Emitter, slot: Slot) -> Result<(), AllocError>
     ensures { OnOk result (emitter.new ≡ emitter.old ++ map plain (load_truth slot)) }
 {
@@ -127,7 +127,7 @@ fn load_truth(emitter: &mut Emitter, slot: Slot) -> Result<(), AllocError>
 }
 
 /// The branch of a condition, which is taken where the condition's slot holds True.
-#[tactic(auto, using(simple_code::proofs::Lines::lines_assoc))]
+#[tactic(auto, using(kernel_code::proofs::Lines::lines_assoc))]
 pub(crate) fn put_condition(
     emitter: &mut Emitter,
     evaluation: Evaluation,
@@ -152,7 +152,7 @@ pub(crate) fn put_condition(
 }
 
 /// The frame's end moves.
-#[tactic(auto, using(simple_code::proofs::Lines::lines_assoc))]
+#[tactic(auto, using(kernel_code::proofs::Lines::lines_assoc))]
 fn move_frame(emitter: &mut Emitter, bytes: u64) -> Result<(), AllocError>
     requires { bytes < 2 ^ 36 }
     ensures { OnOk result (emitter.new ≡ emitter.old ++ map plain (load_constant 13 bytes (Register registers.Add 8 8 13 ∷ []))) }
@@ -162,7 +162,7 @@ fn move_frame(emitter: &mut Emitter, bytes: u64) -> Result<(), AllocError>
 }
 
 /// The check that one more call may nest.
-#[tactic(auto, using(simple_code::proofs::Lines::lines_assoc))]
+#[tactic(auto, using(kernel_code::proofs::Lines::lines_assoc))]
 fn check_depth(emitter: &mut Emitter, raise_to: u32, place: u32) -> Result<(), AllocError>
     ensures { OnOk result (emitter.new ≡ emitter.old ++ (map plain (Upper Lui 13 0x1fc0 ∷ Immediate Addi 12 0 3 ∷ []) ++
         (branch checks Bne 2 13 (place + 4) ∷ (jump raise_to ∷ [])))) }
@@ -173,7 +173,7 @@ fn check_depth(emitter: &mut Emitter, raise_to: u32, place: u32) -> Result<(), A
 }
 
 /// Goes on where no exception came back from a call, and else where exceptions lead.
-#[tactic(auto, using(simple_code::proofs::Lines::lines_assoc))]
+#[tactic(auto, using(kernel_code::proofs::Lines::lines_assoc))]
 fn hand_on(emitter: &mut Emitter, raise_to: u32, past: u32) -> Result<(), AllocError>
     ensures { OnOk result (emitter.new ≡ emitter.old ++ branch steers Beq 12 0 past ∷ (jump raise_to ∷ [])) }
 {
@@ -201,7 +201,7 @@ pub(crate) fn put_call(
 }
 
 /// The first lines of a body, which keep the address to come back to.
-#[tactic(auto, using(simple_code::proofs::Lines::lines_assoc))]
+#[tactic(auto, using(kernel_code::proofs::Lines::lines_assoc))]
 pub(crate) fn enter_body(emitter: &mut Emitter) -> Result<(), AllocError>
     ensures { OnOk result (emitter.new ≡ emitter.old ++ map plain (Immediate Addi 2 2 0xffc ∷ Store Sw 2 1 0 ∷ [])) }
 {
@@ -210,7 +210,7 @@ pub(crate) fn enter_body(emitter: &mut Emitter) -> Result<(), AllocError>
 }
 
 /// The last lines of a body.
-#[tactic(auto, using(simple_code::proofs::Lines::lines_assoc))]
+#[tactic(auto, using(kernel_code::proofs::Lines::lines_assoc))]
 pub(crate) fn leave_body(emitter: &mut Emitter) -> Result<(), AllocError>
     ensures { OnOk result (emitter.new ≡ emitter.old ++ (map plain
         (Immediate Addi 12 0 0 ∷ Load Lw 1 2 0 ∷ Immediate Addi 2 2 4 ∷ []) ++ (plain (Jalr 0 1 0) ∷ []))) }
@@ -222,7 +222,7 @@ pub(crate) fn leave_body(emitter: &mut Emitter) -> Result<(), AllocError>
 }
 
 /// The lines of the start.
-#[tactic(auto, using(simple_code::proofs::Lines::lines_assoc))]
+#[tactic(auto, using(kernel_code::proofs::Lines::lines_assoc))]
 pub(crate) fn put_start(emitter: &mut Emitter, main: u32) -> Result<(), AllocError>
     ensures { OnOk result (emitter.new ≡ emitter.old ++ start_lines main) }
 {

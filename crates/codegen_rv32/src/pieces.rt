@@ -7,8 +7,8 @@ ghost use Rattle.kernel_code.specs.Marked.{piece_of};
 ghost use Rattle.kernel_code.specs.Code.{body_lines, start_lines};
 ghost use Rattle.kernel_code.specs.FillCode.{layout_lines};
 ghost use Rattle.kernel_code.specs.Pieces.{layout_pieces, kernel_pieces};
-ghost use Rattle.simple_code.specs.View.{said_of, lines_of};
-ghost use Rattle.simple_code.specs.Set.{setting_of};
+ghost use Rattle.kernel_code.specs.View.{said_of, lines_of};
+ghost use Rattle.kernel_code.specs.Set.{setting_of};
 ghost use Rattle.codegen_rv32.specs.Set.{body_pieces};
 
 use crate::fills::put_layout;
@@ -16,9 +16,9 @@ use crate::parts::put_start;
 use crate::structure::put_body;
 use assembler::{Item, Label, Mark, Piece};
 use cov_base::{CondIx, DecId, InstId, Seq};
+use kernel_code::{Emitter, Frame, Line, Said, further, sizes_of};
 use kernel_ir::{Body, Code, Kernel, Layout};
 use line_table::RoleKind;
-use simple_code::{Emitter, Frame, Line, Said, further, sizes_of};
 use std::alloc::{AllocError, Global};
 
 /// The pieces of a kernel: of the start, of the bodies and of the layouts, in order. There is no memory

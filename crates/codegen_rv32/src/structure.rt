@@ -4,7 +4,7 @@ ghost use Rattle.std.specs.Prelude.{◌≡◌, ◌+◌, ◌++◌, IfOk, OnOk};
 ghost use Rattle.kernel_ir.specs.Tree as tree;
 ghost use Rattle.kernel_ir.specs.TreeView.{op_of, ops_of, nodes_of};
 ghost use Rattle.kernel_code.specs.Code.{op_lines, code_lines, nodes_lines, body_lines};
-ghost use Rattle.simple_code.specs.Set.{setting_of};
+ghost use Rattle.kernel_code.specs.Set.{setting_of};
 ghost use Rattle.codegen_rv32.specs.Set.{targets_of};
 
 use crate::lengths::{code_length, nodes_length, op_length};
@@ -14,8 +14,8 @@ use crate::parts::{
 };
 use crate::targets::{Evaluation, Targets};
 use cov_base::{DecId, InstId};
+use kernel_code::{Emitter, Frame, further};
 use kernel_ir::{Code, Node, Op, Slot};
-use simple_code::{Emitter, Frame, further};
 use std::alloc::AllocError;
 
 /// Code, of which the first line stands at a place.

@@ -17,6 +17,3 @@ mod words;
 pub use command::{Command, Usage};
 pub use examples::{accepted, refused};
 pub use words::words_of;
-
-#[cfg(test)]
-mod tests;

@@ -18,8 +18,8 @@ use Rattle.cov_base.specs.declared.obligations.SourceFile.{SourceFile}
 use Rattle.generic_expand.specs.Expanded as expanded
 use Rattle.generic_expand.specs.Expanded.{first_past}
 use Rattle.generic_expand.specs.declared.fault.ExpandFault.{ExpandFault}
-use Rattle.parsed_programs.specs.Sources.{HaveUnits, FailsFor}
-use Rattle.parsed_programs.specs.declared.fault.SourceFault.{SourceFault}
+use Rattle.compiler.specs.Units.{HaveUnits, FailsFor}
+use Rattle.compiler.specs.declared.fault.SourceFault.{SourceFault}
 
 pub illegal_units : (units : List LibraryUnit) (main : List ℕ) (f : Failure CheckFault) → checked.Refuses units (str_to_ascii_lowercase main) f → UnitsAreRefused units main (illegal f)
 illegal_units units main _ (checked.breaks_names offends) = breaks_names offends

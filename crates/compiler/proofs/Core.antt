@@ -21,8 +21,8 @@ use Rattle.compiler.specs.Source.{entry_of_file, IsObjectOf, IsCheap}
 use Rattle.cov_base.specs.declared.obligations.SourceFile.{SourceFile}
 use Rattle.cov_base.specs.declared.position.Pos.{Pos}
 use Rattle.generic_expand.specs.Expanded.{node_limit, first_past}
-use Rattle.legal_programs.proofs.PlainPrograms.{nodes_law}
-use Rattle.legal_programs.specs.Rising.{StatementsRise, DecisionsRise}
+use Rattle.compiler.proofs.PlainPrograms.{nodes_law}
+use Rattle.ada_places.specs.Rising.{StatementsRise, DecisionsRise}
 use Rattle.object_format.specs.Counts.{FileFits}
 use Rattle.object_format.specs.Fields.{are_files}
 use Rattle.object_format.specs.File.{closed_object}
@@ -30,7 +30,7 @@ use Rattle.object_format.specs.Read.{IsObject, HasObject}
 use Rattle.object_format.specs.declared.object.FileEntry.{FileEntry}
 use Rattle.object_format.specs.declared.object.Object.{Object}
 use Rattle.parsed_programs.specs.Places.{AreInFiles}
-use Rattle.parsed_programs.specs.Sources.{HaveUnits}
+use Rattle.compiler.specs.Units.{HaveUnits}
 
 both_hold : (a b : Bool) → a ≡ true → b ≡ true → (a && b) ≡ true
 both_hold a b p q = rw (p, q) refl

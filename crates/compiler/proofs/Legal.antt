@@ -13,13 +13,13 @@ use Rattle.compiler.proofs.Statements.{places_are_statements, decisions_stand}
 use Rattle.compiler.specs.Behaves.{Behaves, EndsInTime}
 use Rattle.compiler.specs.Compiled.{IsCompiled}
 use Rattle.compiler.specs.Made.{IsCompilable, IsMadeOf}
-use Rattle.legal_programs.proofs.ListedLaws.{places_law, conditions_law, few_law, once_law, held_law}
-use Rattle.legal_programs.proofs.Numbered.{numbered_law, stay_law, decisions_stay_law, decision_places_law, obligations_law}
-use Rattle.legal_programs.proofs.Order.{found_rise, found_ordered}
-use Rattle.legal_programs.proofs.PlainPrograms.{structured_law, limit_law}
+use Rattle.compiler.proofs.ListedLaws.{places_law, conditions_law, few_law, once_law, held_law}
+use Rattle.compiler.proofs.Numbered.{numbered_law, stay_law, decisions_stay_law, decision_places_law, obligations_law}
+use Rattle.compiler.proofs.Order.{found_rise, found_ordered}
+use Rattle.compiler.proofs.PlainPrograms.{structured_law, limit_law}
 use Rattle.decision_meaning.specs.Pair.{Everywhere}
-use Rattle.legal_programs.specs.Listed.{entry_at, obligations_at}
-use Rattle.legal_programs.specs.Rising.{StatementsRise, DecisionsRise}
+use Rattle.compiler.specs.Listed.{entry_at, obligations_at}
+use Rattle.ada_places.specs.Rising.{StatementsRise, DecisionsRise}
 use Rattle.object_format.specs.Fields.{are_statements, are_decisions}
 use Rattle.object_format.specs.Read.{HasObject, is_plain}
 use Rattle.object_format.specs.declared.object.Object.{Object}

@@ -24,7 +24,7 @@ use Rattle.decision_meaning.specs.Pair.{Everywhere}
 use Rattle.kernel_code.proofs.PieceLaws.{pieces_are_marked}
 use Rattle.kernel_code.specs.Pieces.{kernel_pieces}
 use Rattle.kernel_ir.specs.Obligations.{conditions}
-use Rattle.legal_programs.specs.Listed.{entry_at, obligations_at}
+use Rattle.compiler.specs.Listed.{entry_at, obligations_at}
 use Rattle.line_table.specs.declared.roles.Role.{Role}
 use Rattle.line_table.specs.declared.rows.Row.{Row as TableRow}
 use Rattle.linker.proofs.RowMarks.{rows_are_in_order}

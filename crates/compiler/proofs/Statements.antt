@@ -5,7 +5,8 @@ use Rattle.std.specs.Ordering.{is_lt, is_le, ordering_then}
 use Rattle.std.specs.declared.cmp.Ordering.TheVariants.{Less, Equal, Greater}
 use Rattle.std.proofs.lemmas.Bool.Decides.{nat_tests}
 use Rattle.ada_meaning.specs.Collected.{Standing, after_if, after_while, after_exit, elsewhere, Decision, condition_places}
-use Rattle.ada_meaning.specs.Obligations.{precedes, letter_of, decision_entry, condition_entry}
+use Rattle.ada_meaning.specs.Obligations.{letter_of, decision_entry, condition_entry}
+use Rattle.cov_base.specs.TextOrder.{precedes}
 use Rattle.ada_meaning.specs.Tree.{shape_of, conditions_of}
 use Rattle.ada_places.specs.Order.{AreOrdered}
 use Rattle.ada_places.specs.Places.{Found, place_of, conditions_of_found}
@@ -16,8 +17,8 @@ use Rattle.cov_base.specs.declared.obligations.Place.{Place}
 use Rattle.cov_base.specs.declared.obligations.StmtEntry.{StmtEntry}
 use Rattle.cov_base.specs.declared.position.Pos.{Pos}
 use Rattle.decision_meaning.specs.Pair.{Everywhere}
-use Rattle.legal_programs.specs.Listed.{entry_at}
-use Rattle.legal_programs.specs.Rising.{is_followed, rise}
+use Rattle.compiler.specs.Listed.{entry_at}
+use Rattle.cov_base.specs.TextOrder.{is_followed, rise}
 use Rattle.object_format.specs.Fields.{is_counted, is_statement, statement_key, are_statements, is_letter, is_decision, decision_key, are_decisions}
 use Rattle.object_format.specs.Order.{is_below, is_at_most}
 use Rattle.spelling.specs.Checks.{rising, rising_after}

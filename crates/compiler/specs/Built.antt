@@ -12,11 +12,11 @@ use Rattle.compiler.specs.Held.{HoldsImage}
 use Rattle.compiler.specs.Source.{entry_of_file}
 use Rattle.cov_base.specs.declared.obligations.SourceFile.{SourceFile}
 use Rattle.generic_expand.specs.Expanded.{first_past}
-use Rattle.legal_programs.specs.Rising.{StatementsRise, DecisionsRise}
+use Rattle.ada_places.specs.Rising.{StatementsRise, DecisionsRise}
 use Rattle.lower.specs.Lowered.{kernel_of}
 use Rattle.object_format.specs.declared.object.Object.{Object}
 use Rattle.parsed_programs.specs.Places.{AreInFiles}
-use Rattle.parsed_programs.specs.Sources.{HaveUnits}
+use Rattle.compiler.specs.Units.{HaveUnits}
 
 -- a source has a name that an object can have: UTF-8 of at most 4,096 bytes
 abbrev pub HasPlainName : SourceFile → Type 0

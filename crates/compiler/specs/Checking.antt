@@ -16,10 +16,10 @@ use Rattle.cov_base.specs.declared.position.Pos.{Pos}
 use Rattle.generic_expand.specs.Expanded.{first_past}
 use Rattle.generic_expand.specs.declared.fault.ExpandFault.{ExpandFault}
 use Rattle.generic_expand.specs.declared.fault.ExpandFault.TheVariants.{TooBig, TooMany}
-use Rattle.parsed_programs.specs.Sources.{fault_at}
-use Rattle.parsed_programs.specs.declared.fault.SourceFault.{SourceFault}
-use Rattle.parsed_programs.specs.declared.fault.Why.{Why}
-use Rattle.parsed_programs.specs.declared.fault.Why.TheVariants.{Limit, Naming, Typing}
+use Rattle.compiler.specs.Units.{fault_at}
+use Rattle.compiler.specs.declared.fault.SourceFault.{SourceFault}
+use Rattle.compiler.specs.declared.fault.Why.{Why}
+use Rattle.compiler.specs.declared.fault.Why.TheVariants.{Limit, Naming, Typing}
 
 abbrev pub failure_at : Pos → Why → Failure SourceFault
 failure_at pos why = Fault (fault_at pos why)

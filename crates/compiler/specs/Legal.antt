@@ -13,9 +13,9 @@ use Rattle.cov_base.specs.declared.failure.Failure.TheVariants.{Fault, WantOfMem
 use Rattle.cov_base.specs.declared.obligations.SourceFile.{SourceFile}
 use Rattle.cov_base.specs.declared.position.Pos.{Pos}
 use Rattle.generic_expand.specs.Expanded.{first_past}
-use Rattle.parsed_programs.specs.Sources.{HaveUnits, HaveNoUnits, fault_at}
-use Rattle.parsed_programs.specs.declared.fault.SourceFault.{SourceFault}
-use Rattle.parsed_programs.specs.declared.fault.Why.TheVariants.{Limit, Naming, Typing}
+use Rattle.compiler.specs.Units.{HaveUnits, HaveNoUnits, fault_at}
+use Rattle.compiler.specs.declared.fault.SourceFault.{SourceFault}
+use Rattle.compiler.specs.declared.fault.Why.TheVariants.{Limit, Naming, Typing}
 
 -- the sources are this legal program with a main procedure of this name, whose case does not count: their units pass the rules on names and
 -- types, and are within the limit on nodes

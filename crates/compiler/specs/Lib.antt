@@ -6,3 +6,7 @@ pub mod Legal
 pub mod Source
 pub mod Built
 pub mod Checking
+pub mod Listed
+pub mod Steps
+pub mod Units
+pub mod Why

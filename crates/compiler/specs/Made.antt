@@ -9,7 +9,7 @@ use Rattle.decision_meaning.specs.Expr.{negates_once}
 use Rattle.compiler.specs.Held.{HoldsImage}
 use Rattle.cov_base.specs.declared.position.Pos.{Pos}
 use Rattle.decision_meaning.specs.Pair.{Everywhere}
-use Rattle.legal_programs.specs.Listed.{obligations_at}
+use Rattle.compiler.specs.Listed.{obligations_at}
 use Rattle.lower.specs.Lowered.{kernel_of}
 use Rattle.lower.specs.Sizes.{all_nodes}
 use Rattle.lower.specs.Structured.{IsStructured}

@@ -10,6 +10,8 @@ ghost use Rattle.compiler.specs.Checking.{UnitsAreRefused, PassesLimit};
 ghost use Rattle.compiler.specs.Legal.{RefusesFor};
 ghost use Rattle.generic_expand.specs.Expanded as expanded;
 
+use crate::fault::{SourceFault, Why};
+use crate::units::units_of;
 use ada_expressions::TypeFault;
 use ada_names::NameFault;
 use ada_syntax::Unit;
@@ -17,7 +19,6 @@ use ada_tree::Program;
 use ada_types::{CheckFault, LimitFault, check};
 use cov_base::{Failure, Pos, SourceFile};
 use generic_expand::{ExpandFault, expand};
-use parsed_programs::{SourceFault, Why, units_of};
 use std::alloc::Global;
 
 /// The legal program that sources are, whose main procedure has this name, where case does not

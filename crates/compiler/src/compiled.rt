@@ -8,7 +8,7 @@ ghost use Rattle.ada_types.specs.Legal.{elaborated};
 ghost use Rattle.compiler.specs.Behaves.{Behaves, EndsInTime};
 ghost use Rattle.compiler.specs.Compiled.{IsCompiled};
 ghost use Rattle.compiler.specs.Made.{IsCompilable};
-ghost use Rattle.legal_programs.specs.Rising.{DecisionsRise, StatementsRise};
+ghost use Rattle.ada_places.specs.Rising.{DecisionsRise, StatementsRise};
 ghost use Rattle.object_format.specs.Read.{HasObject, is_plain};
 ghost use Rattle.object_format.specs.declared.object.Object.{Object};
 

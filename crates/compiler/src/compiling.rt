@@ -10,13 +10,13 @@ ghost use Rattle.object_format.specs.Read.{IsObject, HasObject};
 
 use crate::building::object_of;
 use crate::checking::legal_program;
+use crate::fault::SourceFault;
 use cov_base::{Bytes, Failure, SourceFile};
 use object_format::{Object, write_with_digest};
-use parsed_programs::SourceFault;
 use std::alloc::{AllocError, Global};
 
 /// What a compilation makes: the object, and its file.
-#[derive(Debug, Drop)]
+#[derive(Drop)]
 pub struct Compiled {
     pub object: Object,
     pub file: Bytes,

@@ -12,15 +12,25 @@ mod building;
 mod checking;
 mod compiled;
 mod compiling;
+mod fault;
 mod laws;
+mod legal_programs;
 mod soundness;
 mod sources;
+mod units;
 
 pub use compiled::{compiled_objects_pass_and_behave, legal_units_are_compilable};
 pub use compiling::{Compiled, compile};
+pub use fault::{SourceFault, Why};
 pub use laws::objects_behave_as_their_programs;
+pub use legal_programs::{
+    decisions_stand_at_their_conditions, each_node_has_a_token, labels_stand_at_their_statements,
+    legal_programs_are_numbered, legal_programs_are_structured, obligations_are_counted,
+    obligations_are_statements_and_decisions, rows_have_the_numbers_of_obligations,
+};
 pub use soundness::{
     made_objects_pass_their_checks, rising_places_are_statements,
     roles_are_of_checks_structure_and_conditions, texts_are_bounded,
 };
 pub use sources::{built_objects_are_of_their_sources, legal_sources_are_not_refused};
+pub use units::{refused_sources_have_no_units, units_of};

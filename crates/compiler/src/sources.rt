@@ -9,7 +9,7 @@ ghost use Rattle.cov_base.specs.declared.obligations.SourceFile.{SourceFile};
 ghost use Rattle.object_format.specs.File.{closed_object};
 ghost use Rattle.object_format.specs.Read.{IsObject, HasObject};
 ghost use Rattle.object_format.specs.declared.object.Object.{Object};
-ghost use Rattle.parsed_programs.specs.declared.fault.SourceFault.{SourceFault};
+ghost use Rattle.compiler.specs.declared.fault.SourceFault.{SourceFault};
 
 /// Sources that are a legal program are not refused, for no fault.
 pub fn legal_sources_are_not_refused()

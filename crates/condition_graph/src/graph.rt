@@ -109,6 +109,3 @@ impl Graph {
         }
     }
 }
-
-#[cfg(test)]
-mod tests;

@@ -24,35 +24,3 @@ pub fn put_u32(into: &mut Vec<u8>, value: u32) -> Result<(), AllocError>
 {
     into.extend_from_slice(&value.to_le_bytes())
 }
-
-#[cfg(test)]
-mod tests {
-    use super::*;
-    use std::test::Fail;
-
-    #[test]
-    fn numbers_are_four_bytes_least_first(rt: HostRuntime) -> Result<(), Fail> {
-        let mut bytes = Vec::from_slice(rt.alloc(), b"GCOB")?;
-        put_u32(&mut bytes, 1)?;
-        put_u32(&mut bytes, 0x1234_5678)?;
-        put_u32(&mut bytes, u32::MAX)?;
-        assert_eq!(rt;
-            bytes.as_slice(),
-            b"GCOB\x01\0\0\0\x78\x56\x34\x12\xff\xff\xff\xff".as_slice()
-        );
-        let places = [
-            (0, Some(0x424f_4347)),
-            (4, Some(1)),
-            (8, Some(0x1234_5678)),
-            (12, Some(u32::MAX)),
-            (13, None),
-            (16, None),
-            (17, None),
-            (usize::MAX, None),
-        ];
-        for (at, number) in places {
-            assert_eq!(rt; u32_at(bytes.as_slice(), at), number, "at {at}");
-        }
-        Ok(())
-    }
-}

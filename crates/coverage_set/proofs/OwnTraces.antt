@@ -21,7 +21,7 @@ use Rattle.object_facts.specs.Kinds.{ends_piece}
 use Rattle.object_facts.specs.Object.{facts_of, IsTranscript}
 use Rattle.object_format.specs.Checked.{IsSound}
 use Rattle.object_format.specs.declared.object.Object.{Object}
-use Rattle.run_transcript.specs.Held.{instruction_at}
+use Rattle.object_facts.specs.Held.{instruction_at}
 use Rattle.rv_machine.specs.Objects.{object_image, object_start, object_run}
 use Rattle.rv_semantics.specs.declared.stepped.Seen.{Seen}
 use Rattle.rv_semantics.specs.Run.Outcome.{Ended}

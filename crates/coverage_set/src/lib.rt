@@ -11,8 +11,6 @@ mod exact;
 mod laws;
 mod said;
 mod set;
-#[cfg(test)]
-mod tests;
 
 pub use coverage::Coverage;
 pub use laws::{

@@ -16,8 +16,6 @@ mod keep;
 mod kind;
 mod map;
 mod places;
-#[cfg(test)]
-mod tests;
 
 pub use checked::checked_objects_have_maps;
 pub use condition::Condition;

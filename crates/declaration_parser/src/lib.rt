@@ -15,8 +15,6 @@ mod generics;
 mod pragmas;
 mod profiles;
 mod subtypes;
-#[cfg(test)]
-mod tests;
 mod values;
 mod words;
 

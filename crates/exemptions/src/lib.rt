@@ -7,7 +7,5 @@
 
 mod mark;
 mod pairing;
-#[cfg(test)]
-mod tests;
 
 pub use pairing::{Unpaired, exempt, regions};

@@ -1,3 +1,4 @@
+pub mod Faults
 pub mod Agree
 pub mod ExpressionLocal
 pub mod Yields

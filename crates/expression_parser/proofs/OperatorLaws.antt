@@ -7,7 +7,7 @@ use Rattle.ada_syntax.specs.declared.expr.LogicalOperator.TheVariants as operato
 use Rattle.expression_parser.specs.declared.symbol.Symbol.{Symbol}
 use Rattle.expression_parser.specs.declared.symbol.Symbol.TheVariants as symbol
 use Rattle.expression_parser.specs.declared.extent.Extent.{Extent}
-use Rattle.expression_parser.specs.declared.extent.Extent.TheVariants.{Decisions}
+use Rattle.expression_parser.specs.declared.extent.Extent.TheVariants.{Decisions, ShortCircuit}
 use Rattle.expression_parser.specs.Symbols.{symbol_of, Is, same, first_word, second_word_of}
 use Rattle.expression_parser.specs.Extents.{opens}
 use Rattle.expression_parser.specs.Reading.{Tokens, Reader, Stuck, Refuse, Leave, Take, Look, goes_on, turned, on_token, provided, expect}
@@ -16,7 +16,7 @@ use Rattle.expression_parser.specs.Depth as at
 use Rattle.expression_parser.specs.Shows.{Skipped, after}
 use Rattle.expression_parser.specs.Operators.{Joint, HalfJoint, Chains}
 use Rattle.expression_parser.proofs.Comes.{got_bind, on_symbol}
-use Rattle.expression_parser.proofs.NameCode.{after_some, after_none}
+use Rattle.expression_parser.proofs.NameCode.{Next, after_some, after_none}
 
 module _ (x : Extent) where
   -- the second word of an operator
@@ -96,5 +96,36 @@ module _ (x : Extent) where
         ∙ (ap (λ b. turned (provided b (Take (on_token Refuse (read.or_turn x (read.expr x m) (suc m) a)))) t us) o ∙ or_alone_at m a us h);
     shorter = omega arith;
   }
+
+  -- `and then`, `or else`
+  and_pair_at : (m : ℕ) (a : Expr) (us vs : Tokens) → Next symbol.Then us vs → opens x ShortCircuit ≡ true → on_token Refuse (read.and_turn x (read.expr x m) (suc m) a) us ≡ at.at_chain x operator.AndThen a m vs
+  and_pair_at m a us vs n o =
+      rw n.here
+      (on_symbol Refuse (read.and_turn x (read.expr x m) (suc m) a) symbol.Then n.t vs n.is
+      ∙ ap (λ b. turned (provided b (Take (at.at_chain x operator.AndThen a m))) n.t vs) o)
+
+  or_pair_at : (m : ℕ) (a : Expr) (us vs : Tokens) → Next symbol.Else us vs → opens x ShortCircuit ≡ true → on_token Refuse (read.or_turn x (read.expr x m) (suc m) a) us ≡ at.at_chain x operator.OrElse a m vs
+  or_pair_at m a us vs n o =
+      rw n.here
+      (on_symbol Refuse (read.or_turn x (read.expr x m) (suc m) a) symbol.Else n.t vs n.is
+      ∙ ap (λ b. turned (provided b (Take (at.at_chain x operator.OrElse a m))) n.t vs) o)
+
+  pub and_pair : (t : Token) (us vs : Tokens) → Is symbol.And t → opens x Decisions ≡ true → after symbol.Then us ≡ Some vs → opens x ShortCircuit ≡ true → Chains x operator.AndThen (t ∷ us) vs
+  and_pair t us vs i o h s =
+      let n = after_some symbol.Then us vs h in
+      record {
+        by = λ a m. on_symbol (Leave a) (read.logical_turn x (read.expr x m) (suc m) a) symbol.And t us i
+            ∙ (ap (λ b. turned (provided b (Take (on_token Refuse (read.and_turn x (read.expr x m) (suc m) a)))) t us) o ∙ and_pair_at m a us vs n s);
+        shorter = omega (arith, ap length n.here);
+      }
+
+  pub or_pair : (t : Token) (us vs : Tokens) → Is symbol.Or t → opens x Decisions ≡ true → after symbol.Else us ≡ Some vs → opens x ShortCircuit ≡ true → Chains x operator.OrElse (t ∷ us) vs
+  or_pair t us vs i o h s =
+      let n = after_some symbol.Else us vs h in
+      record {
+        by = λ a m. on_symbol (Leave a) (read.logical_turn x (read.expr x m) (suc m) a) symbol.Or t us i
+            ∙ (ap (λ b. turned (provided b (Take (on_token Refuse (read.or_turn x (read.expr x m) (suc m) a)))) t us) o ∙ or_pair_at m a us vs n s);
+        shorter = omega (arith, ap length n.here);
+      }
 
 pub ruleset joints = (joint_alone, joint_pair, half_joint)

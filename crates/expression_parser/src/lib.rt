@@ -14,8 +14,6 @@ mod names;
 mod operators;
 mod parser;
 mod symbol;
-#[cfg(test)]
-mod tests;
 
 pub use crate::extent::Extent;
 pub use crate::fault::{Fault, Parsed};

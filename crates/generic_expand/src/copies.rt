@@ -4,14 +4,14 @@ use cov_base::{InstId, Seq};
 
 /// A copy of a body (RM 12.3): the instance that it belongs to, which is 0 outside generics, and the
 /// number of its subprogram in the program.
-#[derive(Clone, Copy, Debug, PartialEq, Eq)]
+#[derive(Clone, Copy)]
 pub struct BodyCopy {
     pub instance: InstId,
     pub subprogram: u32,
 }
 
 /// The copies of a program.
-#[derive(Debug, Drop)]
+#[derive(Drop)]
 pub struct Copies {
     /// In the order of the instances, and of the subprograms in each.
     pub bodies: Seq<BodyCopy>,

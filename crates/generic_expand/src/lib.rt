@@ -8,8 +8,6 @@
 mod copies;
 mod expansion;
 mod fault;
-#[cfg(test)]
-mod tests;
 
 pub use copies::{BodyCopy, Copies};
 pub use expansion::expand;

@@ -1,16 +1,10 @@
 //! gnatcov: structural coverage of programs from the traces of their runs.
 #![tactic(auto)]
 
-mod ready;
-mod run_lines;
-mod status;
-mod top_call;
-
+use commands::gnatcov;
 use cov_io::{HostFiles, HostSink};
-pub use status::Status;
 use std::process::ExitCode;
 use std::{env, io};
-pub use top_call::gnatcov;
 
 /// Calls [`gnatcov`] with the command words over real files and standard output, and ends with the
 /// status' number. Arguments that can't be had are no command.

@@ -43,3 +43,5 @@ pub mod CodeFitting
 pub mod LengthLimits
 pub mod Reaching
 pub mod PiecesFit
+pub mod Lines
+pub mod LineParts

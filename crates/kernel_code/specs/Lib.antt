@@ -14,3 +14,6 @@ pub mod Implements
 pub mod Marked
 pub mod Standing
 pub mod Pieces
+pub mod Frame
+pub mod Set
+pub mod View

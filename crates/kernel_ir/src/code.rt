@@ -6,7 +6,7 @@ use std::alloc::{AllocError, Global};
 use std::marker::Model;
 
 /// Operations in order.
-#[derive(Debug, Drop)]
+#[derive(Drop)]
 #[cycle(code)]
 pub struct Code {
     pub ops: Vec<Op>,
@@ -67,7 +67,7 @@ impl Code {
 }
 
 /// An operation.
-#[derive(Debug, Drop)]
+#[derive(Drop)]
 #[cycle(code)]
 pub enum Op {
     /// One that holds no others.
@@ -109,7 +109,7 @@ pub enum Op {
 
 /// A node of a decision: the code of its condition, the slot that holds its value then, and where its
 /// edges lead. The condition is True where the slot is 1.
-#[derive(Debug, Drop)]
+#[derive(Drop)]
 #[cycle(code)]
 pub struct Node {
     pub operand: Code,
@@ -119,7 +119,7 @@ pub struct Node {
 }
 
 /// Where an edge leads: to an outcome, or past this many nodes of those that follow.
-#[derive(Clone, Copy, Debug, PartialEq, Eq)]
+#[derive(Clone, Copy)]
 pub enum Edge {
     Leaf(bool),
     NodeAfter(u32),

@@ -4,7 +4,7 @@ use crate::code::Code;
 use cov_base::Seq;
 
 /// A body: its code, and how many words its frame has.
-#[derive(Debug, Drop)]
+#[derive(Drop)]
 pub struct Body {
     pub code: Code,
     pub width: u32,
@@ -12,7 +12,7 @@ pub struct Body {
 
 /// First values of a type's scalar parts. Layouts are named by their places in a kernel's list, and
 /// each names earlier ones alone.
-#[derive(Debug, Drop)]
+#[derive(Drop)]
 pub enum Layout {
     /// A scalar with this value.
     Word(i32),
@@ -24,7 +24,7 @@ pub enum Layout {
 
 /// A kernel. Bodies are named by their places. The words of the library-level objects come with their
 /// initial values. Exceptions have the numbers from 1 to `exceptions`.
-#[derive(Debug, Drop)]
+#[derive(Drop)]
 pub struct Kernel {
     pub bodies: Seq<Body>,
     pub main: u32,

@@ -14,8 +14,6 @@ mod code;
 mod kernel;
 mod laws;
 mod simple;
-#[cfg(test)]
-mod tests;
 
 pub use code::{Code, Edge, Node, Op};
 pub use kernel::{Body, Kernel, Layout};

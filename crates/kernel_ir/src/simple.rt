@@ -7,7 +7,7 @@ use cov_base::{InstId, StmtId};
 pub type Slot = u32;
 
 /// The operators on two integers (Ada RM 4.5.3, 4.5.5).
-#[derive(Clone, Copy, Debug, PartialEq, Eq)]
+#[derive(Clone, Copy)]
 pub enum Operator {
     Add,
     Subtract,
@@ -18,7 +18,7 @@ pub enum Operator {
 }
 
 /// The relations of two integers (Ada RM 4.5.2).
-#[derive(Clone, Copy, Debug, PartialEq, Eq)]
+#[derive(Clone, Copy)]
 pub enum Relation {
     Equal,
     Unequal,
@@ -30,7 +30,7 @@ pub enum Relation {
 
 /// An operation that holds no others. Each word is a number of 32 bits in two's complement. Addresses
 /// count words: the address of a word is its address in bytes, divided by 4.
-#[derive(Clone, Copy, Debug, PartialEq, Eq)]
+#[derive(Clone, Copy)]
 pub enum Simple {
     /// Sets a slot to a number.
     Number {

@@ -7,8 +7,6 @@
 
 mod roles;
 mod rows;
-#[cfg(test)]
-mod tests;
 
 pub use roles::{Role, RoleKind, Roles};
 pub use rows::{Row, Rows};

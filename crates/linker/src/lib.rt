@@ -9,8 +9,6 @@
 mod image;
 mod laws;
 mod linking;
-#[cfg(test)]
-mod tests;
 
 pub use image::Image;
 pub use laws::{items_have_their_marks, linked_marks_are_whole};

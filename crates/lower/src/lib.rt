@@ -11,8 +11,6 @@ mod expressions;
 mod laws;
 mod lowering;
 mod statements;
-#[cfg(test)]
-mod tests;
 
 pub use laws::{
     kernels_are_small, kernels_do_what_their_programs_do, kernels_hold_the_obligations,

@@ -4,4 +4,3 @@ pub mod Lists
 pub mod Causing
 pub mod Searching
 pub mod Taking
-pub mod Spelling

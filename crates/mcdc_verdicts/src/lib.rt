@@ -10,8 +10,6 @@
 mod edges;
 mod order;
 mod pair;
-#[cfg(test)]
-mod tests;
 mod verdict;
 
 pub use edges::all_edges;

@@ -8,7 +8,7 @@ use Rattle.decision_map.specs.Kinds.{has_edges, kind_in, kinds_of_text}
 use Rattle.decision_map.specs.Roles.{condition_at, needs_history, kind_at}
 use Rattle.object_format.specs.declared.object.Object.{Object}
 use Rattle.object_format.specs.Checked.{IsSound}
-use Rattle.run_transcript.specs.Held.{instruction_at}
+use Rattle.object_facts.specs.Held.{instruction_at}
 use Rattle.rv_semantics.specs.declared.stepped.Seen.{Seen}
 use Rattle.transcript.specs.Trace.{Branched, branched_by, kept_at, kept_of}
 use Rattle.object_facts.specs.Kinds.{ends_piece}

@@ -13,7 +13,7 @@ use Rattle.line_table.specs.declared.rows.Row.{Row as Line}
 use Rattle.object_format.specs.declared.object.Object.{Object}
 use Rattle.object_format.specs.Checked.{IsSound}
 use Rattle.object_format.specs.RowCheck.{is_in}
-use Rattle.run_transcript.specs.Held.{instruction_at, AreHeld}
+use Rattle.object_facts.specs.Held.{instruction_at, AreHeld}
 use Rattle.transcript.specs.Facts.{Row, Condition, AreFair}
 use Rattle.object_facts.specs.Object.{row_of, condition_of, facts_of}
 use Rattle.rv_machine.specs.Objects.{object_image}

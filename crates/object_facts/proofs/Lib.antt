@@ -1,3 +1,5 @@
+pub mod Steps
+pub mod Runs
 pub mod Words
 pub mod Fair
 pub mod Placed

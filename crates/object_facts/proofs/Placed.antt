@@ -14,9 +14,9 @@ use Rattle.rv_semantics.specs.Run.Outcome.{Ended}
 use Rattle.decision_meaning.specs.Pair.{Everywhere}
 use Rattle.object_format.specs.declared.object.Object.{Object}
 use Rattle.object_format.specs.Checked.{IsSound}
-use Rattle.run_transcript.specs.Held.{is_branch, is_transfer}
-use Rattle.run_transcript.proofs.Steps.{Shows, acts_so}
-use Rattle.run_transcript.proofs.Runs.{runs_good}
+use Rattle.object_facts.specs.Held.{is_branch, is_transfer}
+use Rattle.object_facts.proofs.Steps.{Shows, acts_so}
+use Rattle.object_facts.proofs.Runs.{runs_good}
 use Rattle.transcript.specs.Pieces.{IsEnded}
 use Rattle.transcript.proofs.Joined.{runs_append}
 use Rattle.object_facts.specs.Object.{facts_of, ArePlaced, IsTranscript}

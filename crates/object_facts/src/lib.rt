@@ -11,7 +11,7 @@ ghost use Rattle.decision_map.specs.Kinds.{has_edges};
 ghost use Rattle.decision_map.specs.Roles.{needs_history, kind_at};
 ghost use Rattle.object_format.specs.declared.object.Object.{Object};
 ghost use Rattle.object_format.specs.Checked.{IsSound};
-ghost use Rattle.run_transcript.specs.Held.{AreHeld};
+ghost use Rattle.object_facts.specs.Held.{AreHeld};
 ghost use Rattle.rv_semantics.specs.declared.stepped.Seen.{Seen};
 ghost use Rattle.rv_semantics.specs.Run.Outcome.{Ended};
 ghost use Rattle.transcript.specs.Facts.{AreFair};
@@ -20,6 +20,10 @@ ghost use Rattle.transcript.specs.Trace.{branched_by, kept_of};
 ghost use Rattle.object_facts.specs.Kinds.{ends_piece};
 ghost use Rattle.object_facts.specs.Object.{facts_of, IsTranscript};
 ghost use Rattle.rv_machine.specs.Objects.{object_image, object_run};
+
+mod machine_runs;
+
+pub use machine_runs::machine_runs_have_transcripts;
 
 /// An object that passes its checks has fair facts, and they are those of its text.
 pub fn objects_have_fair_facts()

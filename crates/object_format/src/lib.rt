@@ -13,8 +13,6 @@ mod object;
 mod parts;
 mod read;
 mod structure;
-#[cfg(test)]
-mod tests;
 mod write;
 
 pub use checks::an_object_is_laid_out;

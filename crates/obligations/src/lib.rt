@@ -10,7 +10,5 @@ mod listing;
 mod nested;
 mod program;
 mod statements;
-#[cfg(test)]
-mod tests;
 
 pub use program::obligations;

@@ -7,13 +7,14 @@ use Rattle.cov_base.specs.declared.position.Pos.{Pos}
 use Rattle.ada_lexer.specs.declared.token.Token.{Token}
 use Rattle.ada_lexer.specs.Tokens.{IsTokenOf, IsBefore}
 use Rattle.ada_syntax.specs.declared.unit.Unit.{Unit as LibraryUnit}
-use Rattle.ada_meaning.specs.Obligations.{precedes}
+use Rattle.cov_base.specs.TextOrder.{precedes}
 use Rattle.ada_places.specs.Places.{Order, outer, inner, Found, place_of}
 use Rattle.ada_places.proofs.Order.{earlier_precedes, never_itself}
 use Rattle.expression_parser.specs.declared.extent.Extent.{Extent}
 use Rattle.expression_parser.specs.Reading.{Tokens}
-use Rattle.legal_programs.specs.Rising as rising
-use Rattle.legal_programs.specs.Rising.{rise, stands_before, is_outer_of, DecisionsRise, StatementsRise}
+use Rattle.ada_places.specs.Rising as rising
+use Rattle.ada_places.specs.Rising.{stands_before, is_outer_of, DecisionsRise, StatementsRise}
+use Rattle.cov_base.specs.TextOrder.{rise}
 use Rattle.parsed_programs.specs.Parsed.{AreOfFiles, no_file, and_file}
 use Rattle.parsed_programs.proofs.Finds.{Finds, none_found, one_found, two_found, beyond, found_joined, tested_found, value_found, name_found, declaration_found}
 use Rattle.parsed_programs.proofs.Gathered.{Gathering, of_units, obligations, decisions, units_same, units_found, units_joined}

@@ -11,7 +11,7 @@ use Rattle.ada_syntax.specs.declared.statement.LoopScheme.{LoopScheme}
 use Rattle.ada_syntax.specs.declared.statement.LoopScheme.TheVariants as scheme
 use Rattle.ada_syntax.specs.declared.unit.LibraryItem.{LibraryItem}
 use Rattle.ada_syntax.specs.declared.unit.Unit.{Unit as LibraryUnit}
-use Rattle.statement_parser.specs.Trees.{with_branch}
+use Rattle.ada_parser.specs.Trees.{with_branch}
 use Rattle.ada_names.specs.Library.{declarations_of_item, statements_of_item}
 use Rattle.ada_names.specs.Naming.{declarations_in}
 use Rattle.ada_places.specs.Places.{Found, kind_places, declaration_places, statement_places, all_places, branch_places, handled_places, places_of, name_decisions, value_decisions, tested_decisions, kind_decisions, declaration_decisions, scheme_decisions, exit_decisions, statement_decisions, all_decisions, branch_decisions, handled_decisions, decisions_of_units}

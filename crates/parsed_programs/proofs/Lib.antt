@@ -3,5 +3,4 @@ pub mod Finds
 pub mod Gathered
 pub mod Nested
 pub mod Picks
-pub mod SourceLaws
 pub mod Within

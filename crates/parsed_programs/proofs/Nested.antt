@@ -21,9 +21,9 @@ use Rattle.expression_parser.specs.Expressions.{IsExpr, expression, IsName}
 use Rattle.expression_parser.specs.Syntax.{Suffix}
 use Rattle.declaration_parser.specs.Subtypes.{IsInitial, a_value, an_aggregate}
 use Rattle.declaration_parser.specs.Declarations.{IsDeclaration, AreDeclarations, no_declarations, more_declarations}
-use Rattle.statement_parser.specs.Words.{Word, word, Closes, closes}
-use Rattle.statement_parser.specs.Statements.{IsStatement, a_null, an_assignment, a_call, an_exemption, an_if, a_case, an_endless_loop, a_while, a_for, an_exit, a_return, a_raise, a_block, a_declaring_block, AreStatements, one_statement, more_statements, HasCondition, no_condition, a_condition, HasResult, no_result, a_result, IsDirection, forward, backward, IsBranch, a_branch, AreBranches, no_branches, more_branches, HasElse, no_else, an_else, IsLoop, a_loop, IsHandled, a_sequence}
-use Rattle.statement_parser.proofs.Suffixes.{statement_suffix, handlers_suffix}
+use Rattle.ada_parser.specs.Words.{Word, word, Closes, closes}
+use Rattle.ada_parser.specs.Statements.{IsStatement, a_null, an_assignment, a_call, an_exemption, an_if, a_case, an_endless_loop, a_while, a_for, an_exit, a_return, a_raise, a_block, a_declaring_block, AreStatements, one_statement, more_statements, HasCondition, no_condition, a_condition, HasResult, no_result, a_result, IsDirection, forward, backward, IsBranch, a_branch, AreBranches, no_branches, more_branches, HasElse, no_else, an_else, IsLoop, a_loop, IsHandled, a_sequence}
+use Rattle.ada_parser.proofs.Suffixes.{statement_suffix, handlers_suffix}
 use Rattle.ada_parser.specs.Grammar.{IsWith, a_with, AreWiths, no_withs, more_withs, IsEndName, no_end_name, an_end_name, IsEnd, an_end, IsBody, a_body, IsPackageRest, a_package_rest, IsItem, a_generic, a_package, a_package_body, an_instance, a_subprogram, IsUnit, a_unit, AreUnits, one_unit, more_units}
 use Rattle.ada_parser.proofs.UnitComplete.{end_word}
 use Rattle.ada_parser.proofs.UnitSuffixes.{item_suffix, specification_suffix}

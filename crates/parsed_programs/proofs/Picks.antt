@@ -22,7 +22,7 @@ use Rattle.expression_parser.specs.Syntax.{Suffix, all, after}
 use Rattle.declaration_parser.specs.Identifiers.{AreIdentifiers, one_identifier, more_identifiers}
 use Rattle.declaration_parser.specs.Declarations.{IsDeclaration, a_type, a_subtype, an_object, an_exception, an_exemption, IsConstancy, a_variable, a_constant, no_initial, an_initial}
 use Rattle.declaration_parser.specs.Subtypes.{IsInitial, a_value, an_aggregate, AreBounds, low_and_high, IsRange, a_mark, a_range, IsConstraint, no_constraint, a_constraint, IsIndication, an_indication}
-use Rattle.statement_parser.specs.Words.{Word, word, Named, name}
+use Rattle.ada_parser.specs.Words.{Word, word, Named, name}
 use Rattle.ada_parser.proofs.UnitSuffixes.{declaration_suffix}
 use Rattle.ada_places.specs.Places.{kind_places}
 

@@ -1,16 +1,13 @@
-//! Where the statements and decisions of parsed files stand, and that no sources are both parsed and refused. The
-//! functions here do nothing: they carry laws of the definitions as their contracts.
+//! Where the statements and decisions of parsed files stand. The functions here do nothing: they carry laws
+//! of the definitions as their contracts.
 
 ghost use Rattle.std.specs.Prelude.{ℕ, List};
 ghost use Rattle.ada_syntax.specs.declared.unit.Unit.{Unit as LibraryUnit};
 ghost use Rattle.ada_places.specs.Places.{unit_conditions, decision_places, places_of};
-ghost use Rattle.cov_base.specs.declared.obligations.SourceFile.{SourceFile};
 ghost use Rattle.expression_parser.specs.declared.extent.Extent.{Extent};
-ghost use Rattle.legal_programs.specs.Rising.{DecisionsRise, StatementsRise};
+ghost use Rattle.ada_places.specs.Rising.{DecisionsRise, StatementsRise};
 ghost use Rattle.parsed_programs.specs.Parsed.{AreOfFiles};
 ghost use Rattle.parsed_programs.specs.Places.{AreInFiles};
-ghost use Rattle.parsed_programs.specs.Sources.{HaveNoUnits, HaveUnits};
-ghost use Rattle.parsed_programs.specs.declared.fault.SourceFault.{SourceFault};
 
 /// The statements of files that are lexed, parsed and numbered as they come stand one after the
 /// other.
@@ -34,9 +31,4 @@ pub fn decisions_of_files_rise()
 pub fn decisions_of_files_stand_in_them()
     ensures decisions { (extent : Extent) (files : ℕ) (units : List LibraryUnit) → AreOfFiles extent files units → AreInFiles files (decision_places units) }
     ensures conditions { (extent : Extent) (files : ℕ) (units : List LibraryUnit) → AreOfFiles extent files units → AreInFiles files (unit_conditions units) }
-{}
-
-/// Sources that are refused have no units.
-pub fn refused_sources_have_no_units()
-    ensures { (files : List SourceFile) (fault : SourceFault) (units : List LibraryUnit) → HaveNoUnits files fault → HaveUnits files units → ⊥ }
 {}

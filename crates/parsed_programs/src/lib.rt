@@ -1,20 +1,13 @@
-//! From source files to library units: the files are lexed and parsed in their order, which numbers
-//! them from 0.
+//! Where the statements, decisions and conditions of parsed files stand: in their files, one after the
+//! other. The functions here do nothing: each carries a law of the definitions as its contract.
 //!
-//! The contract that the layers above use: [`units_of`] answers the library units of the files, or
-//! else the first fault, with its place; each step looks at all files before the next begins. The
-//! statements and the decisions of the units stand in these files, one after the other.
+//! `AreOfFiles` of `specs/Parsed.antt` says of library units that they are parsed from files, which are
+//! lexed in their order and numbered as they come.
 #![tactic(auto)]
 
-mod fault;
 mod laws;
-mod sources;
-#[cfg(test)]
-mod tests;
 
-pub use fault::{SourceFault, Why};
 pub use laws::{
-    decisions_of_files_rise, decisions_of_files_stand_in_them, refused_sources_have_no_units,
-    statements_of_files_rise, statements_of_files_stand_in_them,
+    decisions_of_files_rise, decisions_of_files_stand_in_them, statements_of_files_rise,
+    statements_of_files_stand_in_them,
 };
-pub use sources::units_of;

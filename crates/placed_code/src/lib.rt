@@ -15,8 +15,6 @@ mod environment;
 mod instructions;
 mod reach;
 mod stretches;
-#[cfg(test)]
-mod tests;
 
 pub use code::{a_text_stands, an_instruction_is_executed, code_stands_in_parts};
 pub use environment::the_environment_is_called;

@@ -8,8 +8,6 @@
 mod emulator;
 mod input;
 mod input_file;
-#[cfg(test)]
-mod tests;
 mod turn;
 
 pub use emulator::{Ending, RunFault, run};

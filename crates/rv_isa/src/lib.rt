@@ -19,6 +19,4 @@ mod instr;
 mod opcode;
 mod operands;
 mod ops;
-#[cfg(test)]
-mod tests;
 mod words;

@@ -11,7 +11,5 @@
 mod compute;
 mod machine;
 mod memory;
-#[cfg(test)]
-mod tests;
 
 pub use machine::Machine;

@@ -14,8 +14,6 @@
 mod laws;
 mod layout;
 mod stepped;
-#[cfg(test)]
-mod tests;
 
 pub use laws::{a_past_lists_the_run, a_run_has_one_ending};
 pub use layout::{DATA_START, MEMORY_BYTES, TEXT_START, place_of, word_at};

@@ -56,6 +56,3 @@ pub use format::{Formatted, Readable, Writable, one_spelling, one_value};
 pub use layers::{closed, digest, opened, seal, start_file};
 pub use list::{put_long_list, put_many, read_long_list, read_many};
 pub use number::{put_u64, read_bytes, read_digest, read_u8, read_u32, read_u64};
-
-#[cfg(test)]
-mod tests;

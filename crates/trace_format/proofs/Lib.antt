@@ -1,3 +1,2 @@
 pub mod TraceLaws
-pub mod Copies
 pub mod PassingLaws

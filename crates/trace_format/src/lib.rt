@@ -19,6 +19,3 @@ pub use laws::{one_trace, passing};
 pub use trace::{Block, HistoryEntry, NOT_TAKEN, TAKEN, Trace};
 pub use view::TraceView;
 pub use write::write_trace;
-
-#[cfg(test)]
-mod tests;

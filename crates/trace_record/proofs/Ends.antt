@@ -14,7 +14,7 @@ use Rattle.object_facts.proofs.Words.{kind_there, transfer_kind}
 use Rattle.object_facts.specs.Kinds.{ends_piece, is_executable}
 use Rattle.object_facts.specs.Object.{facts_of, IsTranscript}
 use Rattle.rv_machine.specs.Objects.{object_image}
-use Rattle.run_transcript.specs.Held.{instruction_at}
+use Rattle.object_facts.specs.Held.{instruction_at}
 use Rattle.rv_semantics.specs.declared.stepped.Seen.{Seen}
 use Rattle.transcript.proofs.Blocks.{all_closed}
 use Rattle.transcript.proofs.Lists.{at_one, in_left}

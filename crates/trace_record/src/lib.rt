@@ -12,8 +12,6 @@ mod history;
 mod laws;
 mod mark;
 mod recorder;
-#[cfg(test)]
-mod tests;
 
 pub use laws::histories_are_no_longer_than_runs;
 pub use recorder::Recorder;

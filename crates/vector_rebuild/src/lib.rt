@@ -10,8 +10,6 @@ mod edges;
 mod fault;
 mod half;
 mod rebuild;
-#[cfg(test)]
-mod tests;
 mod visit;
 
 pub use edges::from_edges;

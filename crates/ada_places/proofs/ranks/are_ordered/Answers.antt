@@ -1,6 +1,6 @@
 use Rattle.std.proofs.Common.{rules, refl, not}
 use Rattle.std.proofs.lemmas.Fn.{always_returns_same}
-use Rattle.ada_meaning.specs.Obligations.{precedes}
+use Rattle.cov_base.specs.TextOrder.{precedes}
 use Rattle.ada_places.proofs.Order.{ordered_answer}
 use Rattle.ada_places.proofs.ranks.are_ordered.Goals as goal
 

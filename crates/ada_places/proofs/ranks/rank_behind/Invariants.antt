@@ -1,7 +1,7 @@
 -- The places so far that do not come behind, and those of the rest, are all; and there are no more than turns.
 use Rattle.std.proofs.Common.{◌≡◌, not, ◌+◌, ◌≤◌, drop}
 use Rattle.std.specs.List.{count_by}
-use Rattle.ada_meaning.specs.Obligations.{precedes}
+use Rattle.cov_base.specs.TextOrder.{precedes}
 use Rattle.ada_places.proofs.ranks.rank_behind.Given as goal
 
 abbrev pub invariant-loop-other : goal.invariant-loop-other

@@ -1,6 +1,6 @@
 use Rattle.std.proofs.Common.{rules, of_calls, sym, not}
 use Rattle.std.proofs.lemmas.Fn.{always_returns_same}
-use Rattle.ada_meaning.specs.Obligations.{precedes}
+use Rattle.cov_base.specs.TextOrder.{precedes}
 use Rattle.ada_places.proofs.Order.{parted_behind, counted}
 use Rattle.ada_places.proofs.ranks.rank_behind_in_order.Goals as goal
 

@@ -1,5 +1,5 @@
 use Rattle.std.proofs.lemmas.Result.{on_ok_weaker}
-use Rattle.simple_code.proofs.Behind.{three_parts}
+use Rattle.kernel_code.proofs.LineParts.{three_parts}
 use Rattle.codegen_rv32.proofs.fills.put_components.Goals as goal
 
 pub returns : goal.returns

@@ -1,5 +1,5 @@
 use Rattle.std.proofs.lemmas.Result.{on_ok_weaker}
-use Rattle.simple_code.specs.Set.{setting_of}
+use Rattle.kernel_code.specs.Set.{setting_of}
 use Rattle.codegen_rv32.proofs.Behind.{call_put}
 use Rattle.codegen_rv32.proofs.parts.put_call.Goals as goal
 

@@ -1,6 +1,6 @@
 use Rattle.std.proofs.Common.{◌≡◌, ◌++◌, drop}
 use Rattle.kernel_code.specs.Line.{items_of}
-use Rattle.simple_code.specs.View.{lines_of}
+use Rattle.kernel_code.specs.View.{lines_of}
 use Rattle.codegen_rv32.proofs.pieces.items_of.Given as goal
 
 -- the items so far and those to come are all

@@ -1,6 +1,6 @@
 use Rattle.std.proofs.Common.{◌≡◌, ◌++◌, drop}
 use Rattle.kernel_code.specs.Line.{marks_from}
-use Rattle.simple_code.specs.View.{lines_of}
+use Rattle.kernel_code.specs.View.{lines_of}
 use Rattle.codegen_rv32.proofs.pieces.marks_of.Given as goal
 
 -- the marks so far and those to come are all

@@ -1,5 +1,5 @@
 use Rattle.std.proofs.Common.{◌≡◌, ◌++◌, drop}
-use Rattle.simple_code.specs.Set.{setting_of}
+use Rattle.kernel_code.specs.Set.{setting_of}
 use Rattle.codegen_rv32.specs.Set.{body_pieces}
 use Rattle.codegen_rv32.proofs.pieces.put_bodies.Given as goal
 

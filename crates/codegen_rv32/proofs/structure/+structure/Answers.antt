@@ -3,7 +3,7 @@ use Rattle.std.proofs.lemmas.Result.{on_ok_weaker}
 use Rattle.kernel_ir.specs.Tree.{op_size}
 use Rattle.kernel_ir.specs.TreeView.{op_of, nodes_of}
 use Rattle.kernel_ir.proofs.SizeLaws.{op_within}
-use Rattle.simple_code.specs.Set.{setting_of}
+use Rattle.kernel_code.specs.Set.{setting_of}
 use Rattle.codegen_rv32.specs.Set.{targets_of}
 use Rattle.codegen_rv32.proofs.Behind.{choose_put, repeat_put, catch_put, decide_put, node_put, node_of_slice, rest_smaller}
 use Rattle.codegen_rv32.proofs.structure.+structure.Goals as goal

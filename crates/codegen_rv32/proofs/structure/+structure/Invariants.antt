@@ -2,7 +2,7 @@ use Rattle.std.proofs.Common.{◌≡◌, ◌+◌, ◌*◌, ◌++◌, drop}
 use Rattle.kernel_ir.specs.Tree.{code_size, op_size, nodes_size}
 use Rattle.kernel_ir.specs.TreeView.{ops_of, op_of, nodes_of}
 use Rattle.kernel_code.specs.Code.{code_lines}
-use Rattle.simple_code.specs.Set.{setting_of}
+use Rattle.kernel_code.specs.Set.{setting_of}
 use Rattle.codegen_rv32.specs.Set.{targets_of}
 use Rattle.codegen_rv32.proofs.structure.+structure.Given as goal
 

@@ -1,0 +1,133 @@
+-- How statements and sequences of them are read, answer by answer.
+use Rattle.std.proofs.Common.{◌≡◌, ℕ, suc, ◌<◌, ◌≤◌, true, false, cond, List, [], ◌∷◌, ◌++◌, length, Option, Some, None, refl, ap, sym, ◌∙◌, subst, arith}
+use Rattle.std.proofs.lemmas.Bool.{false≢true}
+use Rattle.cov_base.specs.declared.position.Pos.{Pos}
+use Rattle.ada_lexer.specs.declared.token.Token.{Token}
+use Rattle.ada_syntax.specs.Tree.{Expr, Name}
+use Rattle.ada_syntax.specs.StatementTree as tree
+use Rattle.ada_syntax.specs.StatementTree.{Statement, Branches, Alternatives, Handlers, Handled}
+use Rattle.ada_syntax.specs.StatementView.{statements_of, branches_of, alternatives_of, handlers_of}
+use Rattle.ada_syntax.specs.declared.name.Identifier.{Identifier}
+use Rattle.ada_syntax.specs.declared.declaration.Declaration.{Declaration}
+use Rattle.ada_syntax.specs.declared.declaration.DiscreteRange.{DiscreteRange}
+use Rattle.ada_syntax.specs.declared.statement.Branch.{Branch}
+use Rattle.ada_syntax.specs.declared.statement.Alternative.{Alternative}
+use Rattle.ada_syntax.specs.declared.statement.Handler.{Handler}
+use Rattle.ada_syntax.specs.declared.statement.Choice.{Choice}
+use Rattle.ada_syntax.specs.declared.statement.ExceptionChoice.{ExceptionChoice}
+use Rattle.ada_syntax.specs.declared.statement.LoopScheme.{LoopScheme}
+use Rattle.ada_syntax.specs.declared.statement.LoopScheme.TheVariants.{Forever, While, For}
+use Rattle.ada_syntax.specs.declared.statement.Direction.{Direction}
+use Rattle.expression_parser.specs.declared.symbol.Symbol.{Symbol}
+use Rattle.expression_parser.specs.declared.symbol.Symbol.TheVariants as symbol
+use Rattle.expression_parser.specs.declared.extent.Extent.{Extent}
+use Rattle.expression_parser.specs.declared.extent.Extent.TheVariants.{Decisions, Types, Exceptions}
+use Rattle.expression_parser.specs.Symbols.{symbol_of, same, Is, identifier_of}
+use Rattle.expression_parser.specs.Extents.{opens}
+use Rattle.expression_parser.specs.Reading.{Tokens, Reading, Reader, Got, Stuck, Turn, Refuse, Leave, Take, Look, got, goes_on, ◌>>=◌, turned, provided, expect, skip, repeat}
+use Rattle.expression_parser.specs.Depth.{at_expr}
+use Rattle.expression_parser.specs.Shows.{Reads, More, Skipped, Identified, after, next_is}
+use Rattle.expression_parser.proofs.Comes.{got_bind, got_then, on_symbol}
+use Rattle.expression_parser.proofs.Loops.{more_end, more_leave, more_look, more_look_stuck}
+use Rattle.expression_parser.proofs.NameCode.{after_some, after_none}
+use Rattle.declaration_parser.specs.SubtypeReading.{range_by}
+use Rattle.declaration_parser.specs.DeclarationReading.{declarations_by}
+use Rattle.ada_parser.specs.Lists.{closing, ending}
+use Rattle.ada_parser.specs.Endings.{Closed, NotClosed, Ended, NotEnded}
+use Rattle.ada_parser.specs.Trees.{with_branch, with_alternative, with_handler}
+use Rattle.ada_parser.specs.Parts.{branch_parts, alternative_parts, handler_parts}
+use Rattle.ada_parser.specs.StatementReading as read
+use Rattle.ada_parser.specs.StatementDepth as at
+use Rattle.ada_parser.proofs.Steps.{both, first_fails, word_then, no_word, done, deeper, takes, takes_deeper, looks, leaves, refuses, turns, list_step, list_step_fail, list_end, closing_then, no_closing, ending_then, no_ending}
+
+module _ (x : Extent) where
+  abbrev statement_on : ℕ → Symbol → Token → Turn Statement
+  statement_on m = read.statement_turn x (read.statements x m) m
+
+  pub nothing_left : Reads (at.at_statement x) [] (Stuck [])
+  nothing_left = record { by = λ m h. refl }
+
+  pub a_null : (t : Token) (us : Tokens) (q : Reading Statement) → Is symbol.Null t → Reads (at.at_null t.pos) us q → Reads (at.at_statement x) (t ∷ us) q
+  a_null t us q i f = takes Refuse statement_on t us (at.at_null t.pos) (λ m. ap (λ s. statement_on m s t) i) f
+
+  pub a_name : (t : Token) (us : Tokens) (q : Reading Statement) → Is symbol.Identifier t → Reads (at.at_named x t.pos) (t ∷ us) q → Reads (at.at_statement x) (t ∷ us) q
+  a_name t us q i f = looks Refuse statement_on t us (at.at_named x t.pos) (λ m. ap (λ s. statement_on m s t) i) f
+
+  pub a_pragma : (t : Token) (us : Tokens) (q : Reading Statement) → Is symbol.Pragma t → Reads (at.at_exemption x t.pos) (t ∷ us) q → Reads (at.at_statement x) (t ∷ us) q
+  a_pragma t us q i f = looks Refuse statement_on t us (at.at_exemption x t.pos) (λ m. ap (λ s. statement_on m s t) i) f
+
+  pub an_exit : (t : Token) (us : Tokens) (q : Reading Statement) → Is symbol.Exit t → opens x Decisions ≡ true → Reads (at.at_exit x t.pos) us q → Reads (at.at_statement x) (t ∷ us) q
+  an_exit t us q i o f = takes Refuse statement_on t us (at.at_exit x t.pos) (λ m. ap (λ s. statement_on m s t) i ∙ ap (λ b. provided b (Take (at.at_exit x t.pos m))) o) f
+
+  pub exit_closed : (t : Token) (us : Tokens) → Is symbol.Exit t → opens x Decisions ≡ false → Reads (at.at_statement x) (t ∷ us) (Stuck (t ∷ us))
+  exit_closed t us i o = refuses Refuse statement_on t us (λ m. ap (λ s. statement_on m s t) i ∙ ap (λ b. provided b (Take (at.at_exit x t.pos m))) o)
+
+  pub a_return : (t : Token) (us : Tokens) (q : Reading Statement) → Is symbol.Return t → Reads (at.at_return x t.pos) us q → Reads (at.at_statement x) (t ∷ us) q
+  a_return t us q i f = takes Refuse statement_on t us (at.at_return x t.pos) (λ m. ap (λ s. statement_on m s t) i) f
+
+  pub a_raise : (t : Token) (us : Tokens) (q : Reading Statement) → Is symbol.Raise t → opens x Exceptions ≡ true → Reads (at.at_raise x t.pos) us q → Reads (at.at_statement x) (t ∷ us) q
+  a_raise t us q i o f = takes Refuse statement_on t us (at.at_raise x t.pos) (λ m. ap (λ s. statement_on m s t) i ∙ ap (λ b. provided b (Take (at.at_raise x t.pos m))) o) f
+
+  pub raise_closed : (t : Token) (us : Tokens) → Is symbol.Raise t → opens x Exceptions ≡ false → Reads (at.at_statement x) (t ∷ us) (Stuck (t ∷ us))
+  raise_closed t us i o = refuses Refuse statement_on t us (λ m. ap (λ s. statement_on m s t) i ∙ ap (λ b. provided b (Take (at.at_raise x t.pos m))) o)
+
+  other_at : (m : ℕ) (s : Symbol) (t : Token) → (s ≡ symbol.Null → ⊥) → (s ≡ symbol.Identifier → ⊥) → (s ≡ symbol.Pragma → ⊥) → (s ≡ symbol.Exit → ⊥) → (s ≡ symbol.Return → ⊥) → (s ≡ symbol.Raise → ⊥) → statement_on m s t ≡ Look (at.at_compound x m)
+  other_at m symbol.Null t a b c d e f = absurd (a refl)
+  other_at m symbol.Identifier t a b c d e f = absurd (b refl)
+  other_at m symbol.Pragma t a b c d e f = absurd (c refl)
+  other_at m symbol.Exit t a b c d e f = absurd (d refl)
+  other_at m symbol.Return t a b c d e f = absurd (e refl)
+  other_at m symbol.Raise t a b c d e f = absurd (f refl)
+  other_at m _ t a b c d e f = refl
+
+  pub other : (t : Token) (us : Tokens) (q : Reading Statement) → (symbol_of t.lexeme ≡ symbol.Null → ⊥) → (symbol_of t.lexeme ≡ symbol.Identifier → ⊥) → (symbol_of t.lexeme ≡ symbol.Pragma → ⊥) → (symbol_of t.lexeme ≡ symbol.Exit → ⊥)
+      → (symbol_of t.lexeme ≡ symbol.Return → ⊥) → (symbol_of t.lexeme ≡ symbol.Raise → ⊥) → Reads (at.at_compound x) (t ∷ us) q → Reads (at.at_statement x) (t ∷ us) q
+  other t us q a b c d e f r = looks Refuse statement_on t us (at.at_compound x) (λ m. other_at m (symbol_of t.lexeme) t a b c d e f) r
+
+  -- stmt {stmt}
+  abbrev pub statement_turns : ℕ → Symbol → Token → List Statement → Turn (List Statement)
+  statement_turns m = read.statements_turn x (read.statements x m) m
+
+  abbrev another : List Statement → ℕ → Reader (List Statement)
+  another ss m = at.at_statement x m >>= λ s. got (ss ++ s ∷ [])
+
+  pub statements_begin : (ts rest : Tokens) (s : Statement) → Reads (at.at_statement x) ts (Got s rest) → length rest < length ts → (q : Reading (List Statement)) → More statement_turns rest (s ∷ []) q → Reads (at.at_statements x) ts q
+  statements_begin ts rest s r l q f = both (λ m z. repeat (statement_turns m) (suc m) (z ∷ [])) r (omega arith) (record { by = λ m h. f.by m (suc m) h (omega arith) })
+
+  pub statements_fail : (ts rest : Tokens) → Reads (at.at_statement x) ts (Stuck rest) → Reads (at.at_statements x) ts (Stuck rest)
+  statements_fail ts rest r = first_fails (λ m z. repeat (statement_turns m) (suc m) (z ∷ [])) r
+
+  pub statements_step : (ts rest : Tokens) (ss : List Statement) (s : Statement) → next_is read.begins_statement ts ≡ true → Reads (at.at_statement x) ts (Got s rest) → length rest < length ts → (q : Reading (List Statement)) → More statement_turns rest (ss ++ s ∷ []) q
+      → More statement_turns ts ss q
+  statements_step [] rest ss s b r l q f = absurd (false≢true b)
+  statements_step (t ∷ us) rest ss s b r l q f = more_look statement_turns ss (ss ++ s ∷ []) t us rest (another ss) q (λ m. ap (λ z. cond z (Look (another ss m)) (Leave ss)) b) (λ m h. got_then (λ z. ss ++ z ∷ []) (r.by m h)) l f
+
+  pub statements_step_fail : (ts rest : Tokens) (ss : List Statement) → next_is read.begins_statement ts ≡ true → Reads (at.at_statement x) ts (Stuck rest) → More statement_turns ts ss (Stuck rest)
+  statements_step_fail [] rest ss b r = absurd (false≢true b)
+  statements_step_fail (t ∷ us) rest ss b r = more_look_stuck statement_turns ss t us rest (another ss) (λ m. ap (λ z. cond z (Look (another ss m)) (Leave ss)) b) (λ m h. ap (goes_on (λ z. got (ss ++ z ∷ []))) (r.by m h))
+
+  pub statements_end : (ts : Tokens) (ss : List Statement) → next_is read.begins_statement ts ≡ false → More statement_turns ts ss (Got ss ts)
+  statements_end [] ss b = more_end statement_turns ss
+  statements_end (t ∷ us) ss b = more_leave statement_turns ss t us (λ m. ap (λ z. cond z (Look (another ss m)) (Leave ss)) b)
+
+  -- stmts [handlers]
+  abbrev after_statements : ℕ → List Statement → Reader Handled
+  after_statements m ss = at.at_handlers x m >>= λ hs. got (tree.handled (statements_of ss) hs)
+
+  handled_then : {ss : List Statement} {ts us : Tokens} {q : Reading Handled} → Reads (at.at_statements x) ts (Got ss us) → length us < length ts → Reads (λ m. after_statements m ss) us q → Reads (at.at_handled x) ts q
+  handled_then r l f = record { by = λ m h. got_bind (after_statements (suc m)) (r.by m h) (f.by (suc m) (omega arith)) }
+
+  pub handled_read : (ts us rest : Tokens) (ss : List Statement) (hs : Handlers) → Reads (at.at_statements x) ts (Got ss us) → length us < length ts → Reads (at.at_handlers x) us (Got hs rest) → length rest ≤ length us → Reads (at.at_handled x) ts (Got (tree.handled (statements_of ss) hs) rest)
+  handled_read ts us rest ss hs r l s k = handled_then r l (both (λ m zs. got (tree.handled (statements_of ss) zs)) s k (done _ rest))
+
+  pub handled_fail : (ts rest : Tokens) → Reads (at.at_statements x) ts (Stuck rest) → Reads (at.at_handled x) ts (Stuck rest)
+  handled_fail ts rest r = record { by = λ m h. ap (goes_on (after_statements (suc m))) (r.by m h) }
+
+  pub handlers_fail : (ts us rest : Tokens) (ss : List Statement) → Reads (at.at_statements x) ts (Got ss us) → length us < length ts → Reads (at.at_handlers x) us (Stuck rest) → Reads (at.at_handled x) ts (Stuck rest)
+  handlers_fail ts us rest ss r l s = handled_then r l (first_fails (λ m zs. got (tree.handled (statements_of ss) zs)) s)
+
+pub ruleset statement_rules = (nothing_left, a_null, a_name, a_pragma, an_exit, exit_closed, a_return, a_raise, raise_closed, other)
+
+pub ruleset statements_rules = (statements_begin, statements_fail, statements_step, statements_step_fail, statements_end)
+
+pub ruleset handled_rules = (handled_read, handled_fail, handlers_fail)

@@ -1,0 +1,123 @@
+//! Statements, and sequences of them (Ada RM 2012, 5.1, 11.2).
+
+ghost use Rattle.std.specs.Prelude.{◌≡◌, ◌<◌, length, IfOk};
+ghost use Rattle.expression_parser.specs.Shows.{Shows, ShowsAs, Reads, next_is};
+ghost use Rattle.ada_parser.specs.StatementReading as read;
+ghost use Rattle.ada_parser.specs.StatementDepth as at;
+
+use crate::arms::handlers;
+use crate::compound::compound;
+use crate::simple::{exemption, exit, named, null, raise, returns};
+use ada_lexer::Token;
+use ada_syntax::{HandledStatements, Statement};
+use expression_parser::{Extent, Fault, Parsed, Parser, Symbol, symbol_in};
+
+/// How deep statements may stand in one another: each level takes stack.
+const DEPTH: u32 = 128;
+
+/// Whether the next token begins a statement.
+fn begins_statement(tokens: &[Token]) -> bool
+    ensures { result ≡ next_is read.begins_statement tokens.now }
+{
+    let Some((token, _)) = tokens.split_first() else {
+        return false;
+    };
+    matches!(
+        symbol_in(token.lexeme),
+        Symbol::Null
+            | Symbol::Identifier
+            | Symbol::Pragma
+            | Symbol::If
+            | Symbol::Case
+            | Symbol::Loop
+            | Symbol::While
+            | Symbol::For
+            | Symbol::Exit
+            | Symbol::Return
+            | Symbol::Raise
+            | Symbol::Begin
+            | Symbol::Declare
+    )
+}
+
+/// A statement. `exit` comes with [`Extent::Decisions`], `raise` with [`Extent::Exceptions`].
+#[cycle(statement)]
+#[tactic(auto, using(crate::proofs::StatementCode::statement_rules))]
+fn statement<'a>(parser: Parser, depth: u32, tokens: &'a [Token]) -> Parsed<'a, Statement>
+    ensures reads { Shows (Reads (at.at_statement parser.extent) tokens.now) result }
+    ensures shorter { IfOk result (λ x. length x.1.now < length tokens.now) }
+{
+    let Some((token, rest)) = tokens.split_first() else {
+        return Err(Fault::Syntax(tokens));
+    };
+    let pos = token.pos;
+    match symbol_in(token.lexeme) {
+        Symbol::Null => null(pos, rest),
+        Symbol::Identifier => named(parser, pos, tokens),
+        Symbol::Pragma => exemption(parser, pos, tokens),
+        Symbol::Exit => {
+            parser.needs(Extent::Decisions, tokens)?;
+            exit(parser, pos, rest)
+        }
+        Symbol::Return => returns(parser, pos, rest),
+        Symbol::Raise => {
+            parser.needs(Extent::Exceptions, tokens)?;
+            raise(parser, pos, rest)
+        }
+        _ => compound(parser, depth, tokens),
+    }
+}
+
+/// `stmt {stmt}`
+#[cycle(statement)]
+#[tactic(auto, using(crate::proofs::StatementCode::statements_rules))]
+fn statements<'a>(parser: Parser, depth: u32, tokens: &'a [Token]) -> Parsed<'a, Vec<Statement>>
+    ensures reads { ShowsAs (λ v. v.items) (Reads (at.at_statements parser.extent) tokens.now) result }
+    ensures shorter { IfOk result (λ x. length x.1.now < length tokens.now) }
+{
+    let (first, mut rest) = statement(parser, depth, tokens)?;
+    let mut statements = Vec::new(parser.alloc);
+    statements.push(first)?;
+    'rest: while begins_statement(rest) {
+        let (statement, next) = statement(parser, depth, rest)?;
+        statements.push(statement)?;
+        rest = next;
+    }
+    Ok((statements, rest))
+}
+
+/// `stmt {stmt}` within a statement. Where they stand too deep, memory is wanting.
+#[cycle(statement)]
+pub fn nested<'a>(parser: Parser, depth: u32, tokens: &'a [Token]) -> Parsed<'a, Vec<Statement>>
+    ensures reads { ShowsAs (λ v. v.items) (Reads (at.at_statements parser.extent) tokens.now) result }
+    ensures shorter { IfOk result (λ x. length x.1.now < length tokens.now) }
+{
+    let Some(depth) = depth.checked_sub(1) else {
+        return Err(Fault::Memory);
+    };
+    statements(parser, depth, tokens)
+}
+
+/// `stmts [handlers]`
+#[cycle(statement)]
+#[tactic(auto, using(crate::proofs::StatementCode::handled_rules))]
+pub fn handled<'a>(parser: Parser, depth: u32, tokens: &'a [Token]) -> Parsed<'a, HandledStatements>
+    ensures reads { Shows (Reads (at.at_handled parser.extent) tokens.now) result }
+    ensures shorter { IfOk result (λ x. length x.1.now < length tokens.now) }
+{
+    let (statements, rest) = nested(parser, depth, tokens)?;
+    let (handlers, rest) = handlers(parser, depth, rest)?;
+    let handled = HandledStatements {
+        statements,
+        handlers,
+    };
+    Ok((handled, rest))
+}
+
+/// `stmts [handlers]` behind `BEGIN`
+pub fn handled_statements<'a>(parser: Parser, tokens: &'a [Token]) -> Parsed<'a, HandledStatements>
+    ensures reads { Shows (Reads (at.at_handled parser.extent) tokens.now) result }
+    ensures shorter { IfOk result (λ x. length x.1.now < length tokens.now) }
+{
+    handled(parser, DEPTH, tokens)
+}

@@ -1,0 +1,252 @@
+-- When commands do their work.
+use Rattle.std.proofs.Common.{◌≡◌, inl, inr, ⊎_elim, ℕ, ◌+◌, ◌&&◌, Bool, true, ℤ, List, [], ◌∷◌, IfSome, MatchOption, Option, Some, None, Result, Ok, Err, refl, sym, subst, ◌∙◌}
+use Rattle.std.specs.FinMap as finmap
+use Rattle.command_words.specs.Task.{Task, Compile, Run, Coverage}
+use Rattle.compiler.proofs.Refusals.{not_refused}
+use Rattle.compiler.specs.Behaves.{number_of}
+use Rattle.cov_io.specs.Outside.{Held}
+use Rattle.coverage_set.proofs.OwnTraces.{own_fits, own_follows}
+use Rattle.decision_map.specs.Fits.{fault_of}
+use Rattle.decision_meaning.specs.Pair.{Everywhere}
+use Rattle.commands.specs.Complete.{NothingFails, IsDone, LegalSourcesCompile, ProgramsRun, ProgramsDoNotTrap, TracesAreCovered}
+use Rattle.commands.specs.Content.{IsFileOf, IsTraceFor, sources_of, IsInputOf, RefusesSource, RefusesTrace, StopsRun, trace_file, Follows}
+use Rattle.commands.specs.declared.status.FileRef.TheVariants.{Word}
+use Rattle.commands.specs.declared.status.Status.{Status}
+use Rattle.commands.specs.declared.status.Status.TheVariants.{Done, Usage, SourceRefused, ObjectRefused, TraceRefused, InputRefused, OverBudget, Trap, ReadFault, WriteFault, WantOfMemory}
+use Rattle.commands.specs.Outcome.{Call, Because, Answers}
+use Rattle.commands.specs.RunsCovered.{ARun, transcript_of, IsTraceOf, AreTracesOf, digest_of_run}
+use Rattle.commands.specs.Verdict.{Output, AfterRead, AfterObject, AfterInput, AfterTrace, AfterTraces, Compiles, RunsOn, Covers, ComesTo}
+use Rattle.commands.proofs.HeadlineLaws.{is_file, all_fair}
+use Rattle.commands.proofs.InputLaws.{numbers_fit}
+use Rattle.object_facts.specs.Object.{facts_of}
+use Rattle.object_format.proofs.FileLaws.{one_object, structured_only}
+use Rattle.object_format.specs.Checked.{IsSound, FailsFirst}
+use Rattle.object_format.specs.declared.fault.ObjectFault.{ObjectFault}
+use Rattle.object_format.specs.declared.fault.ObjectFault.TheVariants.{Short, Magic, Version, Long, Damaged, Field, Decision, Row, Role}
+use Rattle.object_format.specs.declared.object.Object.{Object}
+use Rattle.object_format.specs.Fields.{passes_field}
+use Rattle.object_format.specs.File.{object_bytes, structured}
+use Rattle.object_format.specs.Read.{is_plain, passes_plain_field, IsRefusedFor}
+use Rattle.rv_machine.specs.Objects.{object_run}
+use Rattle.rv_semantics.specs.declared.stepped.TrapWhy.{TrapWhy}
+use Rattle.rv_semantics.specs.Run.Outcome.{Ended, Trapped}
+use Rattle.trace_format.specs.declared.fault.TraceFault.{TraceFault}
+use Rattle.trace_format.specs.Trace.{TraceFile}
+use Rattle.transcript.proofs.Broken.{whole_law, broken_law}
+use Rattle.transcript.specs.Reading.{AllFollow, IsDisciplined}
+use Rattle.vector_rebuild.specs.Rebuilt.{visits_of}
+
+-- a refusal, as a verdict
+abbrev refused : Status → Result Output Status
+refused status = Err status
+
+-- ---- what nothing stops is done
+
+-- what is told of what is held
+told_of : (held : Held) (there : Option Held) (P : Held → Type 0) → there ≡ Some held → IfSome there P → P held
+told_of held there P holds says = subst (λ (h : Option Held). IfSome h P) holds says
+
+done_unless : (held : Held) (task : Task) (call : Call) (status : Status) → call.held ≡ Some held → NothingFails call
+    → ((s : Status) → ComesTo held task (refused s) → ⊥) → Because task call status → IsDone status
+done_unless held task call Done holds fine never b = inl refl
+done_unless held task call Usage holds fine never b = absurd b
+done_unless held task call WriteFault holds fine never b = absurd (⊎_elim (λ f. fine.writes f.writes) (λ f. fine.puts f.failures) b.delivers)
+done_unless held task call WantOfMemory holds fine never b = inr refl
+done_unless held task call (ReadFault file) holds fine never b =
+    absurd (⊎_elim (λ rose. fine.reads rose) (λ absent. never (ReadFault file) (rw holds at absent.1)) b.0.1)
+done_unless held task call (SourceRefused file line col why) holds fine never b = absurd (never (SourceRefused file line col why) (told_of held call.held _ holds b.0.1))
+done_unless held task call (ObjectRefused why) holds fine never b = absurd (never (ObjectRefused why) (told_of held call.held _ holds b.0.1))
+done_unless held task call (TraceRefused index why) holds fine never b = absurd (never (TraceRefused index why) (told_of held call.held _ holds b.0.1))
+done_unless held task call (InputRefused line) holds fine never b = absurd (never (InputRefused line) (told_of held call.held _ holds b.0.1))
+done_unless held task call (OverBudget count) holds fine never b = absurd (never (OverBudget count) (told_of held call.held _ holds b.0.1))
+done_unless held task call (Trap pc why) holds fine never b = absurd (never (Trap pc why) (told_of held call.held _ holds b.0.1))
+
+asked : (task : Task) (words : Option Task) (call : Call) (status : Status) → words ≡ Some task → Answers words call status → Because task call status
+asked task words call status is answers = subst (λ (t : Option Task). Answers t call status) is answers
+
+-- ---- objects
+
+-- a sound object fails no check
+sound_passes : (o : Object) (field : Bool) (f : ObjectFault) → IsSound o → field ≡ true → FailsFirst field o f → ⊥
+sound_passes o field Field s holds h = let bad : ⊥ = cc in bad
+sound_passes o field Decision s holds h = h.1 s.decision
+sound_passes o field Row s holds h = h.2 s.row
+sound_passes o field Role s holds h = h.3 s.role
+sound_passes o field Short s holds h = h
+sound_passes o field Magic s holds h = h
+sound_passes o field Version s holds h = h
+sound_passes o field Long s holds h = h
+sound_passes o field Damaged s holds h = h
+
+abbrev fine_object : Object → Result Object ObjectFault
+fine_object o = Ok o
+
+both_true : (a b : Bool) → a ≡ true → b ≡ true → (a && b) ≡ true
+both_true a b p q = rw (p, q) refl
+
+unrefused : (o : Object) (bytes : List ℕ) (why : ObjectFault) → IsFileOf o bytes → IsRefusedFor passes_plain_field bytes why → ⊥
+unrefused o bytes why is refuses =
+    let read : structured bytes ≡ fine_object o = subst (λ (b : List ℕ). structured b ≡ fine_object o) (sym is.spelled) (structured_only o is.checked.closed) in
+    ⊎_elim
+    (λ bad. let x : ⊥ = cc (read, bad) in x)
+    (λ other. let same : fine_object o ≡ fine_object other.0 = sym read ∙ other.1 in
+    let one : o ≡ other.0 = cc same in
+    let sound = subst (λ (x : Object). IsSound x) one is.checked.sound in
+    let plain = subst (λ (x : Object). is_plain x ≡ true) one is.plain in
+    sound_passes other.0 (passes_plain_field other.0) why sound (both_true (passes_field other.0) (is_plain other.0) sound.field plain) other.2)
+    refuses
+
+-- what follows of an object, where its file was read
+of_object : (o : Object) (bytes : List ℕ) (Then : Object → Result Output Status → Type 0) (s : Status) → IsFileOf o bytes → AfterObject bytes Then (refused s) → Then o (refused s)
+of_object o bytes Then s is (inl refuses) = absurd (unrefused o bytes refuses.0 is refuses.1)
+of_object o bytes Then s is (inr other) =
+    subst (λ (x : Object). Then x (refused s)) (one_object other.0 o other.1.checked.closed is.checked.closed (sym other.1.spelled ∙ is.spelled)) other.2
+
+-- what follows of a file that is there
+of_read : (held : Held) (place : ℕ) (name bytes : List ℕ) (Then : List ℕ → Result Output Status → Type 0) (s : Status) → finmap.get held name ≡ Some bytes
+    → AfterRead held place name Then (refused s) → Then bytes (refused s)
+of_read held place name bytes Then s there says = rw there at says
+
+-- ---- compile
+
+pub compile_law : (task : Option Task) (call : Call) (status : Status) → Answers task call status → LegalSourcesCompile task call status
+unfolding LegalSourcesCompile
+compile_law task call status answers = λ held main object name holds is fine source p there legal.
+    done_unless held (Compile main object name) call status holds fine
+    (λ s comes.
+    let refuses : RefusesSource main name source s = of_read held 0 name source (Compiles main object name) s there comes in
+    not_refused (sources_of name source) main p refuses.0 legal refuses.1)
+    (asked (Compile main object name) task call status is answers)
+
+-- ---- run
+
+abbrev fine_numbers : List ℤ → Result (List ℤ) ℕ
+fine_numbers ns = Ok ns
+
+-- what follows of an input, where it was read
+of_input : (numbers : List ℤ) (bytes : List ℕ) (Then : List ℤ → Result Output Status → Type 0) (s : Status) → IsInputOf numbers bytes → AfterInput bytes Then (refused s) → Then numbers (refused s)
+of_input numbers bytes Then s is (inl refuses) = let x : ⊥ = cc (is, refuses.1) in absurd x
+of_input numbers bytes Then s is (inr other) =
+    let same : fine_numbers other.0 ≡ fine_numbers numbers = sym other.1 ∙ is in
+    let one : other.0 ≡ numbers = cc same in
+    subst (λ (ns : List ℤ). Then ns (refused s)) one other.2
+
+-- a run that ended was not stopped
+unstopped : (o : Object) (budget number : ℕ) (input : List ℤ) (s : Status) → (object_run o budget input).outcome ≡ Ended number → StopsRun o budget input s → ⊥
+unstopped o budget number input (OverBudget count) ended stops = let x : ⊥ = cc (ended, stops.0) in x
+unstopped o budget number input (Trap pc why) ended stops = let x : ⊥ = cc (ended, stops) in x
+unstopped o budget number input Done ended stops = stops
+unstopped o budget number input Usage ended stops = stops
+unstopped o budget number input (SourceRefused file line col why) ended stops = stops
+unstopped o budget number input (ObjectRefused why) ended stops = stops
+unstopped o budget number input (TraceRefused index why) ended stops = stops
+unstopped o budget number input (InputRefused line) ended stops = stops
+unstopped o budget number input (ReadFault file) ended stops = stops
+unstopped o budget number input WriteFault ended stops = stops
+unstopped o budget number input WantOfMemory ended stops = stops
+
+-- what a run comes to when its object was read
+abbrev AfterTheObject : Held → (input trace : List ℕ) → (budget : ℕ) → Object → Result Output Status → Type 0
+AfterTheObject held input trace budget o = AfterRead held 1 input (λ bytes. AfterInput bytes (RunsOn trace budget o))
+
+-- what stopped a run of an object
+run_stopped : (held : Held) (input trace object : List ℕ) (budget : ℕ) (s : Status) (o : Object) (bytes : List ℕ) (numbers : List ℤ)
+    → IsFileOf o (object_bytes o) → finmap.get held object ≡ Some (object_bytes o) → finmap.get held input ≡ Some bytes → IsInputOf numbers bytes
+    → ComesTo held (Run input budget trace object) (refused s) → StopsRun o budget numbers s
+run_stopped held input trace object budget s o bytes numbers is there also reads comes =
+    of_input numbers bytes (RunsOn trace budget o) s reads
+    (of_read held 1 input bytes (λ bytes. AfterInput bytes (RunsOn trace budget o)) s also
+    (of_object o (object_bytes o) (AfterTheObject held input trace budget) s is
+    (of_read held 0 object (object_bytes o) (λ bytes. AfterObject bytes (AfterTheObject held input trace budget)) s there comes)))
+
+pub run_law : (task : Option Task) (call : Call) (status : Status) → Answers task call status → ProgramsRun task call status
+unfolding ProgramsRun
+run_law task call status answers = λ held input trace object budget holds is fine files main p o of cheap there bytes numbers also reads x ends enough.
+    let shows = cheap.in_time.in_time numbers (numbers_fit bytes numbers reads) x ends budget enough in
+    done_unless held (Run input budget trace object) call status holds fine
+    (λ s comes. unstopped o budget (number_of x.ending) numbers s shows.ended
+    (run_stopped held input trace object budget s o bytes numbers (is_file files main p o of) there also reads comes))
+    (asked (Run input budget trace object) task call status is answers)
+
+-- what was read before a trap
+of_trap : (held : Held) (input trace object : List ℕ) (budget : ℕ) (o : Object) (pc : ℕ) (why : TrapWhy) → IsFileOf o (object_bytes o) → finmap.get held object ≡ Some (object_bytes o)
+    → ComesTo held (Run input budget trace object) (refused (Trap pc why))
+    → (bytes : List ℕ) × (numbers : List ℤ) × IsInputOf numbers bytes × ((object_run o budget numbers).outcome ≡ Trapped pc why)
+of_trap held input trace object budget o pc why is there comes =
+    read (finmap.get held input) (of_object o (object_bytes o) (AfterTheObject held input trace budget) (Trap pc why) is
+    (of_read held 0 object (object_bytes o) (λ bytes. AfterObject bytes (AfterTheObject held input trace budget)) (Trap pc why) there comes))
+  where
+    after : (bytes : List ℕ) → AfterInput bytes (RunsOn trace budget o) (refused (Trap pc why))
+        → (bytes : List ℕ) × (numbers : List ℤ) × IsInputOf numbers bytes × ((object_run o budget numbers).outcome ≡ Trapped pc why)
+    after bytes (inl refuses) = let x : ⊥ = cc (refuses.2) in absurd x
+    after bytes (inr other) = (bytes, other.0, other.1, other.2)
+
+    read : (got : Option (List ℕ)) → MatchOption got (refused (Trap pc why) ≡ Err (ReadFault (Word 1))) (λ bytes. AfterInput bytes (RunsOn trace budget o) (refused (Trap pc why)))
+        → (bytes : List ℕ) × (numbers : List ℤ) × IsInputOf numbers bytes × ((object_run o budget numbers).outcome ≡ Trapped pc why)
+    read None says = let x : ⊥ = cc says in absurd x
+    read (Some bytes) says = after bytes says
+
+pub trap_law : (task : Option Task) (call : Call) (status : Status) → Answers task call status → ProgramsDoNotTrap task call status
+unfolding ProgramsDoNotTrap
+trap_law task call status answers = λ held input trace object budget holds is files main p o of there pc why trapped.
+    let b : Because (Run input budget trace object) call (Trap pc why) = subst (λ (s : Status). Because (Run input budget trace object) call s) trapped (asked (Run input budget trace object) task call status is answers) in
+    let stopped = of_trap held input trace object budget o pc why (is_file files main p o of) there (told_of held call.held _ holds b.0.1) in
+    of.behaves.no_trap budget stopped.1 (numbers_fit stopped.0 stopped.1 stopped.2) pc why stopped.3
+
+-- ---- coverage
+
+abbrev fine_trace : TraceFile → Result TraceFile TraceFault
+fine_trace t = Ok t
+
+-- the trace of a run of an object passes all checks
+own_trace : (o : Object) (r : ARun) (bytes : List ℕ) → IsSound o → IsDisciplined (facts_of o) (transcript_of o r) → IsTraceOf o r bytes → IsTraceFor o bytes
+own_trace o r bytes sound disciplined is = record {
+  trace = trace_file o (transcript_of o r) r.ending;
+  read = is.reads_back;
+  fits = own_fits o r.budget r.input r.ending (digest_of_run o r) sound is.ended;
+  follows = own_follows o (transcript_of o r) r.ending (digest_of_run o r) disciplined;
+}
+
+-- what passes all checks is not refused
+trace_unrefused : (o : Object) (number : ℕ) (bytes : List ℕ) (s : Status) → IsTraceFor o bytes → RefusesTrace number o bytes s → ⊥
+trace_unrefused o number bytes s is (inl alone) = let x : ⊥ = cc (is.read, alone.1) in x
+trace_unrefused o number bytes s is (inr (inl beside)) =
+    let same : fine_trace beside.1.0 ≡ fine_trace is.trace = sym beside.1.1 ∙ is.read in
+    let one : beside.1.0 ≡ is.trace = cc same in
+    let fits : fault_of o beside.1.0 ≡ None = subst (λ (t : TraceFile). fault_of o t ≡ None) (sym one) is.fits in
+    let x : ⊥ = cc (fits, beside.1.2) in x
+trace_unrefused o number bytes s is (inr (inr breaks)) =
+    let same : fine_trace breaks.1.0 ≡ fine_trace is.trace = sym breaks.1.1 ∙ is.read in
+    let one : breaks.1.0 ≡ is.trace = cc same in
+    let follows : AllFollow (facts_of o) [] (visits_of (facts_of o) breaks.1.0.history) = subst (λ (t : TraceFile). Follows o t) (sym one) is.follows in
+    let whole = (whole_law (facts_of o) (visits_of (facts_of o) breaks.1.0.history)).1 follows in
+    let broken = (broken_law (facts_of o) (visits_of (facts_of o) breaks.1.0.history) breaks.0.at).1 breaks.1.3 in
+    let x : ⊥ = cc (whole, broken) in x
+
+one_passes : (o : Object) (number : ℕ) (bytes : List ℕ) (Then : Result Output Status → Type 0) (s : Status) → IsTraceFor o bytes → AfterTrace number o bytes Then (refused s) → Then (refused s)
+one_passes o number bytes Then s is (inl refuses) = absurd (trace_unrefused o number bytes s is refuses)
+one_passes o number bytes Then s is (inr next) = next.1
+
+-- the traces of runs all pass
+all_pass : (held : Held) (o : Object) (number : ℕ) (names : List (List ℕ)) (runs : List ARun) (Then : List (List ℕ) → Result Output Status → Type 0) (s : Status)
+    → IsSound o → AreTracesOf held o names runs → Everywhere (λ r. IsDisciplined (facts_of o) (transcript_of o r)) runs
+    → AfterTraces held o number names Then (refused s) → (traces : List (List ℕ)) × Then traces (refused s)
+all_pass held o number [] [] Then s sound are fair says = ([], says)
+all_pass held o number [] (r ∷ rs) Then s sound are fair says = absurd are
+all_pass held o number (name ∷ names) [] Then s sound are fair says = absurd are
+all_pass held o number (name ∷ names) (r ∷ rs) Then s sound are fair says =
+    let After : List ℕ → Result Output Status → Type 0 = λ trace. AfterTraces held o (number + 1) names (λ traces. Then (trace ∷ traces)) in
+    let next = one_passes o number are.0 (After are.0) s (own_trace o r are.0 sound fair.0 are.2)
+    (of_read held number name are.0 (λ trace. AfterTrace number o trace (After trace)) s are.1 says) in
+    let rest = all_pass held o (number + 1) names rs (λ traces. Then (are.0 ∷ traces)) s sound are.3 fair.1 next in
+    (are.0 ∷ rest.0, rest.1)
+
+pub coverage_law : (task : Option Task) (call : Call) (status : Status) → Answers task call status → TracesAreCovered task call status
+unfolding TracesAreCovered
+coverage_law task call status answers = λ held level annotation object names holds is fine files main p o of there runs are inputs.
+    done_unless held (Coverage level annotation object names) call status holds fine
+    (λ s comes.
+    (all_pass held o 1 names runs (Covers level annotation o) s of.checked.sound are (all_fair p o of.behaves held names runs inputs are)
+    (of_object o (object_bytes o) (λ o. AfterTraces held o 1 names (Covers level annotation o)) s (is_file files main p o of)
+    (of_read held 0 object (object_bytes o) (λ bytes. AfterObject bytes (λ o. AfterTraces held o 1 names (Covers level annotation o))) s there comes))).1)
+    (asked (Coverage level annotation object names) task call status is answers)

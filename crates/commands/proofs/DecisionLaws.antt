@@ -1,0 +1,108 @@
+-- What a report asks of the decisions of an object that was checked, and of the events of its traces.
+use Rattle.std.proofs.Common.{◌≡◌, inl, inr, ⊎_elim, ℕ, zero, suc, ◌<◌, Bool, true, false, cond, ◌==◌, List, [], ◌∷◌, length, Option, Some, None, refl, sym, ap, subst, ◌∙◌, slice_get, eqb-true}
+use Rattle.std.proofs.lemmas.Bool.{and_parts, ltb-true}
+use Rattle.std.specs.List.{list_all, filter_map, cons_option, AllByRecursion}
+use Rattle.annotated_report.specs.Caller.{AreEvaluated, AreOfStatements}
+use Rattle.annotated_report.specs.Verdicts.{vector_in, vectors_of}
+use Rattle.cov_base.specs.declared.event.Event.{Event}
+use Rattle.cov_base.specs.declared.event.Event.TheVariants.{Start, Done}
+use Rattle.cov_base.specs.declared.event.Vector.{Vector}
+use Rattle.cov_base.specs.declared.obligations.DecEntry.{DecEntry}
+use Rattle.cov_base.specs.declared.position.DecId.{DecId}
+use Rattle.cov_base.specs.declared.position.InstId.{InstId}
+use Rattle.coverage_set.specs.Covered.{Covered, Has}
+use Rattle.decision_map.proofs.Needed.{graph_of_spelled}
+use Rattle.decision_map.specs.Decisions.{graph_at}
+use Rattle.decision_meaning.specs.Graph.{Edges}
+use Rattle.decision_meaning.specs.Pair.{Somewhere, Everywhere}
+use Rattle.decision_meaning.specs.Path.{IsPathVector}
+use Rattle.commands.specs.Content.{Shows}
+use Rattle.commands.specs.Covering.{Adds, HasPaths}
+use Rattle.object_facts.specs.Object.{facts_of}
+use Rattle.object_format.specs.Checked.{IsSound}
+use Rattle.object_format.specs.declared.object.Object.{Object}
+use Rattle.object_format.specs.Decisions.{AreExpression}
+use Rattle.object_format.specs.Fields.{is_decision, passes_field}
+use Rattle.transcript.proofs.Vectors.{said_path}
+use Rattle.vector_rebuild.specs.Entries.{trace_in}
+
+-- ---- what holds of all holds of the one in a place
+
+each_at : {X : Type 0} (P : X → Type 0) (xs : List X) (place : ℕ) (x : X) → AllByRecursion P xs → slice_get xs place ≡ Some x → P x
+each_at P [] place x all there = absurd (cc there)
+each_at P (y ∷ ys) zero x all there = let same : y ≡ x = cc there in subst P same all.0
+each_at P (y ∷ ys) (suc place) x all there = each_at P ys place x all.1 there
+
+passes_at : {X : Type 0} (test : X → Bool) (xs : List X) (place : ℕ) (x : X) → list_all test xs ≡ true → slice_get xs place ≡ Some x → test x ≡ true
+passes_at test [] place x all there = absurd (cc there)
+passes_at test (y ∷ ys) zero x all there = let same : y ≡ x = cc there in ap test (sym same) ∙ (and_parts _ _ all).0
+passes_at test (y ∷ ys) (suc place) x all there = passes_at test ys place x (and_parts _ _ all).1 there
+
+-- ---- decisions
+
+decisions_pass : (o : Object) → passes_field o ≡ true
+    → list_all (is_decision (length o.files) (length o.obligations.statements)) o.obligations.decisions ≡ true
+decisions_pass o field =
+    let obliged = (and_parts _ _ (and_parts _ _ (and_parts _ _ field).0).0).1 in
+    (and_parts _ _ (and_parts _ _ (and_parts _ _ obliged).0).1).0
+
+in_statement : (files statements : ℕ) (entry : DecEntry) → is_decision files statements entry ≡ true → entry.statement.0 < statements
+in_statement files statements entry passes =
+    ltb-true entry.statement.0 statements
+    (and_parts _ _ (and_parts _ _ (and_parts _ _ (and_parts _ _ (and_parts _ _ (and_parts _ _ passes).0).0).0).0).0).0
+
+-- each decision of a checked object is of one of its statements
+pub statements_known : (o : Object) → IsSound o → AreOfStatements o.obligations.decisions (length o.obligations.statements)
+statements_known o sound = λ d entry there.
+    in_statement (length o.files) (length o.obligations.statements) entry
+    (passes_at (is_decision (length o.files) (length o.obligations.statements)) o.obligations.decisions d entry (decisions_pass o sound.field) there)
+
+-- ---- vectors
+
+shown_path : (o : Object) (traces : List (List ℕ)) (d : DecId) (i : InstId) (vector : Vector) → Somewhere (λ trace. Shows o trace (Done d i vector)) traces
+    → IsPathVector (graph_at o d.0) vector
+shown_path o [] d i vector shown = absurd shown
+shown_path o (trace ∷ traces) d i vector shown =
+    ⊎_elim (λ here. said_path (facts_of o) (trace_in here.0) d i vector here.2) (λ there. shown_path o traces d i vector there) shown
+
+-- a coverage that began without events has vectors of paths alone
+pub added_paths : (o : Object) (old new : Covered) (traces : List (List ℕ)) → ((e : Event) → Has old e → ⊥) → Adds o old new traces → HasPaths o new
+added_paths o old new traces none adds = λ d i vector has.
+    ⊎_elim (λ before. absurd (none (Done d i vector) before)) (λ shown. shown_path o traces d i vector shown) ((adds.events (Done d i vector)).0 has)
+
+-- the vectors that events give a decision are so, where each of them that an event gives is
+all_given : (P : Vector → Type 0) (d : ℕ) (events : List Event) → ((e : Event) (v : Vector) → Somewhere (λ x. x ≡ e) events → vector_in d e ≡ Some v → P v)
+    → Everywhere P (filter_map (vector_in d) events)
+all_given P d [] each = tt
+all_given P d (e ∷ events) each =
+    by_vector (vector_in d e) (λ v given. each e v (inl refl) given) (all_given P d events (λ f v there given. each f v (inr there) given))
+  where
+    by_vector : (found : Option Vector) → ((v : Vector) → found ≡ Some v → P v) → Everywhere P (filter_map (vector_in d) events)
+        → Everywhere P (cons_option found (filter_map (vector_in d) events))
+    by_vector None here rest = rest
+    by_vector (Some v) here rest = (here v refl, rest)
+
+-- the event that gives a decision a vector
+of_event : (o : Object) (c : Covered) (d : ℕ) (e : Event) (v : Vector) → HasPaths o c → Has c e → vector_in d e ≡ Some v → IsPathVector (graph_at o d) v
+of_event o c d (Start s i) v paths has given = absurd (cc given)
+of_event o c d (Done n i vector) v paths has given = by_number (n.0 == d) refl given
+  where
+    by_number : (b : Bool) → (n.0 == d) ≡ b → cond b (Some vector) None ≡ Some v → IsPathVector (graph_at o d) v
+    by_number false is gives = absurd (cc gives)
+    by_number true is gives =
+        let same : vector ≡ v = cc gives in
+        subst (λ (w : Vector). IsPathVector (graph_at o d) w) same
+        (subst (λ (m : ℕ). IsPathVector (graph_at o m) vector) (eqb-true n.0 d is) (paths n i vector has))
+
+-- each decision of a checked object is one that a report can judge by the events of a coverage
+pub evaluations_known : (o : Object) (c : Covered) (events : List Event) → IsSound o → HasPaths o c
+    → ((e : Event) → Somewhere (λ x. x ≡ e) events → Has c e) → AreEvaluated o.obligations.decisions events
+evaluations_known o c events sound paths all = λ d entry there.
+    let is = each_at (λ (x : DecEntry). AreExpression x.expression.postfix (length x.conditions)) o.obligations.decisions d entry sound.decision there in
+    record {
+      expression = is.0;
+      spelled = is.1;
+      placed = sym is.2;
+      paths = subst (λ (g : List Edges). Everywhere (IsPathVector g) (vectors_of events d)) (graph_of_spelled o d entry is.0 there is.1)
+          (all_given (IsPathVector (graph_at o d)) d events (λ e v there given. of_event o c d e v paths (all e there) given));
+    }

@@ -1,0 +1,204 @@
+-- What coverage prints of an object's own runs.
+use Rattle.std.proofs.Common.{◌≡◌, ◌≢◌, ◌↔◌, inl, inr, ⊎_elim, ℕ, suc, ◌+◌, ◌<◌, ◌≤◌, arith, List, [], ◌∷◌, length, map, slice_index_or, AllPairs, IfSome, Option, Some, Result, Ok, refl, sym, ap, subst, ◌∙◌}
+use Rattle.std.specs.FinMap as finmap
+use Rattle.annotated_report.specs.Report.{report_text}
+use Rattle.annotated_report.proofs.Alike.{same_text}
+use Rattle.command_words.specs.Task.{Task, Coverage}
+use Rattle.cov_base.specs.declared.event.Event.{Event}
+use Rattle.cov_base.specs.declared.level.Annotation.{Annotation}
+use Rattle.cov_base.specs.declared.level.Level.{Level}
+use Rattle.cov_io.specs.Outside.{Held, WhereTold, Appends}
+use Rattle.coverage_set.proofs.RunLaw.{run_law}
+use Rattle.decision_meaning.specs.Pair.{Everywhere, Somewhere}
+use Rattle.commands.specs.Content.{IsFileOf, Shows, ClosesWith, Reports, trace_file}
+use Rattle.commands.specs.declared.status.Status.{Status}
+use Rattle.commands.specs.declared.status.Status.TheVariants.{Done}
+use Rattle.commands.specs.Outcome.{Call, Delivered, Because, Answers}
+use Rattle.commands.specs.RunsCovered.{ARun, transcript_of, IsTraceOf, AreTracesOf, digest_of_run, RunsAreCovered}
+use Rattle.commands.specs.Verdict.{Output, AfterRead, AfterObject, AfterTrace, AfterTraces, Covers, ComesTo}
+use Rattle.object_facts.specs.Object.{facts_of}
+use Rattle.object_format.proofs.FileLaws.{one_object}
+use Rattle.object_format.specs.Checked.{IsSound}
+use Rattle.object_format.specs.declared.object.Object.{Object}
+use Rattle.trace_format.specs.Checks.{trace_of}
+use Rattle.trace_format.specs.declared.fault.TraceFault.{TraceFault}
+use Rattle.trace_format.specs.Trace.{TraceFile}
+use Rattle.transcript.specs.Reading.{Tells, IsDisciplined}
+use Rattle.transcript.specs.Trace.{Says}
+use Rattle.vector_rebuild.specs.Entries.{trace_in}
+
+-- what is read is one trace
+abbrev fine : TraceFile → Result TraceFile TraceFault
+fine t = Ok t
+
+fine_is : (a b : TraceFile) → fine a ≡ fine b → a ≡ b
+fine_is a b e = cc e
+
+same_read : (bytes : List ℕ) (t u : TraceFile) → trace_of bytes ≡ Ok t → trace_of bytes ≡ Ok u → t ≡ u
+same_read bytes t u first second = fine_is t u (sym first ∙ second)
+
+-- ---- lists of different items
+
+-- a list without one of its items
+record Without {X : Type 0} (x : X) (ys : List X) : Type 0 where
+  rest : List X
+  shorter : length ys ≡ length rest + 1
+  others : (d : X) → d ≢ x → Somewhere (λ y. y ≡ d) ys → Somewhere (λ y. y ≡ d) rest
+
+without : {X : Type 0} (x : X) (ys : List X) → Somewhere (λ y. y ≡ x) ys → Without x ys
+without x [] there = absurd there
+without x (y ∷ ys) (inl is) = record {
+  rest = ys;
+  shorter = omega arith;
+  others = λ d differs has. ⊎_elim (λ here. absurd (differs (sym here ∙ is))) (λ later. later) has;
+}
+without x (y ∷ ys) (inr there) = behind (without x ys there)
+  where
+    behind : Without x ys → Without x (y ∷ ys)
+    behind w = record {
+      rest = y ∷ w.rest;
+      shorter = omega (arith, w.shorter);
+      others = λ d differs has. ⊎_elim (λ here. inl here) (λ later. inr (w.others d differs later)) has;
+    }
+
+-- where an item stands
+placed : {X : Type 0} (d : X) (xs : List X) → Somewhere (λ y. y ≡ d) xs → (j : ℕ) × (j < length xs) × ((e : X) → slice_index_or xs j e ≡ d)
+placed d [] there = absurd there
+placed d (x ∷ xs) (inl is) = (0, omega arith, λ e. is)
+placed d (x ∷ xs) (inr there) = let later = placed d xs there in (suc later.0, omega (arith, later.1), later.2)
+
+-- the first of different items is none of the later ones, which are different too
+first_differs : {X : Type 0} (x d : X) (xs : List X) → AllPairs (λ x y. x ≢ y) (x ∷ xs) → Somewhere (λ y. y ≡ d) xs → d ≢ x
+first_differs x d xs once there =
+    let p = placed d xs there in
+    λ same. once 0 (suc p.0) d (omega arith) (omega (arith, p.1)) (sym same ∙ sym (p.2 d))
+
+later_differ : {X : Type 0} (x : X) (xs : List X) → AllPairs (λ x y. x ≢ y) (x ∷ xs) → AllPairs (λ x y. x ≢ y) xs
+later_differ x xs once = λ i j d before within. once (suc i) (suc j) d (omega (arith, before)) (omega (arith, within))
+
+no_more : {X : Type 0} (xs ys : List X) → AllPairs (λ x y. x ≢ y) xs → ((d : X) → Somewhere (λ x. x ≡ d) xs → Somewhere (λ y. y ≡ d) ys) → length xs ≤ length ys
+no_more [] ys once within = omega arith
+no_more (x ∷ xs) ys once within =
+    let w = without x ys (within x (inl refl)) in
+    let fewer = no_more xs w.rest (later_differ x xs once) (λ d there. w.others d (first_differs x d xs once there) (within d (inr there))) in
+    omega (arith, w.shorter, fewer)
+
+same_count : {X : Type 0} (xs ys : List X) → AllPairs (λ x y. x ≢ y) xs → AllPairs (λ x y. x ≢ y) ys → ((d : X) → Somewhere (λ x. x ≡ d) xs ↔ Somewhere (λ y. y ≡ d) ys) → length xs ≡ length ys
+same_count xs ys once also same = omega (arith, no_more xs ys once (λ d there. (same d).0 there), no_more ys xs also (λ d there. (same d).1 there))
+
+-- ---- traces and their runs
+
+through : {A B C : Type 0} → A ↔ B → B ↔ C → A ↔ C
+through first second = (λ a. second.0 (first.0 a), λ c. first.1 (second.1 c))
+
+back : {A B : Type 0} → A ↔ B → B ↔ A
+back both = (both.1, both.0)
+
+-- the bytes are the file of the trace of this run of the object, which ended, with a disciplined transcript
+record IsTold (o : Object) (r : ARun) (bytes : List ℕ) : Type 0 where
+  trace : IsTraceOf o r bytes
+  disciplined : IsDisciplined (facts_of o) (transcript_of o r)
+
+-- these are the traces of these runs
+abbrev AreOf : Object → List ARun → List (List ℕ) → Type 0
+AreOf o [] [] = Unit {0}
+AreOf o [] (t ∷ ts) = ⊥
+AreOf o (r ∷ rs) [] = ⊥
+AreOf o (r ∷ rs) (t ∷ ts) = IsTold o r t × AreOf o rs ts
+
+-- one of the traces is so just where one of the runs is
+alike : (o : Object) (P : List ℕ → Type 0) (Q : ARun → Type 0) → ((r : ARun) (t : List ℕ) → IsTold o r t → P t ↔ Q r)
+    → (rs : List ARun) (ts : List (List ℕ)) → AreOf o rs ts → Somewhere P ts ↔ Somewhere Q rs
+alike o P Q each [] [] are = (λ none. none, λ none. none)
+alike o P Q each [] (t ∷ ts) are = absurd are
+alike o P Q each (r ∷ rs) [] are = absurd are
+alike o P Q each (r ∷ rs) (t ∷ ts) are =
+    let here = each r t are.0 in
+    let later = alike o P Q each rs ts are.1 in (
+      λ s. ⊎_elim (λ p. inl (here.0 p)) (λ q. inr (later.0 q)) s,
+      λ s. ⊎_elim (λ p. inl (here.1 p)) (λ q. inr (later.1 q)) s,
+    )
+
+-- what the trace of a run shows is what the run tells
+shows_tells : (o : Object) → IsSound o → (e : Event) (r : ARun) (t : List ℕ) → IsTold o r t → Shows o t e ↔ Tells (facts_of o) (transcript_of o r) e
+shows_tells o sound e r t is =
+    let law = run_law o r.budget r.input r.ending (digest_of_run o r) e sound is.trace.ended is.disciplined in (
+      λ s. law.0 (subst (λ (u : TraceFile). Says (facts_of o) (trace_in u) e) (same_read t s.0 (trace_file o (transcript_of o r) r.ending) s.1 is.trace.reads_back) s.2),
+      λ tells. (trace_file o (transcript_of o r) r.ending, is.trace.reads_back, law.1 tells),
+    )
+
+closes_digest : (o : Object) (d : List ℕ) (r : ARun) (t : List ℕ) → IsTold o r t → ClosesWith d t ↔ (digest_of_run o r ≡ d)
+closes_digest o d r t is = (
+  λ s. ap (λ (u : TraceFile). u.closing) (sym (same_read t s.0 (trace_file o (transcript_of o r) r.ending) s.1 is.trace.reads_back)) ∙ s.2,
+  λ e. (trace_file o (transcript_of o r) r.ending, is.trace.reads_back, e),
+)
+
+-- one trace was read, and those behind it
+one_read : (held : Held) (o : Object) (number : ℕ) (names : List (List ℕ)) (rs : List ARun) (Then : List (List ℕ) → Result Output Status → Type 0) (r : ARun) (bytes : List ℕ) (output : Output)
+    → IsTold o r bytes → AfterTrace number o bytes (AfterTraces held o (number + 1) names (λ traces. Then (bytes ∷ traces))) (Ok output)
+    → (AfterTraces held o (number + 1) names (λ traces. Then (bytes ∷ traces)) (Ok output) → (traces : List (List ℕ)) × AreOf o rs traces × Then (bytes ∷ traces) (Ok output))
+    → (traces : List (List ℕ)) × AreOf o (r ∷ rs) traces × Then traces (Ok output)
+one_read held o number names rs Then r bytes output is (inl refused) later = absurd refused
+one_read held o number names rs Then r bytes output is (inr fits) later =
+    let rest = later fits.1 in
+    (bytes ∷ rest.0, (is, rest.1), rest.2)
+
+-- the traces that were read are those of the runs
+read_are : (held : Held) (o : Object) (number : ℕ) (names : List (List ℕ)) (runs : List ARun) (Then : List (List ℕ) → Result Output Status → Type 0) (output : Output)
+    → AreTracesOf held o names runs → Everywhere (λ r. IsDisciplined (facts_of o) (transcript_of o r)) runs → AfterTraces held o number names Then (Ok output)
+    → (traces : List (List ℕ)) × AreOf o runs traces × Then traces (Ok output)
+read_are held o number [] [] Then output are fair says = ([], tt, says)
+read_are held o number [] (r ∷ rs) Then output are fair says = absurd are
+read_are held o number (name ∷ names) [] Then output are fair says = absurd are
+read_are held o number (name ∷ names) (r ∷ rs) Then output are fair says =
+    one_read held o number names rs Then r are.0 output (record { trace = are.2; disciplined = fair.0 }) (rw are.1 at says)
+    (λ rest. read_are held o (number + 1) names rs (λ traces. Then (are.0 ∷ traces)) output are.3 fair.1 rest)
+
+-- the text of a report of traces is that of their runs
+runs_told : (level : Level) (annotation : Annotation) (o : Object) → IsSound o → (runs : List ARun) (traces : List (List ℕ)) (text : List ℕ) → AreOf o runs traces
+    → Reports level annotation o traces text
+    → (events : List Event) → ((e : Event) → Somewhere (λ x. x ≡ e) events ↔ Somewhere (λ r. Tells (facts_of o) (transcript_of o r) e) runs)
+    → (digests : List (List ℕ)) → ((d : List ℕ) → Somewhere (λ x. x ≡ d) digests ↔ Somewhere (λ r. digest_of_run o r ≡ d) runs)
+    → AllPairs (λ x y. x ≢ y) digests
+    → text ≡ report_text level o.obligations (length digests) events (map (λ file. file.name) o.files)
+runs_told level annotation o sound runs traces text are reports events of_events digests of_digests once =
+    let report = reports.report in
+    let shown : (e : Event) → Somewhere (λ x. x ≡ e) report.events ↔ Somewhere (λ x. x ≡ e) events = λ e.
+    through (through (report.all_events e) (alike o (λ t. Shows o t e) (λ r. Tells (facts_of o) (transcript_of o r) e) (shows_tells o sound e) runs traces are)) (back (of_events e)) in
+    let counted : (d : List ℕ) → Somewhere (λ x. x ≡ d) report.digests ↔ Somewhere (λ x. x ≡ d) digests = λ d.
+    through (through (report.all_digests d) (alike o (ClosesWith d) (λ r. digest_of_run o r ≡ d) (closes_digest o d) runs traces are)) (back (of_digests d)) in
+    report.told
+    ∙ same_text level o.obligations (length report.digests) report.events events (map (λ file. file.name) o.files) (λ e there. (shown e).0 there, λ e there. (shown e).1 there)
+    ∙ ap (λ (n : ℕ). report_text level o.obligations n events (map (λ file. file.name) o.files)) (same_count report.digests digests report.each_once once counted)
+
+-- what coverage came to, of an object
+came_to : (held : Held) (level : Level) (annotation : Annotation) (o : Object) (names : List (List ℕ)) (output : Output) (bytes : List ℕ) → IsFileOf o bytes
+    → AfterObject bytes (λ o. AfterTraces held o 1 names (Covers level annotation o)) (Ok output)
+    → AfterTraces held o 1 names (Covers level annotation o) (Ok output)
+came_to held level annotation o names output bytes is (inl refused) = absurd refused
+came_to held level annotation o names output bytes is (inr other) =
+    subst (λ (x : Object). AfterTraces held x 1 names (Covers level annotation x) (Ok output))
+    (one_object other.0 o other.1.checked.closed is.checked.closed (sym other.1.spelled ∙ is.spelled)) other.2
+
+-- of a call that is done
+told_done : (held : Held) (level : Level) (annotation : Annotation) (object : List ℕ) (names : List (List ℕ)) (call : Call) → call.held ≡ Some held
+    → Delivered (Coverage level annotation object names) Done call
+    → (bytes : List ℕ) (o : Object) → finmap.get held object ≡ Some bytes → IsFileOf o bytes → (runs : List ARun) → AreTracesOf held o names runs → Everywhere (λ r. IsDisciplined (facts_of o) (transcript_of o r)) runs
+    → (events : List Event) → ((e : Event) → Somewhere (λ x. x ≡ e) events ↔ Somewhere (λ r. Tells (facts_of o) (transcript_of o r) e) runs)
+    → (digests : List (List ℕ)) → ((d : List ℕ) → Somewhere (λ x. x ≡ d) digests ↔ Somewhere (λ r. digest_of_run o r ≡ d) runs)
+    → AllPairs (λ x y. x ≢ y) digests
+    → WhereTold (Appends (report_text level o.obligations (length digests) events (map (λ file. file.name) o.files))) call.written call.written_after
+told_done held level annotation object names call holds done bytes o there is runs are fair events of_events digests of_digests once =
+    let comes : AfterRead held 0 object (λ bytes. AfterObject bytes (λ o. AfterTraces held o 1 names (Covers level annotation o))) (Ok done.output) =
+    subst (λ (h : Option Held). IfSome h (λ told. ComesTo told (Coverage level annotation object names) (Ok done.output))) holds done.comes in
+    let after = came_to held level annotation o names done.output bytes is (rw there at comes) in
+    let read = read_are held o 1 names runs (Covers level annotation o) done.output are fair after in
+    let text = runs_told level annotation o is.checked.sound runs read.0 done.output.text read.1 read.2.1 events of_events digests of_digests once in
+    subst (λ (text : List ℕ). WhereTold (Appends text) call.written call.written_after) text done.delivers.text
+
+pub runs_law : (task : Option Task) (call : Call) (status : Status) → Answers task call status → RunsAreCovered task call status
+unfolding RunsAreCovered
+runs_law task call status answers = λ held level annotation object names holds asked is.
+    let done : Delivered (Coverage level annotation object names) Done call =
+    subst (λ (s : Status). Because (Coverage level annotation object names) call s) is (subst (λ (t : Option Task). Answers t call status) asked answers) in
+    told_done held level annotation object names call holds done

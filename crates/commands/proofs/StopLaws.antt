@@ -1,0 +1,331 @@
+-- What was found out after the object was read, as what the whole command comes to.
+use Rattle.std.proofs.Common.{◌≡◌, ◌⊎◌, ℕ, suc, ◌+◌, ◌<◌, ℤ, List, [], ◌∷◌, ◌++◌, length, map, take, drop, get_or, slice_get, unwrap_or, Option, None, Some, IfSome, IsSomeAnd, option_map, Result, Ok, Err, inl, inr, refl, sym, ◌∙◌, ap, subst, lit<, arith}
+use Rattle.std.specs.FinMap as finmap
+use Rattle.std.specs.List.{AllByRecursion}
+use Rattle.std.proofs.lemmas.List.{length-append, length-map, length-take-le, take-append-drop, drop_more, map-append, map_more}
+use Rattle.command_words.specs.Task.{Run, Coverage}
+use Rattle.cov_base.specs.declared.event.Event.{Event}
+use Rattle.cov_base.specs.declared.level.Annotation.{Annotation}
+use Rattle.cov_base.specs.declared.level.Level.{Level}
+use Rattle.cov_io.specs.Outside.{Held, Holds, IsAbsent, Rose}
+use Rattle.coverage_set.specs.Covered.{Covered, Has, HasRun}
+use Rattle.commands.specs.Content.{IsFileOf, IsTraceFor, RefusesObject, IsInputOf, RefusesInput, RefusesTrace, RunsTo, StopsRun}
+use Rattle.commands.specs.declared.status.FileRef.TheVariants.{Word}
+use Rattle.commands.specs.declared.status.Status.{Status}
+use Rattle.commands.specs.declared.status.Status.TheVariants.{ObjectRefused, TraceRefused, InputRefused, OverBudget, Trap, ReadFault}
+use Rattle.commands.specs.declared.status.TraceWhy.TheVariants.{File, Fit, Broken}
+use Rattle.commands.specs.Outcome.{Prepares, Stops, CannotGet}
+use Rattle.commands.specs.Reading.{IsUnread, IsNoTrace, UnlessMemory, AreRead, StopsAt, StopsAmong}
+use Rattle.commands.specs.Covering.{Adds, IsReportOf}
+use Rattle.commands.specs.Verdict.{NewFile, Output, AfterRead, AfterObject, AfterInput, AfterTrace, AfterTraces, RunsOn, Covers, ComesTo}
+use Rattle.object_format.specs.declared.object.Object.{Object}
+use Rattle.commands.proofs.CoveringLaws.{reports_added, more_added}
+
+-- what holds whatever is held
+always : (held : Option Held) {P : Type 0} → P → IfSome held (λ told. P)
+always None p = tt
+always (Some told) p = p
+
+-- ---- one file after another
+
+-- a file that is held was read, and what was found out of its bytes is what its reading comes to
+pub after_read : (held : Option Held) (place : ℕ) (name bytes : List ℕ) (Then : Held → List ℕ → Result Output Status → Type 0) (verdict : Result Output Status)
+    → IfSome held (Holds name bytes) → IfSome held (λ told. Then told bytes verdict)
+    → IfSome held (λ told. AfterRead told place name (Then told) verdict)
+after_read None place name bytes Then verdict holds says = tt
+after_read (Some told) place name bytes Then verdict holds says = rw holds says
+
+-- the same of a file that is an object's
+pub after_object : (held : Option Held) (name bytes : List ℕ) (o : Object) (Then : Held → Object → Result Output Status → Type 0) (verdict : Result Output Status)
+    → IfSome held (Holds name bytes) → IsFileOf o bytes → IfSome held (λ told. Then told o verdict)
+    → IfSome held (λ told. AfterRead told 0 name (λ bytes. AfterObject bytes (Then told)) verdict)
+after_object None name bytes o Then verdict holds is says = tt
+after_object (Some told) name bytes o Then verdict holds is says = rw holds (inr (o, is, says))
+
+-- a file that is told not to be there
+pub unread : (held : Option Held) (place : ℕ) (name : List ℕ) (Then : Held → List ℕ → Result Output Status → Type 0)
+    → IsAbsent held name → IsSomeAnd held (λ told. AfterRead told place name (Then told) (Err (ReadFault (Word place))))
+unread None place name Then absent = absurd absent
+unread (Some told) place name Then absent = rw absent refl
+
+-- the same of a file that is read after an object
+pub unread_after_object : (held : Option Held) (object bytes : List ℕ) (o : Object) (Then : Held → Object → Result Output Status → Type 0) (verdict : Result Output Status)
+    → IfSome held (Holds object bytes) → IsFileOf o bytes → IsSomeAnd held (λ told. Then told o verdict)
+    → IsSomeAnd held (λ told. AfterRead told 0 object (λ bytes. AfterObject bytes (Then told)) verdict)
+unread_after_object None object bytes o Then verdict holds is says = absurd says
+unread_after_object (Some told) object bytes o Then verdict holds is says = rw holds (inr (o, is, says))
+
+-- a file that is no object
+pub no_object : (held : Option Held) (name bytes : List ℕ) (Then : Held → Object → Result Output Status → Type 0) (status : Status)
+    → IfSome held (Holds name bytes) → RefusesObject bytes status
+    → IfSome held (λ told. AfterRead told 0 name (λ bytes. AfterObject bytes (Then told)) (Err status))
+no_object None name bytes Then status holds refuses = tt
+no_object (Some told) name bytes Then status holds refuses = rw holds (inl refuses)
+
+-- ---- traces, one after another
+
+-- all of them were read, and what follows holds of them
+pub all_read : (told : Held) (o : Object) (number : ℕ) (names traces : List (List ℕ)) (Then : List (List ℕ) → Result Output Status → Type 0) (verdict : Result Output Status)
+    → AreRead (Some told) o names traces → Then traces verdict → AfterTraces told o number names Then verdict
+all_read told o number [] [] Then verdict read says = says
+all_read told o number [] (trace ∷ traces) Then verdict read says = absurd read
+all_read told o number (name ∷ names) [] Then verdict read says = absurd read
+all_read told o number (name ∷ names) (trace ∷ traces) Then verdict read says =
+    rw read.0 (inr (read.1, all_read told o (number + 1) names traces (λ ts. Then (trace ∷ ts)) verdict read.2 says))
+
+-- those before one were read, and what follows holds of that one and of those behind it
+pub reads_up_to : (told : Held) (o : Object) (number at : ℕ) (earlier : List (List ℕ)) (name : List ℕ) (later traces : List (List ℕ))
+    (Then : List (List ℕ) → Result Output Status → Type 0) (verdict : Result Output Status)
+    → at ≡ length earlier + number → AreRead (Some told) o earlier traces
+    → ((Next : List ℕ → Result Output Status → Type 0) → AfterRead told at name (λ trace. AfterTrace at o trace (Next trace)) verdict)
+    → AfterTraces told o number (earlier ++ (name ∷ later)) Then verdict
+reads_up_to told o number at [] name later [] Then verdict is read says =
+    let same : number ≡ at = omega (arith, is) in
+    rw same (says (λ trace. AfterTraces told o (at + 1) later (λ ts. Then (trace ∷ ts))))
+reads_up_to told o number at [] name later (trace ∷ traces) Then verdict is read says = absurd read
+reads_up_to told o number at (first ∷ earlier) name later [] Then verdict is read says = absurd read
+reads_up_to told o number at (first ∷ earlier) name later (trace ∷ traces) Then verdict is read says =
+    let next : at ≡ length earlier + (number + 1) = omega (arith, is) in
+    rw read.0 (inr (read.1, reads_up_to told o (number + 1) at earlier name later traces (λ ts. Then (trace ∷ ts)) verdict next read.2 says))
+
+-- one more was read
+pub one_more_read : (held : Option Held) (o : Object) (names traces : List (List ℕ)) (name trace : List ℕ)
+    → AreRead held o names traces → IfSome held (Holds name trace) → IsTraceFor o trace
+    → AreRead held o (names ++ (name ∷ [])) (traces ++ (trace ∷ []))
+one_more_read held o [] [] name trace read holds fits = (holds, fits, tt)
+one_more_read held o [] (t ∷ traces) name trace read holds fits = absurd read
+one_more_read held o (n ∷ names) [] name trace read holds fits = absurd read
+one_more_read held o (n ∷ names) (t ∷ traces) name trace read holds fits =
+    (read.0, read.1, one_more_read held o names traces name trace read.2 holds fits)
+
+-- the same of names that are seen by `now`
+read_more : {X : Type 0} (now : X → List ℕ) (o : Object) (names : List X) (i : ℕ) (d : X) (held held' : Option Held) (traces : List (List ℕ)) (trace : List ℕ)
+    → i < length names → held' ≡ held → AreRead held o (map now (take i names)) traces → IfSome held' (Holds (now (get_or names i d)) trace) → IsTraceFor o trace
+    → AreRead held o (map now (take (i + 1) names)) (traces ++ (trace ∷ []))
+read_more now o names i d held held' traces trace lt same read holds fits =
+    let there = subst (λ (h : Option Held). IfSome h (Holds (now (get_or names i d)) trace)) same holds in
+    subst (λ (ns : List (List ℕ)). AreRead held o ns (traces ++ (trace ∷ []))) (sym (map_more now names i d lt))
+    (one_more_read held o (map now (take i names)) traces (now (get_or names i d)) trace read there fits)
+
+-- and added to a coverage
+pub read_and_added : {X : Type 0} (now : X → List ℕ) (o : Object) (names : List X) (i : ℕ) (d : X) (held held' : Option Held) (traces : List (List ℕ)) (trace : List ℕ) (a b c : Covered)
+    → i < length names → held' ≡ held → AreRead held o (map now (take i names)) traces → IfSome held' (Holds (now (get_or names i d)) trace) → IsTraceFor o trace
+    → Adds o a b traces → Adds o b c (trace ∷ [])
+    → (ts : List (List ℕ)) × AreRead held o (map now (take (i + 1) names)) ts × Adds o a c ts
+read_and_added now o names i d held held' traces trace a b c lt same read holds fits before adds =
+    (traces ++ (trace ∷ []), read_more now o names i d held held' traces trace lt same read holds fits, more_added o a b c traces (trace ∷ []) before adds)
+
+-- one that stops the command, behind those that were read
+pub stops_among : {X : Type 0} (now : X → List ℕ) (o : Object) (names : List X) (i : ℕ) (d : X) (held held' : Option Held) (reads reads' reads'' : ℕ) (status : Status) (traces : List (List ℕ))
+    → i < length names → held' ≡ held → reads' ≡ reads → AreRead held o (map now (take i names)) traces
+    → StopsAt (i + 1) o (now (get_or names i d)) held' reads' reads'' status
+    → StopsAmong o (map now names) held reads reads'' status
+stops_among now o names i d held held' reads reads' reads'' status traces lt same count read stops =
+    let name = now (get_or names i d) in
+    let long : i + 1 ≡ length (map now (take i names)) + 1 = omega (arith, length-map (take i names) now, length-take-le i names (omega (arith, lt))) in
+    let here = subst (λ (h : Option Held). StopsAt (i + 1) o name h reads' reads'' status) same stops in
+    let then_so = subst (λ (n : ℕ). StopsAt (i + 1) o name held n reads'' status) count here in
+    record {
+      earlier = map now (take i names);
+      name = name;
+      later = map now (drop (i + 1) names);
+      traces = traces;
+      are = ap (map now) (sym (take-append-drop i names) ∙ ap (λ rest. take i names ++ rest) (drop_more names i d lt))
+          ∙ map-append now (take i names) (get_or names i d ∷ drop (i + 1) names);
+      read = read;
+      stops = subst (λ (k : ℕ). StopsAt k o name held reads reads'' status) long then_so;
+    }
+
+-- ---- coverage
+
+pub coverage_no_object : (held : Option Held) (reads reads' : ℕ) (level : Level) (annotation : Annotation) (object bytes : List ℕ) (traces : List (List ℕ)) (status : Status)
+    → reads' ≡ reads → IfSome held (Holds object bytes) → UnlessMemory (RefusesObject bytes) status
+    → Stops (Coverage level annotation object traces) held reads reads' status
+coverage_no_object held reads reads' level annotation object bytes traces status same holds (inl memory) = rw memory tt
+coverage_no_object held reads reads' level annotation object bytes traces status same holds (inr r) =
+    rw r.2 (same, no_object held object bytes (λ told o. AfterTraces told o 1 traces (Covers level annotation o)) (ObjectRefused r.0) holds (r.0, r.1, refl))
+
+-- what follows from the trace at which reading stops, where the files tell
+told_stop : (held : Option Held) (level : Level) (annotation : Annotation) (object bytes : List ℕ) (o : Object) (earlier : List (List ℕ)) (name : List ℕ) (later traces : List (List ℕ)) (status : Status)
+    → IfSome held (Holds object bytes) → IsFileOf o bytes → AreRead held o earlier traces
+    → ((told : Held) → held ≡ Some told → (Next : List ℕ → Result Output Status → Type 0)
+    → AfterRead told (length earlier + 1) name (λ trace. AfterTrace (length earlier + 1) o trace (Next trace)) (Err status))
+    → IfSome held (λ told. ComesTo told (Coverage level annotation object (earlier ++ (name ∷ later))) (Err status))
+told_stop None level annotation object bytes o earlier name later traces status holds is read says = tt
+told_stop (Some told) level annotation object bytes o earlier name later traces status holds is read says =
+    after_object (Some told) object bytes o (λ told o. AfterTraces told o 1 (earlier ++ (name ∷ later)) (Covers level annotation o)) (Err status) holds is
+    (reads_up_to told o 1 (length earlier + 1) earlier name later traces (Covers level annotation o) (Err status) refl read (says told refl))
+
+-- a place among the names
+placed : (earlier later : List (List ℕ)) (object name : List ℕ) → length earlier + 1 < length (object ∷ (earlier ++ (name ∷ later)))
+placed earlier later object name = omega (arith, length-append earlier (name ∷ later))
+
+name_in : (earlier : List (List ℕ)) (name : List ℕ) (later : List (List ℕ)) → slice_get (earlier ++ (name ∷ later)) (length earlier) ≡ Some name
+name_in [] name later = refl
+name_in (first ∷ earlier) name later = name_in earlier name later
+
+-- the name in that place
+name_there : (object : List ℕ) (earlier : List (List ℕ)) (name : List ℕ) (later : List (List ℕ))
+    → unwrap_or (slice_get (object ∷ (earlier ++ (name ∷ later))) (length earlier + 1)) [] ≡ name
+name_there object earlier name later =
+    let one : suc (length earlier) ≡ length earlier + 1 = omega arith in
+    rw (← one, name_in earlier name later) refl
+
+absent_at : (held : Option Held) (name : List ℕ) (told : Held) → held ≡ Some told → IsAbsent held name → finmap.get told name ≡ None
+absent_at held name told e absent = subst (λ (h : Option Held). IsAbsent h name) e absent
+
+-- one of the traces can't be read
+coverage_absent : (held : Option Held) (reads reads' : ℕ) (level : Level) (annotation : Annotation) (object bytes : List ℕ) (o : Object)
+    (earlier : List (List ℕ)) (name : List ℕ) (later traces : List (List ℕ))
+    → IfSome held (Holds object bytes) → IsFileOf o bytes → AreRead held o earlier traces → Rose reads reads' ⊎ IsAbsent held name
+    → CannotGet (Coverage level annotation object (earlier ++ (name ∷ later))) (Word (length earlier + 1)) held reads reads'
+coverage_absent held reads reads' level annotation object bytes o earlier name later traces holds is read (inl rose) =
+    (placed earlier later object name, inl rose)
+coverage_absent None reads reads' level annotation object bytes o earlier name later traces holds is read (inr absent) = absurd absent
+coverage_absent (Some told) reads reads' level annotation object bytes o earlier name later traces holds is read (inr absent) = (
+  placed earlier later object name,
+  inr (
+    rw (name_there object earlier name later) absent,
+    told_stop (Some told) level annotation object bytes o earlier name later traces (ReadFault (Word (length earlier + 1))) holds is read
+        (λ held e Next. rw (absent_at (Some told) name held e absent) refl),
+  ),
+)
+
+-- one of the files is no trace that fits
+coverage_refused : (held : Option Held) (reads reads' : ℕ) (level : Level) (annotation : Annotation) (object bytes : List ℕ) (o : Object)
+    (earlier : List (List ℕ)) (name : List ℕ) (later traces : List (List ℕ)) (status : Status)
+    → IfSome held (Holds object bytes) → IsFileOf o bytes → AreRead held o earlier traces
+    → IsNoTrace (length earlier + 1) o name held reads reads' status
+    → Stops (Coverage level annotation object (earlier ++ (name ∷ later))) held reads reads' status
+coverage_refused held reads reads' level annotation object bytes o earlier name later traces status holds is read stop =
+    let number = length earlier + 1 in
+    let says : (status : Status) → RefusesTrace number o stop.trace status
+    → IfSome held (λ told. ComesTo told (Coverage level annotation object (earlier ++ (name ∷ later))) (Err status)) =
+    λ status refused. told_stop held level annotation object bytes o earlier name later traces status holds is read
+    (λ told e Next. rw (subst (λ (h : Option Held). IfSome h (Holds name stop.trace)) e stop.holds) (inl refused)) in
+    by_cause status stop.refused says
+  where
+    by_cause : (status : Status) → RefusesTrace (length earlier + 1) o stop.trace status
+        → ((s : Status) → RefusesTrace (length earlier + 1) o stop.trace s
+        → IfSome held (λ told. ComesTo told (Coverage level annotation object (earlier ++ (name ∷ later))) (Err s)))
+        → Stops (Coverage level annotation object (earlier ++ (name ∷ later))) held reads reads' status
+    by_cause status (inl r) says = rw r.2 (stop.count, says (TraceRefused (length earlier + 1) (File r.0)) (inl (r.0, r.1, refl)))
+    by_cause status (inr (inl r)) says = rw r.2 (stop.count, says (TraceRefused (length earlier + 1) (Fit r.0)) (inr (inl (r.0, r.1, refl))))
+    by_cause status (inr (inr r)) says = rw r.2 (stop.count, says (TraceRefused (length earlier + 1) (Broken r.0)) (inr (inr (r.0, r.1, refl))))
+
+stops_told : (held : Option Held) (reads reads' : ℕ) (level : Level) (annotation : Annotation) (object bytes : List ℕ) (names : List (List ℕ)) (o : Object) (status : Status)
+    → IfSome held (Holds object bytes) → IsFileOf o bytes → StopsAmong o names held reads reads' status
+    → Stops (Coverage level annotation object names) held reads reads' status
+stops_told held reads reads' level annotation object bytes names o status holds is stop =
+    rw stop.are (by_cause stop.stops)
+  where
+    by_cause : StopsAt (length stop.earlier + 1) o stop.name held reads reads' status
+        → Stops (Coverage level annotation object (stop.earlier ++ (stop.name ∷ stop.later))) held reads reads' status
+    by_cause (inl (inl memory)) = rw memory tt
+    by_cause (inl (inr (e, cause))) =
+        rw e (coverage_absent held reads reads' level annotation object bytes o stop.earlier stop.name stop.later stop.traces holds is stop.read cause)
+    by_cause (inr no_trace) =
+        coverage_refused held reads reads' level annotation object bytes o stop.earlier stop.name stop.later stop.traces status holds is stop.read no_trace
+
+-- the same, of what is held and counted after the object was read
+pub coverage_stops : (held held' : Option Held) (reads reads' reads'' : ℕ) (level : Level) (annotation : Annotation) (object bytes : List ℕ) (names : List (List ℕ)) (o : Object) (status : Status)
+    → held' ≡ held → reads' ≡ reads → IfSome held (Holds object bytes) → IsFileOf o bytes → StopsAmong o names held' reads' reads'' status
+    → Stops (Coverage level annotation object names) held reads reads'' status
+coverage_stops held held' reads reads' reads'' level annotation object bytes names o status same count holds is stop =
+    let here = subst (λ (h : Option Held). StopsAmong o names h reads' reads'' status) same stop in
+    let then_so = subst (λ (n : ℕ). StopsAmong o names held n reads'' status) count here in
+    stops_told held reads reads'' level annotation object bytes names o status holds is then_so
+
+-- a report of all of them, which were added to a coverage of nothing
+pub coverage_made : (held held' : Option Held) (reads reads' : ℕ) (level : Level) (annotation : Annotation) (object bytes : List ℕ) (names traces : List (List ℕ)) (o : Object) (old new : Covered) (verdict : Result Output Status)
+    → held' ≡ held → reads' ≡ reads → IfSome held (Holds object bytes) → IsFileOf o bytes → AreRead held' o names traces
+    → ((e : Event) → Has old e → ⊥) → ((d : List ℕ) → HasRun old d → ⊥) → Adds o old new traces → IsReportOf level o new verdict
+    → Prepares (Coverage level annotation object names) held reads reads' verdict
+coverage_made held held' reads reads' level annotation object bytes names traces o old new (Err status) same count holds is read no_event no_run adds text = rw text tt
+coverage_made held held' reads reads' level annotation object bytes names traces o old new (Ok output) same count holds is read no_event no_run adds text = (
+  count,
+  ap (option_map (λ (f : NewFile). f.name)) text.0,
+  told held holds (subst (λ (h : Option Held). AreRead h o names traces) same read),
+)
+  where
+    fits : (held : Option Held) (names traces : List (List ℕ)) → AreRead held o names traces → AllByRecursion (IsTraceFor o) traces
+    fits held [] [] read = tt
+    fits held [] (t ∷ traces) read = absurd read
+    fits held (n ∷ names) [] read = absurd read
+    fits held (n ∷ names) (t ∷ traces) read = (read.1, fits held names traces read.2)
+
+    told : (held : Option Held) → IfSome held (Holds object bytes) → AreRead held o names traces
+        → IfSome held (λ told. ComesTo told (Coverage level annotation object names) (Ok output))
+    told None holds read = tt
+    told (Some h) holds read =
+        after_object (Some h) object bytes o (λ told o. AfterTraces told o 1 names (Covers level annotation o)) (Ok output) holds is
+        (all_read h o 1 names traces (Covers level annotation o) (Ok output) read (
+          text.0,
+          record { fit = fits (Some h) names traces read; report = reports_added level o old new traces output.text no_event no_run adds text.1 },
+        ))
+
+-- ---- run
+
+-- after the object: the input is read, and what follows holds
+abbrev runs_next : (trace : List ℕ) → (budget : ℕ) → (input : List ℕ) → Held → Object → Result Output Status → Type 0
+runs_next trace budget input told o = AfterRead told 1 input (λ bytes. AfterInput bytes (RunsOn trace budget o))
+
+pub run_no_object : (held : Option Held) (reads reads' : ℕ) (input : List ℕ) (budget : ℕ) (trace object bytes : List ℕ) (status : Status)
+    → reads' ≡ reads → IfSome held (Holds object bytes) → UnlessMemory (RefusesObject bytes) status
+    → Stops (Run input budget trace object) held reads reads' status
+run_no_object held reads reads' input budget trace object bytes status same holds (inl memory) = rw memory tt
+run_no_object held reads reads' input budget trace object bytes status same holds (inr r) =
+    rw r.2 (same, no_object held object bytes (runs_next trace budget input) (ObjectRefused r.0) holds (r.0, r.1, refl))
+
+pub run_unread : (held held' : Option Held) (reads reads' reads'' : ℕ) (input : List ℕ) (budget : ℕ) (trace object bytes : List ℕ) (o : Object) (status : Status)
+    → held' ≡ held → reads' ≡ reads → IfSome held (Holds object bytes) → IsFileOf o bytes → IsUnread 1 input held' reads' reads'' status
+    → Stops (Run input budget trace object) held reads reads'' status
+run_unread held held' reads reads' reads'' input budget trace object bytes o status same count holds is (inl memory) = rw memory tt
+run_unread held held' reads reads' reads'' input budget trace object bytes o status same count holds is (inr (e, inl rose)) =
+    rw e (lit< tt, inl (subst (λ (n : ℕ). Rose n reads'') count rose))
+run_unread held held' reads reads' reads'' input budget trace object bytes o status same count holds is (inr (e, inr absent)) =
+    let gone = subst (λ (h : Option Held). IsAbsent h input) same absent in
+    rw e (
+      lit< tt,
+      inr (
+        gone,
+        unread_after_object held object bytes o (runs_next trace budget input) (Err (ReadFault (Word 1))) holds is
+            (unread held 1 input (λ told bytes. AfterInput bytes (RunsOn trace budget o)) gone),
+      ),
+    )
+
+told_run : (held : Option Held) (input : List ℕ) (budget : ℕ) (trace object bytes text : List ℕ) (o : Object) (verdict : Result Output Status)
+    → IfSome held (Holds object bytes) → IsFileOf o bytes → IfSome held (Holds input text) → AfterInput text (RunsOn trace budget o) verdict
+    → IfSome held (λ told. ComesTo told (Run input budget trace object) verdict)
+told_run held input budget trace object bytes text o verdict holds is there says =
+    after_object held object bytes o (runs_next trace budget input) verdict holds is
+    (after_read held 1 input text (λ told bytes. AfterInput bytes (RunsOn trace budget o)) verdict there (always held says))
+
+pub run_no_input : (held : Option Held) (reads reads' : ℕ) (input : List ℕ) (budget : ℕ) (trace object bytes text : List ℕ) (o : Object) (status : Status)
+    → reads' ≡ reads → IfSome held (Holds object bytes) → IsFileOf o bytes → IfSome held (Holds input text) → UnlessMemory (RefusesInput text) status
+    → Stops (Run input budget trace object) held reads reads' status
+run_no_input held reads reads' input budget trace object bytes text o status same holds is there (inl memory) = rw memory tt
+run_no_input held reads reads' input budget trace object bytes text o status same holds is there (inr r) =
+    rw r.2 (same, told_run held input budget trace object bytes text o (Err (InputRefused r.0)) holds is there (inl (r.0, r.1, refl)))
+
+pub run_stops : (held : Option Held) (reads reads' : ℕ) (input : List ℕ) (budget : ℕ) (trace object bytes text : List ℕ) (numbers : List ℤ) (o : Object) (status : Status)
+    → reads' ≡ reads → IfSome held (Holds object bytes) → IsFileOf o bytes → IfSome held (Holds input text) → IsInputOf numbers text
+    → UnlessMemory (StopsRun o budget numbers) status
+    → Stops (Run input budget trace object) held reads reads' status
+run_stops held reads reads' input budget trace object bytes text numbers o status same holds is there read (inl memory) = rw memory tt
+run_stops held reads reads' input budget trace object bytes text numbers o (OverBudget count) same holds is there read (inr s) =
+    (same, told_run held input budget trace object bytes text o (Err (OverBudget count)) holds is there (inr (numbers, read, s)))
+run_stops held reads reads' input budget trace object bytes text numbers o (Trap pc why) same holds is there read (inr s) =
+    (same, told_run held input budget trace object bytes text o (Err (Trap pc why)) holds is there (inr (numbers, read, s)))
+run_stops held reads reads' input budget trace object bytes text numbers o _ same holds is there read (inr s) = absurd s
+
+pub run_made : (held : Option Held) (reads reads' : ℕ) (input : List ℕ) (budget : ℕ) (trace object bytes text : List ℕ) (numbers : List ℤ) (file told : List ℕ) (o : Object)
+    → reads' ≡ reads → IfSome held (Holds object bytes) → IsFileOf o bytes → IfSome held (Holds input text) → IsInputOf numbers text
+    → RunsTo o budget numbers (record { file = file; text = told })
+    → Prepares (Run input budget trace object) held reads reads' (Ok (record { file = Some (record { name = trace; bytes = file }); text = told }))
+run_made held reads reads' input budget trace object bytes text numbers file told o same holds is there read says = (
+  same,
+  refl,
+  told_run held input budget trace object bytes text o (Ok (record { file = Some (record { name = trace; bytes = file }); text = told })) holds is there
+      (inr (numbers, read, (file, refl, says))),
+)

@@ -1,0 +1,182 @@
+-- What a command's answer says of the bytes that it read. This is the one place for it: what is written here is a
+-- clause of the program's public call, since `ComesTo` is made of these words and of nothing else.
+use Rattle.std.specs.Prelude.{◌≡◌, ◌≢◌, ◌↔◌, ◌⊎◌, ℕ, ℤ, ◌++◌, true, List, [], ◌∷◌, length, map, sum_by, codes, AllPairs, Some, None, Ok, Err}
+use Rattle.std.specs.Fmt.{decimal}
+use Rattle.std.specs.List.{AllByRecursion}
+use Rattle.annotated_report.specs.Report.{report_text}
+use Rattle.ada_meaning.specs.Program.{Program}
+use Rattle.compiler.specs.Legal.{AreRefused}
+use Rattle.compiler.specs.Source.{IsObjectOf, IsCheap}
+use Rattle.cov_base.specs.declared.event.Event.{Event}
+use Rattle.cov_base.specs.declared.level.Annotation.{Annotation}
+use Rattle.cov_base.specs.declared.level.Level.{Level}
+use Rattle.cov_base.specs.declared.obligations.SourceFile.{SourceFile}
+use Rattle.decision_map.specs.declared.fault.FitFault.{FitFault}
+use Rattle.decision_map.specs.Fits.{fault_of}
+use Rattle.decision_meaning.specs.Pair.{Somewhere}
+use Rattle.compiler.specs.declared.fault.SourceFault.{SourceFault}
+use Rattle.commands.specs.declared.status.Status.{Status}
+use Rattle.commands.specs.declared.status.Status.TheVariants.{SourceRefused, ObjectRefused, TraceRefused, InputRefused, OverBudget, Trap}
+use Rattle.commands.specs.declared.status.TraceWhy.TheVariants.{File, Fit, Broken}
+use Rattle.commands.specs.RunLines.{run_lines}
+use Rattle.hex.specs.Hex.{encode_lower}
+use Rattle.object_facts.specs.Object.{facts_of}
+use Rattle.object_format.specs.declared.fault.ObjectFault.{ObjectFault}
+use Rattle.object_format.specs.declared.object.Object.{Object}
+use Rattle.object_format.specs.File.{object_bytes}
+use Rattle.object_format.specs.Read.{IsObject, is_plain, passes_plain_field, IsRefusedFor}
+use Rattle.rv32_emulator.specs.InputFile.{numbers_of}
+use Rattle.rv_machine.specs.Objects.{object_run}
+use Rattle.rv_semantics.specs.declared.stepped.Seen.{Seen}
+use Rattle.rv_semantics.specs.Run.Outcome.{Ended, Trapped, Cut}
+use Rattle.trace_format.specs.declared.fault.TraceFault.{TraceFault}
+use Rattle.trace_format.specs.Checks.{trace_of}
+use Rattle.trace_format.specs.Formats.{trace_spelling, trace_digest}
+use Rattle.trace_format.specs.Trace.{TraceFile, closed_by}
+use Rattle.trace_record.specs.Written.{traced}
+use Rattle.transcript.specs.Reading.{AllFollow}
+use Rattle.transcript.specs.Replay.{BreaksAt}
+use Rattle.transcript.specs.Trace.{Says}
+use Rattle.vector_rebuild.specs.declared.fault.BrokenHistory.{BrokenHistory}
+use Rattle.vector_rebuild.specs.Entries.{trace_in}
+use Rattle.vector_rebuild.specs.Rebuilt.{visits_of}
+
+-- the bytes that a command writes, and the text that it puts
+pub record Made : Type 0 where
+  pub file : List ℕ
+  pub text : List ℕ
+
+-- ---- objects and traces that were read
+
+-- the bytes are the file of this object, in the language of the moment
+pub record IsFileOf (o : Object) (bytes : List ℕ) : Type 0 where
+  pub checked : IsObject o
+  pub plain : is_plain o ≡ true
+  pub spelled : bytes ≡ object_bytes o
+
+-- each branch of a trace's history that is not the root of its decision's graph follows one that leads to it
+abbrev pub Follows : Object → TraceFile → Type 0
+Follows o trace = AllFollow (facts_of o) [] (visits_of (facts_of o) trace.history)
+
+-- the bytes are the file of a trace that can be one of the object
+pub record IsTraceFor (o : Object) (bytes : List ℕ) : Type 0 where
+  pub trace : TraceFile
+  pub read : trace_of bytes ≡ Ok trace
+  pub fits : fault_of o trace ≡ None
+  pub follows : Follows o trace
+
+-- this is the first check of its format that the trace fails
+abbrev pub FailsAlone : List ℕ → TraceFault → Type 0
+FailsAlone bytes why = trace_of bytes ≡ Err why
+
+-- this is the first check beside the object that the trace fails, which passes those of its format
+abbrev pub FailsBeside : Object → List ℕ → FitFault → Type 0
+FailsBeside o bytes why = (trace : TraceFile) × (trace_of bytes ≡ Ok trace) × (fault_of o trace ≡ Some why)
+
+-- the history of the trace, which passes all other checks, breaks first at that entry
+abbrev pub BreaksIn : Object → List ℕ → ℕ → Type 0
+BreaksIn o bytes place =
+    (trace : TraceFile) × (trace_of bytes ≡ Ok trace) × (fault_of o trace ≡ None)
+    × BreaksAt (facts_of o) (visits_of (facts_of o) trace.history) place
+
+-- ---- compile
+
+-- a fault of a source, as a status
+abbrev pub refused_for : SourceFault → Status
+refused_for fault = SourceRefused fault.file fault.line fault.col fault.why
+
+-- the sources of a compilation: so far one, of this name, with these bytes
+abbrev pub sources_of : (name source : List ℕ) → List SourceFile
+sources_of name source = record { name = name; bytes = source } ∷ []
+
+-- the source of this name is no legal program whose main unit is called so, and this is its first fault
+abbrev pub RefusesSource : (main name source : List ℕ) → Status → Type 0
+RefusesSource main name source status = (fault : SourceFault) × AreRefused (sources_of name source) main fault × (status ≡ refused_for fault)
+
+-- how many conditions the decisions of an object have
+abbrev pub condition_count : Object → ℕ
+condition_count o = sum_by (λ d. length d.conditions) o.obligations.decisions
+
+-- the lines that tell of an object: what coverage has to show, and the digest at its end
+abbrev pub object_lines : Object → List ℕ
+object_lines o =
+    codes "obligations: " ++ (decimal (length o.obligations.statements)
+    ++ (codes " statements, " ++ (decimal (length o.obligations.decisions)
+    ++ (codes " decisions, " ++ (decimal (condition_count o)
+    ++ (codes " conditions\nobject: " ++ (encode_lower o.closing ++ codes "\n")))))))
+
+-- the source is a legal program; the file is that of an object of it, which is cheap, and the text tells that object's counts and digest
+pub record CompilesTo (main name source : List ℕ) (made : Made) : Type 0 where
+  pub program : Program
+  pub object : Object
+  pub of_program : IsObjectOf (sources_of name source) main program object
+  pub cheap : IsCheap (sources_of name source) main program object
+  pub spelled : made.file ≡ object_bytes object
+  pub told : made.text ≡ object_lines object
+
+-- ---- run
+
+-- run and coverage: the bytes are no object, and this is the first check that they fail
+abbrev pub RefusesObject : (object : List ℕ) → Status → Type 0
+RefusesObject object status = (why : ObjectFault) × IsRefusedFor passes_plain_field object why × (status ≡ ObjectRefused why)
+
+-- the bytes are an input of these numbers
+abbrev pub IsInputOf : List ℤ → (input : List ℕ) → Type 0
+IsInputOf numbers input = numbers_of input ≡ Ok numbers
+
+-- this is the first line of the bytes that is no number
+abbrev pub RefusesInput : (input : List ℕ) → Status → Type 0
+RefusesInput input status = (line : ℕ) × (numbers_of input ≡ Err line) × (status ≡ InputRefused line)
+
+-- the object's run on the input has no ending: it had not ended after as many instructions as its budget, or an instruction trapped before
+abbrev pub StopsRun : Object → (budget : ℕ) → (input : List ℤ) → Status → Type 0
+StopsRun o budget input (OverBudget count) =
+    ((object_run o budget input).outcome ≡ Cut) × (length (object_run o budget input).entries ≡ budget) × (count ≡ budget)
+StopsRun o budget input (Trap pc why) = (object_run o budget input).outcome ≡ Trapped pc why
+StopsRun o budget input status = ⊥
+
+-- the trace of a transcript and an ending, closed by the digest of its own file
+abbrev pub trace_file : Object → List Seen → (ending : ℕ) → TraceFile
+trace_file o entries ending = closed_by (traced o entries ending) (trace_digest (traced o entries ending))
+
+-- the object's run on the input ends within its budget; the file is the trace of its transcript and ending, and the text tells its output,
+-- its ending, its length and its trace's digest
+pub record RunsTo (o : Object) (budget : ℕ) (input : List ℤ) (made : Made) : Type 0 where
+  pub ending : ℕ
+  pub ended : (object_run o budget input).outcome ≡ Ended ending
+  pub traced : made.file ≡ trace_spelling (traced o (object_run o budget input).entries ending)
+  pub reads_back : trace_of made.file ≡ Ok (trace_file o (object_run o budget input).entries ending)
+  pub told : made.text ≡
+      run_lines o.obligations.exceptions (object_run o budget input).output ending (length (object_run o budget input).entries) made.file
+
+-- ---- coverage
+
+-- the bytes are no trace of the object, and this is the first check that they fail; they are those of the trace with this number, from 1
+abbrev pub RefusesTrace : ℕ → Object → (trace : List ℕ) → Status → Type 0
+RefusesTrace number o trace status =
+    ((why : TraceFault) × FailsAlone trace why × (status ≡ TraceRefused number (File why)))
+    ⊎ (((why : FitFault) × FailsBeside o trace why × (status ≡ TraceRefused number (Fit why)))
+    ⊎ ((why : BrokenHistory) × BreaksIn o trace why.at × (status ≡ TraceRefused number (Broken why))))
+
+-- the trace in these bytes says that an event occurred in the run
+abbrev pub Shows : Object → (trace : List ℕ) → Event → Type 0
+Shows o bytes e = (trace : TraceFile) × (trace_of bytes ≡ Ok trace) × Says (facts_of o) (trace_in trace) e
+
+-- the trace in these bytes ends with this digest, by which its run is told from others
+abbrev pub ClosesWith : (digest trace : List ℕ) → Type 0
+ClosesWith digest bytes = (trace : TraceFile) × (trace_of bytes ≡ Ok trace) × (trace.closing ≡ digest)
+
+-- the text is the report at a level on an object, over events and over runs with digests: each of the events is there, and each run is
+-- counted once
+pub record IsReport (level : Level) (o : Object) (IsThere : Event → Type 0) (IsCounted : List ℕ → Type 0) (text : List ℕ) : Type 0 where
+  pub events : List Event
+  pub digests : List (List ℕ)
+  pub all_events : (e : Event) → Somewhere (λ x. x ≡ e) events ↔ IsThere e
+  pub all_digests : (digest : List ℕ) → Somewhere (λ x. x ≡ digest) digests ↔ IsCounted digest
+  pub each_once : AllPairs (λ x y. x ≢ y) digests
+  pub told : text ≡ report_text level o.obligations (length digests) events (map (λ file. file.name) o.files)
+
+-- each of the files is a trace of the object; the text is the report at the level of what they show
+pub record Reports (level : Level) (annotation : Annotation) (o : Object) (traces : List (List ℕ)) (text : List ℕ) : Type 0 where
+  pub fit : AllByRecursion (IsTraceFor o) traces
+  pub report : IsReport level o (λ e. Somewhere (λ trace. Shows o trace e) traces) (λ digest. Somewhere (ClosesWith digest) traces) text

@@ -1,0 +1,64 @@
+-- What coverage prints of an object's own runs.
+use Rattle.std.specs.Prelude.{◌≡◌, ◌≢◌, ◌↔◌, ℕ, ℤ, List, [], ◌∷◌, length, map, AllPairs, Option, Some, Ok}
+use Rattle.std.specs.FinMap as finmap
+use Rattle.annotated_report.specs.Report.{report_text}
+use Rattle.command_words.specs.Task.{Task, Coverage}
+use Rattle.cov_base.specs.declared.event.Event.{Event}
+use Rattle.cov_base.specs.declared.level.Annotation.{Annotation}
+use Rattle.cov_base.specs.declared.level.Level.{Level}
+use Rattle.cov_io.specs.Outside.{Held, WhereTold, Appends}
+use Rattle.decision_meaning.specs.Pair.{Everywhere, Somewhere}
+use Rattle.commands.specs.Content.{IsFileOf, trace_file}
+use Rattle.commands.specs.declared.status.Status.{Status}
+use Rattle.commands.specs.declared.status.Status.TheVariants.{Done}
+use Rattle.commands.specs.Outcome.{Call}
+use Rattle.object_facts.specs.Object.{facts_of}
+use Rattle.object_format.specs.declared.object.Object.{Object}
+use Rattle.rv_machine.specs.Objects.{object_run}
+use Rattle.rv_semantics.specs.declared.stepped.Seen.{Seen}
+use Rattle.rv_semantics.specs.Run.Outcome.{Ended}
+use Rattle.trace_format.specs.Checks.{trace_of}
+use Rattle.trace_format.specs.Formats.{trace_spelling}
+use Rattle.trace_record.specs.Written.{traced}
+use Rattle.transcript.specs.Reading.{Tells, IsDisciplined}
+
+-- a run of an object: its budget, its input, and the number of its ending
+pub record ARun : Type 0 where
+  pub budget : ℕ
+  pub input : List ℤ
+  pub ending : ℕ
+
+-- the instructions that it executes
+abbrev pub transcript_of : Object → ARun → List Seen
+transcript_of o r = (object_run o r.budget r.input).entries
+
+-- the bytes are the file of the trace of this run of the object, which ended
+pub record IsTraceOf (o : Object) (r : ARun) (bytes : List ℕ) : Type 0 where
+  pub ended : (object_run o r.budget r.input).outcome ≡ Ended r.ending
+  pub traced : bytes ≡ trace_spelling (traced o (transcript_of o r) r.ending)
+  pub reads_back : trace_of bytes ≡ Ok (trace_file o (transcript_of o r) r.ending)
+
+-- the files of these names hold the traces of these runs of the object, one each, in order
+abbrev pub AreTracesOf : Held → Object → (names : List (List ℕ)) → List ARun → Type 0
+AreTracesOf held o [] [] = Unit {0}
+AreTracesOf held o [] (r ∷ rs) = ⊥
+AreTracesOf held o (name ∷ names) [] = ⊥
+AreTracesOf held o (name ∷ names) (r ∷ rs) =
+    (bytes : List ℕ) × (finmap.get held name ≡ Some bytes) × IsTraceOf o r bytes × AreTracesOf held o names rs
+
+-- the digest that closes a run's trace
+abbrev pub digest_of_run : Object → ARun → List ℕ
+digest_of_run o r = (trace_file o (transcript_of o r) r.ending).closing
+
+-- After Done of coverage over an object and traces of runs of it with disciplined transcripts, what was put is the report of the events that
+-- these transcripts tell, whatever the list in which they are given, and of the number of their different traces.
+unfoldable pub RunsAreCovered : Option Task → Call → Status → Type 0
+RunsAreCovered task call status =
+    (held : Held) (level : Level) (annotation : Annotation) (object : List ℕ) (names : List (List ℕ))
+    → call.held ≡ Some held → task ≡ Some (Coverage level annotation object names) → status ≡ Done
+    → (bytes : List ℕ) (o : Object) → finmap.get held object ≡ Some bytes → IsFileOf o bytes
+    → (runs : List ARun) → AreTracesOf held o names runs → Everywhere (λ r. IsDisciplined (facts_of o) (transcript_of o r)) runs
+    → (events : List Event) → ((e : Event) → Somewhere (λ x. x ≡ e) events ↔ Somewhere (λ r. Tells (facts_of o) (transcript_of o r) e) runs)
+    → (digests : List (List ℕ)) → ((d : List ℕ) → Somewhere (λ x. x ≡ d) digests ↔ Somewhere (λ r. digest_of_run o r ≡ d) runs)
+    → AllPairs (λ x y. x ≢ y) digests
+    → WhereTold (Appends (report_text level o.obligations (length digests) events (map (λ file. file.name) o.files))) call.written call.written_after

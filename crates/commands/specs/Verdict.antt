@@ -1,0 +1,92 @@
+-- What a task comes to on what the files hold, where nothing outside fails and memory suffices.
+use Rattle.std.specs.Prelude.{◌≡◌, ℕ, ◌+◌, ◌<◌, ℤ, List, [], ◌∷◌, length, Option, None, Some, MatchOption, unwrap_or, slice_get, Result, Err, MatchResult, IsOkAnd, IsErrAnd, ◌⊎◌}
+use Rattle.std.specs.FinMap as finmap
+use Rattle.cov_base.specs.declared.level.Annotation.{Annotation}
+use Rattle.cov_base.specs.declared.level.Level.{Level}
+use Rattle.command_words.specs.Task.{Task, Compile, Run, Coverage}
+use Rattle.cov_io.specs.Outside.{Held}
+use Rattle.commands.specs.Content.{Made, IsFileOf, RefusesSource, CompilesTo, RefusesObject, IsInputOf, RefusesInput, StopsRun, RunsTo, IsTraceFor, RefusesTrace, Reports}
+use Rattle.commands.specs.declared.status.FileRef.{FileRef}
+use Rattle.commands.specs.declared.status.FileRef.TheVariants.{Word}
+use Rattle.commands.specs.declared.status.Status.{Status}
+use Rattle.commands.specs.declared.status.Status.TheVariants.{SourceRefused, ReadFault}
+use Rattle.commands.specs.TaskFiles.{files_of}
+use Rattle.object_format.specs.declared.object.Object.{Object}
+
+-- a file to be written
+pub record NewFile : Type 0 where
+  pub name : List ℕ
+  pub bytes : List ℕ
+
+-- what a command writes, if it does, and puts
+pub record Output : Type 0 where
+  pub file : Option NewFile
+  pub text : List ℕ
+
+-- a file is there, and what follows holds of its bytes; or it is not, and that is the answer
+abbrev pub AfterRead : Held → ℕ → List ℕ → (List ℕ → Result Output Status → Type 0) → Result Output Status → Type 0
+AfterRead held place name Then verdict =
+    MatchOption (finmap.get held name) (verdict ≡ Err (ReadFault (Word place))) (λ bytes. Then bytes verdict)
+
+-- the bytes are those of an object, and what follows holds of it; or they are none, and that is the answer
+abbrev pub AfterObject : List ℕ → (Object → Result Output Status → Type 0) → Result Output Status → Type 0
+AfterObject bytes Then verdict =
+    IsErrAnd verdict (RefusesObject bytes) ⊎ ((o : Object) × IsFileOf o bytes × Then o verdict)
+
+-- the output writes this file
+abbrev pub Writes : List ℕ → Output → (Made → Type 0) → Type 0
+Writes name output Says =
+    (bytes : List ℕ) × (output.file ≡ Some (record { name = name; bytes = bytes })) × Says (record { file = bytes; text = output.text })
+
+-- the source was read
+abbrev pub Compiles : (main object name source : List ℕ) → Result Output Status → Type 0
+Compiles main object name source verdict =
+    MatchResult verdict (λ output. Writes object output (CompilesTo main name source)) (RefusesSource main name source)
+
+-- the bytes are an input, and what follows holds of its numbers; or they are none, and that is the answer
+abbrev pub AfterInput : List ℕ → (List ℤ → Result Output Status → Type 0) → Result Output Status → Type 0
+AfterInput bytes Then verdict = IsErrAnd verdict (RefusesInput bytes) ⊎ ((input : List ℤ) × IsInputOf input bytes × Then input verdict)
+
+-- the object and the input were read
+abbrev pub RunsOn : (trace : List ℕ) → (budget : ℕ) → Object → (input : List ℤ) → Result Output Status → Type 0
+RunsOn trace budget o input verdict = MatchResult verdict (λ output. Writes trace output (RunsTo o budget input)) (StopsRun o budget input)
+
+-- the bytes are a trace for the object, and what follows holds; or they are none, and that is the answer
+abbrev pub AfterTrace : (number : ℕ) → Object → (trace : List ℕ) → (Result Output Status → Type 0) → Result Output Status → Type 0
+AfterTrace number o trace Then verdict = IsErrAnd verdict (RefusesTrace number o trace) ⊎ (IsTraceFor o trace × Then verdict)
+
+-- the traces of these names are read and checked one after another, the first with this number, and what follows holds of all of them
+abbrev pub AfterTraces : Held → Object → (number : ℕ) → (names : List (List ℕ)) → (List (List ℕ) → Result Output Status → Type 0) → Result Output Status → Type 0
+AfterTraces held o number [] Then verdict = Then [] verdict
+AfterTraces held o number (name ∷ names) Then verdict =
+    AfterRead held number name
+    (λ trace. AfterTrace number o trace (AfterTraces held o (number + 1) names (λ traces. Then (trace ∷ traces))))
+    verdict
+
+-- the object and the traces were read
+abbrev pub Covers : Level → Annotation → Object → List (List ℕ) → Result Output Status → Type 0
+Covers level annotation o traces verdict = IsOkAnd verdict (λ output. (output.file ≡ None) × Reports level annotation o traces output.text)
+
+-- what the task comes to
+abbrev pub ComesTo : Held → Task → Result Output Status → Type 0
+ComesTo held (Compile main object source) verdict = AfterRead held 0 source (Compiles main object source) verdict
+ComesTo held (Run input budget trace object) verdict =
+    AfterRead held 0 object
+    (λ bytes. AfterObject bytes (λ o. AfterRead held 1 input (λ bytes. AfterInput bytes (RunsOn trace budget o))))
+    verdict
+ComesTo held (Coverage level annotation object traces) verdict =
+    AfterRead held 0 object (λ bytes. AfterObject bytes (λ o. AfterTraces held o 1 traces (Covers level annotation o))) verdict
+
+-- the name of a file that a task reads
+abbrev pub name_at : Task → FileRef → List ℕ
+name_at task (Word place) = unwrap_or (slice_get (files_of task) place) []
+
+-- the task reads this file
+abbrev pub IsRead : Task → FileRef → Type 0
+IsRead task (Word place) = place < length (files_of task)
+
+-- the name that the line of a refusal tells
+abbrev pub name_of : Task → Status → List ℕ
+name_of task (SourceRefused file line col why) = name_at task (Word file)
+name_of task (ReadFault file) = name_at task file
+name_of task status = []

@@ -1,0 +1,25 @@
+//! The commands of gnatcov as one call: [`gnatcov`] takes the command words, the files and the
+//! sink of the output, and answers a [`Status`].
+//!
+//! A command reads its files, checks all of them and makes its output before anything is written
+//! or put. So a refusal leaves the files as they were and puts one line, which tells it.
+//!
+//! The contract of [`gnatcov`] begins with one clause that determines each answer, `answers`, over
+//! `Answers` of `specs/Outcome.antt`. Those that follow from it are for a reader: when files
+//! change, why a read or a write fault comes, and that after `coverage` over the object of a
+//! program and traces of its runs the report is that of the program's own executions.
+#![tactic(auto)]
+
+mod ready;
+mod run_lines;
+mod status;
+mod top_call;
+
+pub use compiler::Why;
+pub use decision_map::FitFault;
+pub use object_format::ObjectFault;
+pub use rv_semantics::TrapWhy;
+pub use status::{FileRef, Status, TraceWhy};
+pub use top_call::gnatcov;
+pub use trace_format::TraceFault;
+pub use vector_rebuild::BrokenHistory;

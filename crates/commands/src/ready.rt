@@ -1,0 +1,111 @@
+//! Making a command's output: all files are read and checked, and nothing is written or put yet.
+
+ghost use Rattle.std.specs.Prelude.{◌≡◌, OnOk, IfOk, IfErr, IfSome};
+ghost use Rattle.command_words.specs.Command.{task_view};
+ghost use Rattle.command_words.specs.Task.{IsWithinLimits};
+ghost use Rattle.cov_io.specs.Outside.{Holds};
+ghost use Rattle.commands.specs.Content.{IsFileOf, RefusesObject};
+ghost use Rattle.commands.specs.Failures.{object_status};
+ghost use Rattle.commands.specs.Outcome.{Prepares};
+ghost use Rattle.commands.specs.Reading.{IsUnread, UnlessMemory};
+ghost use Rattle.commands.specs.Ready.{verdict_view};
+
+use crate::status::{FileRef, Status};
+use command_words::Command;
+use cov_base::Failure;
+use cov_io::{FileFault, Files};
+use object_format::{Object, ObjectFault, read_object};
+use std::alloc::Global;
+
+mod compile;
+mod coverage;
+mod run;
+
+/// A file to be written.
+#[derive(Debug, Drop)]
+pub struct ReadyFile<'a> {
+    pub name: &'a str,
+    pub bytes: Vec<u8>,
+}
+
+/// What a command made: the file that it writes, if it does, and the text that it puts.
+#[derive(Debug, Drop)]
+pub struct Ready<'a> {
+    pub file: Option<ReadyFile<'a>>,
+    pub text: Vec<u8>,
+}
+
+/// Makes the output of a command, or says why there is none.
+pub fn prepare<'a, F: Files>(
+    alloc: Global,
+    command: &Command<'a>,
+    files: &mut F,
+) -> Result<Ready<'a>, Status>
+    requires { IsWithinLimits (task_view command.now) }
+    ensures prepares { Prepares (task_view command.now) (F.held files.old) (F.reads_failed files.old) (F.reads_failed files.new) (verdict_view result) }
+    ensures same { F.held files.new ≡ F.held files.old }
+    ensures writes { F.writes_failed files.new ≡ F.writes_failed files.old }
+{
+    match command {
+        Command::Compile {
+            main,
+            object,
+            source,
+        } => compile::prepare(alloc, main, object, source, files),
+        Command::Run {
+            input,
+            budget,
+            trace,
+            object,
+        } => run::prepare(alloc, input, *budget, trace, object, files),
+        Command::Coverage {
+            level,
+            annotate,
+            object,
+            traces,
+        } => coverage::prepare(alloc, *level, *annotate, object, traces.as_slice(), files),
+    }
+}
+
+/// The bytes of the file in this place among those that the command reads.
+fn read_file<F: Files>(
+    alloc: Global,
+    place: u32,
+    name: &str,
+    files: &mut F,
+) -> Result<Vec<u8>, Status>
+    ensures read { IfOk result (λ bytes. IfSome (F.held files.old) (Holds name.now bytes.items)) }
+    ensures reads { OnOk result (F.reads_failed files.new ≡ F.reads_failed files.old) }
+    ensures unread { IfErr result (IsUnread place name.now (F.held files.old) (F.reads_failed files.old) (F.reads_failed files.new)) }
+    ensures same { F.held files.new ≡ F.held files.old }
+    ensures writes { F.writes_failed files.new ≡ F.writes_failed files.old }
+{
+    let file = FileRef::Word(place);
+    let mut bytes = Vec::new(alloc);
+    match files.read(name, &mut bytes) {
+        Ok(()) => Ok(bytes),
+        Err(FileFault::Failed) => Err(Status::ReadFault { file }),
+        Err(FileFault::NoMemory) => Err(Status::WantOfMemory),
+    }
+}
+
+/// The object that a file holds.
+fn object_of(alloc: Global, bytes: &[u8]) -> Result<Object, Status>
+    ensures read { IfOk result (λ o. IsFileOf o bytes.now) }
+    ensures refused { IfErr result (UnlessMemory (RefusesObject bytes.now)) }
+{
+    match read_object(alloc, bytes) {
+        Ok(object) => Ok(object),
+        Err(failure) => Err(refused_object(failure)),
+    }
+}
+
+/// The status of an object that is refused.
+fn refused_object(failure: Failure<ObjectFault>) -> Status
+    ensures { result ≡ object_status failure }
+{
+    match failure {
+        Failure::Fault(why) => Status::ObjectRefused { why },
+        Failure::WantOfMemory => Status::WantOfMemory,
+    }
+}

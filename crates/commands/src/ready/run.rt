@@ -1,0 +1,101 @@
+//! `run`: an object is executed on an input, and its trace is made.
+
+ghost use Rattle.std.specs.Prelude.{◌≡◌, IfOk, IfErr};
+ghost use Rattle.command_words.specs.Task.{Run};
+ghost use Rattle.commands.specs.Content.{IsInputOf, RefusesInput, RunsTo, StopsRun};
+ghost use Rattle.commands.specs.Failures.{input_status, run_status};
+ghost use Rattle.commands.specs.Outcome.{Prepares};
+ghost use Rattle.commands.specs.Reading.{UnlessMemory};
+ghost use Rattle.commands.specs.Ready.{verdict_view};
+ghost use Rattle.object_format.specs.Checked.{IsSound};
+
+use crate::ready::{Ready, ReadyFile, object_of, read_file};
+use crate::run_lines::run_lines;
+use crate::status::Status;
+use cov_base::Failure;
+use cov_io::Files;
+use object_format::Object;
+use rv32_emulator::{InputFault, RunFault, parse_input, run};
+use std::alloc::Global;
+use trace_record::Recorder;
+
+/// Reads the object and the input, runs the one on the other for at most `budget` instructions, and
+/// makes the trace and the lines that tell of the run.
+pub fn prepare<'a, F: Files>(
+    alloc: Global,
+    input: &str,
+    budget: u32,
+    trace: &'a str,
+    object: &str,
+    files: &mut F,
+) -> Result<Ready<'a>, Status>
+    ensures prepares { Prepares (Run input.now budget trace.now object.now) (F.held files.old) (F.reads_failed files.old) (F.reads_failed files.new) (verdict_view result) }
+    ensures same { F.held files.new ≡ F.held files.old }
+    ensures writes { F.writes_failed files.new ≡ F.writes_failed files.old }
+{
+    let bytes = read_file(alloc, 0, object, files)?;
+    let object = object_of(alloc, bytes.as_slice())?;
+    let bytes = read_file(alloc, 1, input, files)?;
+    let numbers = numbers_of(alloc, bytes.as_slice())?;
+    let (bytes, text) = executed(alloc, &object, budget, numbers.as_slice())?;
+    Ok(Ready {
+        file: Some(ReadyFile { name: trace, bytes }),
+        text,
+    })
+}
+
+/// The numbers of an input file.
+fn numbers_of(alloc: Global, input: &[u8]) -> Result<Vec<i32>, Status>
+    ensures read { IfOk result (λ numbers. IsInputOf numbers.items input.now) }
+    ensures refused { IfErr result (UnlessMemory (RefusesInput input.now)) }
+{
+    match parse_input(alloc, input) {
+        Ok(numbers) => Ok(numbers),
+        Err(failure) => Err(refused_input(failure)),
+    }
+}
+
+/// The trace of a run, and the lines that tell of it.
+fn executed(
+    alloc: Global,
+    object: &Object,
+    budget: u32,
+    input: &[i32],
+) -> Result<(Vec<u8>, Vec<u8>), Status>
+    requires { IsSound object.now }
+    ensures ran { IfOk result (λ made. RunsTo object.now budget input.now (record { file = made.0.items; text = made.1.items })) }
+    ensures stopped { IfErr result (UnlessMemory (StopsRun object.now budget input.now)) }
+{
+    let mut recorder = Recorder::new(alloc, object)?;
+    let mut put = Vec::new(alloc);
+    match run(alloc, object, input, budget, &mut recorder, &mut put) {
+        Ok(ending) => {
+            let trace = recorder.trace(alloc, ending.number)?;
+            let exceptions = object.obligations.exceptions.as_slice();
+            let text = run_lines(alloc, exceptions, put.as_slice(), ending, trace.as_slice())?;
+            Ok((trace, text))
+        }
+        Err(failure) => Err(stopped(failure)),
+    }
+}
+
+/// The status of an input that is refused.
+fn refused_input(failure: Failure<InputFault>) -> Status
+    ensures { result ≡ input_status failure }
+{
+    match failure {
+        Failure::Fault(InputFault { line }) => Status::InputRefused { line },
+        Failure::WantOfMemory => Status::WantOfMemory,
+    }
+}
+
+/// The status of a run that has no ending.
+fn stopped(failure: Failure<RunFault>) -> Status
+    ensures { result ≡ run_status failure }
+{
+    match failure {
+        Failure::Fault(RunFault::OverBudget { count }) => Status::OverBudget { count },
+        Failure::Fault(RunFault::Trap { pc, why }) => Status::Trap { pc, why },
+        Failure::WantOfMemory => Status::WantOfMemory,
+    }
+}

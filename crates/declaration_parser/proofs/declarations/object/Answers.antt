@@ -1,0 +1,27 @@
+use Rattle.std.proofs.Common.{arith}
+use Rattle.declaration_parser.proofs.DeclarationCode.{object_rules}
+use Rattle.declaration_parser.proofs.declarations.object.Goals as goal
+
+pub returns-clause-reads : goal.returns-clause-reads
+returns-clause-reads c = grind (arith, object_rules)
+
+pub returns-clause-shorter : goal.returns-clause-shorter
+returns-clause-shorter c = grind (arith, object_rules)
+
+pub returns-in_err-indication-clause-reads : goal.returns-in_err-indication-clause-reads
+returns-in_err-indication-clause-reads c = grind (arith, object_rules)
+
+pub returns-in_err-indication-clause-shorter : goal.returns-in_err-indication-clause-shorter
+returns-in_err-indication-clause-shorter c = grind (arith, object_rules)
+
+pub returns-in_err-rest-clause-reads : goal.returns-in_err-rest-clause-reads
+returns-in_err-rest-clause-reads c = grind (arith, object_rules)
+
+pub returns-in_err-rest-clause-shorter : goal.returns-in_err-rest-clause-shorter
+returns-in_err-rest-clause-shorter c = grind (arith, object_rules)
+
+pub returns-in_err-value-clause-reads : goal.returns-in_err-value-clause-reads
+returns-in_err-value-clause-reads c = grind (arith, object_rules)
+
+pub returns-in_err-value-clause-shorter : goal.returns-in_err-value-clause-shorter
+returns-in_err-value-clause-shorter c = grind (arith, object_rules)

@@ -1,0 +1,15 @@
+use Rattle.std.proofs.Common.{arith}
+use Rattle.declaration_parser.proofs.PragmaCode.{off_rules}
+use Rattle.declaration_parser.proofs.pragmas.exempt_off.Goals as goal
+
+pub returns-clause-reads : goal.returns-clause-reads
+returns-clause-reads c = grind (arith, off_rules)
+
+pub returns-clause-shorter : goal.returns-clause-shorter
+returns-clause-shorter c = grind (arith, off_rules)
+
+pub returns-in_err-rest-2-clause-reads : goal.returns-in_err-rest-2-clause-reads
+returns-in_err-rest-2-clause-reads c = grind (arith, off_rules)
+
+pub returns-in_err-rest-clause-reads : goal.returns-in_err-rest-clause-reads
+returns-in_err-rest-clause-reads c = grind (arith, off_rules)

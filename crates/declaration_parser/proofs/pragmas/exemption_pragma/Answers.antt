@@ -1,0 +1,15 @@
+use Rattle.std.proofs.Common.{arith}
+use Rattle.declaration_parser.proofs.PragmaCode.{pragma_rules}
+use Rattle.declaration_parser.proofs.pragmas.exemption_pragma.Goals as goal
+
+pub returns-clause-reads : goal.returns-clause-reads
+returns-clause-reads c = grind (arith, pragma_rules)
+
+pub returns-clause-shorter : goal.returns-clause-shorter
+returns-clause-shorter c = grind (arith, pragma_rules)
+
+pub returns-in_default-clause-reads : goal.returns-in_default-clause-reads
+returns-in_default-clause-reads c = grind (arith, pragma_rules)
+
+pub returns-in_err-needs-clause-reads : goal.returns-in_err-needs-clause-reads
+returns-in_err-needs-clause-reads c = grind (arith, pragma_rules)

@@ -1,0 +1,6 @@
+use Rattle.std.proofs.Common.{◌≡◌}
+use Rattle.layer_cases.proofs.runs.covered_by_all.Given as goal
+
+-- what is covered so far is of the object
+abbrev pub invariant-loop-name : goal.invariant-loop-name
+invariant-loop-name l = l.all.object ≡ l.fn.object

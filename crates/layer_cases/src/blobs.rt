@@ -1,0 +1,129 @@
+//! Texts and files that lines make, piece by piece.
+
+use crate::fault::{Answer, CaseFault};
+use crate::words::{bytes, number, split_word};
+use cov_base::Failure;
+use sha2::{Digest, Sha256};
+use std::alloc::{AllocError, Global};
+
+/// Bytes under a name.
+#[derive(Debug, Drop)]
+struct Blob {
+    name: String,
+    bytes: Vec<u8>,
+}
+
+/// The blobs that were begun, the latest last.
+#[derive(Debug, Drop)]
+pub(crate) struct Blobs {
+    blobs: Vec<Blob>,
+}
+
+impl Blobs {
+    pub(crate) fn new(alloc: Global) -> Blobs {
+        Blobs {
+            blobs: Vec::new(alloc),
+        }
+    }
+
+    /// Begins a blob.
+    pub(crate) fn begin(&mut self, alloc: Global, name: &str) -> Answer {
+        let name = String::from_str(alloc, name)?;
+        let bytes = Vec::new(alloc);
+        self.blobs.push(Blob { name, bytes })?;
+        Ok(())
+    }
+
+    /// The bytes of the blob that was begun last.
+    pub(crate) fn latest(&self) -> Result<&[u8], Failure<CaseFault>> {
+        match self.blobs.last() {
+            Some(blob) => Ok(blob.bytes.as_slice()),
+            None => Err(Failure::Fault(CaseFault::Blob)),
+        }
+    }
+
+    /// The bytes of the blob that has a name.
+    pub(crate) fn named(&self, name: &str) -> Result<&[u8], Failure<CaseFault>> {
+        for blob in &self.blobs {
+            if blob.name.as_str() == name {
+                return Ok(blob.bytes.as_slice());
+            }
+        }
+        Err(Failure::Fault(CaseFault::Blob))
+    }
+
+    /// Adds bytes to the blob that was begun last.
+    fn add(&mut self, bytes: &[u8]) -> Answer {
+        match self.blobs.last_mut() {
+            Some(blob) => {
+                blob.bytes.extend_from_slice(bytes)?;
+                Ok(())
+            }
+            None => Err(Failure::Fault(CaseFault::Blob)),
+        }
+    }
+
+    /// Adds the piece that a command and its words stand for; `false` where it is no such command.
+    pub(crate) fn add_piece(
+        &mut self,
+        alloc: Global,
+        command: &str,
+        words: &str,
+    ) -> Result<bool, Failure<CaseFault>> {
+        match command {
+            "blob" => self.begin(alloc, words)?,
+            "|" => {
+                self.add(words.as_bytes())?;
+                self.add(b"\n")?;
+            }
+            "+" => self.add(words.as_bytes())?,
+            "*" => self.add_repeated(words)?,
+            "hex" => self.add(bytes(alloc, words)?.as_slice())?,
+            "lines" => self.add(self.lines(alloc, words)?.as_slice())?,
+            "part" => self.add(self.part(alloc, words)?.as_slice())?,
+            "digest" => {
+                let digest: [u8; 32] = Sha256::digest(self.latest()?).into();
+                self.add(&digest)?;
+            }
+            _ => return Ok(false),
+        }
+        Ok(true)
+    }
+
+    fn add_repeated(&mut self, words: &str) -> Answer {
+        let (count, text) = split_word(words);
+        for _ in 0..number(count)? {
+            self.add(text.as_bytes())?;
+        }
+        Ok(())
+    }
+
+    /// Lines of a blob, each with its end.
+    fn lines(&self, alloc: Global, words: &str) -> Result<Vec<u8>, Failure<CaseFault>> {
+        let (name, ends) = split_word(words);
+        let (first, last) = split_word(ends);
+        let (first, last) = (number(first)?, number(last)?);
+        let mut lines = Vec::new(alloc);
+        let mut line = 1usize;
+        for byte in self.named(name)? {
+            if first <= line && line <= last {
+                lines.push(*byte)?;
+            }
+            if *byte == b'\n' {
+                line = line.saturating_add(1);
+            }
+        }
+        Ok(lines)
+    }
+
+    /// Bytes of a blob.
+    fn part(&self, alloc: Global, words: &str) -> Result<Vec<u8>, Failure<CaseFault>> {
+        let (name, ends) = split_word(words);
+        let (from, to) = split_word(ends);
+        let (from, to) = (number(from)?, number(to)?);
+        match self.named(name)?.get(from..to) {
+            Some(part) => Ok(Vec::from_slice(alloc, part)?),
+            None => Err(Failure::Fault(CaseFault::Number)),
+        }
+    }
+}

@@ -1,0 +1,30 @@
+//! The laws of the layers: functions that do nothing, each with a law as its contract. Each is called
+//! once.
+
+use annotated_report::{pairs_are_of_events, the_text_depends_on_the_set_of_events};
+use coverage_set::{
+    own_traces_pass_all_checks, traces_of_runs_say_what_the_runs_tell, unions_have_their_laws,
+};
+use object_format::{an_object_is_laid_out, one_object};
+use rv_isa::{one_word, read_again};
+use spelling::{one_spelling, one_value};
+use trace_format::{one_trace, passing};
+use trace_record::histories_are_no_longer_than_runs;
+
+/// Calls the laws.
+pub(crate) fn call_laws() {
+    read_again();
+    one_word();
+    one_value::<u32>();
+    one_spelling::<u32>();
+    one_object();
+    an_object_is_laid_out();
+    one_trace();
+    passing();
+    histories_are_no_longer_than_runs();
+    unions_have_their_laws();
+    traces_of_runs_say_what_the_runs_tell();
+    own_traces_pass_all_checks();
+    the_text_depends_on_the_set_of_events();
+    pairs_are_of_events();
+}

@@ -1,0 +1,26 @@
+//! `longs NUMBER..`: a list whose count takes eight bytes, written and read again.
+
+use crate::fault::Answer;
+use crate::words::number;
+use cov_base::Failure;
+use spelling::{put_long_list, read_long_list};
+use std::alloc::Global;
+
+/// Answers the bytes of a long list of numbers, and how many are read from them.
+pub(crate) fn longs(alloc: Global, out: &mut String, words: &str) -> Answer {
+    let mut numbers = Vec::new(alloc);
+    for word in words.split_ascii_whitespace() {
+        numbers.push(number(word)? as u64)?;
+    }
+    let mut bytes = Vec::new(alloc);
+    put_long_list(&mut bytes, numbers.as_slice())?;
+    for byte in &bytes {
+        write!(out, "{byte:02x}")?;
+    }
+    match read_long_list::<u64>(alloc, bytes.as_slice()) {
+        Ok((again, rest)) => writeln!(out, ": {} numbers, {} bytes", again.len(), rest.len())?,
+        Err(Failure::Fault(_)) => writeln!(out, ": short")?,
+        Err(Failure::WantOfMemory) => return Err(Failure::WantOfMemory),
+    }
+    Ok(())
+}

@@ -1,0 +1,54 @@
+//! Cases for the layers below the public call: reads lines of text, and prints what a layer answers to
+//! each.
+//!
+//! A line is a command and its words. Some make a text or a file, piece by piece, under a name:
+//!
+//! | Line | Does |
+//! |---|---|
+//! | `blob NAME` | begins a blob, which the lines below it fill and ask about |
+//! | `\| TEXT` | adds a line of text |
+//! | `+ TEXT` | adds the text, without the line's end |
+//! | `* COUNT TEXT` | adds the text so many times |
+//! | `hex DIGITS` | adds bytes |
+//! | `lines NAME FIRST LAST` | adds lines of another blob, counted from 1 |
+//! | `part NAME FROM TO` | adds bytes of another blob, counted from 0, without that at TO |
+//! | `digest` | adds the SHA-256 of what is there |
+//!
+//! The others ask, and are printed, each with what a layer answers below it; the modules say which
+//! there are. A line that is out of form is printed behind a `?`. Lines that begin with `#` say what
+//! follows.
+#![tactic(auto)]
+
+mod asking;
+mod blobs;
+mod decisions;
+mod fault;
+mod instructions;
+mod laws;
+mod lists;
+mod objects;
+mod runs;
+mod sources;
+mod words;
+
+use blobs::Blobs;
+use cov_base::Failure;
+use std::io;
+use std::io::{BufRead, BufReader, BufWriter, Write};
+
+fn main(rt: HostRuntime) -> io::Result<()> {
+    laws::call_laws();
+    let alloc = rt.alloc();
+    let mut blobs = Blobs::new(alloc);
+    let mut out = BufWriter::new(alloc, io::writer(&rt))?;
+    for line in BufReader::new(alloc, rt.reader())?.lines(alloc) {
+        let line = line?;
+        let mut answer = String::new(alloc);
+        match asking::answer(alloc, &mut blobs, &mut answer, line.as_str()) {
+            Ok(()) => write!(out, "{answer}")?,
+            Err(Failure::Fault(fault)) => writeln!(out, "? {line}: {fault}")?,
+            Err(Failure::WantOfMemory) => writeln!(out, "? {line}: want of memory")?,
+        }
+    }
+    out.flush()
+}

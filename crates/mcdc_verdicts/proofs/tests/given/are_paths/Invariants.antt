@@ -1,8 +1,0 @@
-use Rattle.std.proofs.Common.{drop}
-use Rattle.decision_meaning.specs.Pair.{Everywhere}
-use Rattle.decision_meaning.specs.Path.{IsPathVector}
-use Rattle.mcdc_verdicts.proofs.tests.given.are_paths.Given as goal
-
--- if the vectors that are left are of paths, all are
-abbrev pub invariant-loop-v : goal.invariant-loop-v
-invariant-loop-v l = Everywhere (IsPathVector l.dec) (drop l.v-index l.vectors) → Everywhere (IsPathVector l.fn.dec) l.fn.vectors

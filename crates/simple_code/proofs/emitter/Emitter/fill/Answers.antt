@@ -1,9 +1,0 @@
-use Rattle.std.proofs.lemmas.Result.{on_ok_weaker}
-use Rattle.simple_code.proofs.Behind.{three_parts}
-use Rattle.simple_code.proofs.emitter.Emitter.fill.Goals as goal
-
-pub returns : goal.returns
-returns c =
-    on_ok_weaker c.call_piece.result
-    (three_parts _ _ _ _ _ _ _ c.in_ok-check_words.ensures c.in_ok-in_bytes.ensures)
-    c.call_piece.ensures

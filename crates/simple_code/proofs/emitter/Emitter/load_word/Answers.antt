@@ -1,9 +1,0 @@
-use Rattle.std.proofs.lemmas.Result.{on_ok_weaker}
-use Rattle.simple_code.proofs.Behind.{two_parts}
-use Rattle.simple_code.proofs.emitter.Emitter.load_word.Goals as goal
-
-pub returns : goal.returns
-returns c =
-    on_ok_weaker c.read_word.result
-    (two_parts _ _ _ _ _ c.in_ok-check_words.ensures)
-    c.read_word.ensures

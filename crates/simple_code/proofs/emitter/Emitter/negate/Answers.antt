@@ -1,9 +1,0 @@
-use Rattle.std.proofs.lemmas.Result.{on_ok_weaker}
-use Rattle.simple_code.proofs.Behind.{three_parts}
-use Rattle.simple_code.proofs.emitter.Emitter.negate.Goals as goal
-
-pub returns : goal.returns
-returns c =
-    on_ok_weaker c.opposite.result
-    (three_parts _ _ _ _ _ _ _ c.in_ok-load_right.ensures c.in_ok-check_least.ensures)
-    c.opposite.ensures

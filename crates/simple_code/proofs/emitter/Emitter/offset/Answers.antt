@@ -1,9 +1,0 @@
-use Rattle.std.proofs.lemmas.Result.{on_ok_weaker}
-use Rattle.simple_code.proofs.Behind.{three_parts}
-use Rattle.simple_code.proofs.emitter.Emitter.offset.Goals as goal
-
-pub returns : goal.returns
-returns c =
-    on_ok_weaker c.add_words.result
-    (three_parts _ _ _ _ _ _ _ c.in_ok-load_left.ensures c.in_ok-load_right.ensures)
-    c.add_words.ensures

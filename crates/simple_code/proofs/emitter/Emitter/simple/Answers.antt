@@ -1,4 +1,0 @@
-use Rattle.simple_code.proofs.emitter.Emitter.simple.Goals as goal
-
-pub returns-in-RaiseSlot : goal.returns-in-RaiseSlot
-returns-in-RaiseSlot c = rw c.in-RaiseSlot.is c.raise_slot.ensures
