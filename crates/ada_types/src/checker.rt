@@ -11,7 +11,7 @@ ghost use Rattle.ada_types.specs.declared.fault.CheckFault.{CheckFault};
 ghost use Rattle.ada_types.specs.Typing as spec;
 ghost use Rattle.cov_base.specs.TextOrder.{precedes};
 ghost use Rattle.ada_places.specs.Places.{all_places_of};
-ghost use Rattle.ada_types.specs.Legal.{elaborated, typed, earlier};
+ghost use Rattle.ada_types.specs.Legal.{elaborated, typed, earlier, past_limits};
 ghost use Rattle.ada_types.specs.Checked.{Refuses, entry_of};
 ghost use Rattle.ada_types.specs.CheckCode.{naming_of, typing_of};
 
@@ -136,9 +136,30 @@ fn entries(alloc: Global, units: &[Unit]) -> Result<Vec<UnitEntry>, AllocError>
     Ok(entries)
 }
 
+/// The rules on types and then the limits, where the rules on names hold. Of the limits, on declared words
+/// and on the conditions of a decision, the place of what passes one first is told.
+#[tactic(auto, using(crate::proofs::Programs::refusals))]
+fn within_limits(
+    alloc: Global,
+    library: &Library,
+    units: &[Unit],
+) -> Result<Vec<Subprogram>, Failure<CheckFault>>
+    requires { library.now ≡ library_of units.now }
+    ensures typed { IfOk result (λ ss. typed units.now ≡ Some (map subprogram_of ss.items)) }
+    ensures limits { IfOk result (λ ss. past_limits units.now (map subprogram_of ss.items) ≡ None) }
+    ensures refused { IfErr result (λ f. (main : List ℕ) → naming.named units.now main ≡ true → Refuses units.now main f) }
+{
+    let places = places_of(alloc, units)?;
+    let subprograms = subprograms(alloc, library, &places, units)?;
+    let large = too_many_words(units, subprograms.as_slice());
+    match earlier(large, places.wide) {
+        Some(pos) => Err(Failure::Fault(CheckFault::Limit(LimitFault { pos }))),
+        None => Ok(subprograms),
+    }
+}
+
 /// The program of these units whose main procedure has this name, where case does not count. Rules on
-/// names come first, over all units, then those on types, and then the limits on declared words and on
-/// the conditions of a decision: of these the place of what passes one first is told.
+/// names come first, over all units, then those on types, and then the limits.
 #[tactic(auto, using(crate::proofs::Programs::refusals))]
 pub fn check(alloc: Global, units: &[Unit], main: &str) -> Result<Program, Failure<CheckFault>>
     ensures program { IfOk result (λ p. elaborated units.now main.now ≡ Some (program_of p)) }
@@ -147,16 +168,12 @@ pub fn check(alloc: Global, units: &[Unit], main: &str) -> Result<Program, Failu
 {
     let lower = main.as_bytes().to_ascii_lowercase(alloc)?;
     let named = named(alloc, units, lower.as_slice())?;
-    let places = places_of(alloc, units)?;
-    let subprograms = subprograms(alloc, &named.library, &places, units)?;
-    let large = too_many_words(units, subprograms.as_slice());
-    if let Some(pos) = earlier(large, places.wide) {
-        return Err(Failure::Fault(CheckFault::Limit(LimitFault { pos })));
-    }
+    let subprograms = within_limits(alloc, &named.library, units)?;
+    let entries = entries(alloc, units)?;
     Ok(Program {
         subprograms: Seq::from(subprograms),
         main: named.main,
-        units: Seq::from(entries(alloc, units)?),
+        units: Seq::from(entries),
     })
 }
 

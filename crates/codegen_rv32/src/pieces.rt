@@ -1,6 +1,7 @@
 //! The pieces of a kernel.
 
-ghost use Rattle.std.specs.Prelude.{◌≡◌, ◌+◌, ◌++◌, IfOk, OnOk};
+ghost use Rattle.std.specs.Prelude.{◌≡◌, ◌≤◌, ◌+◌, ◌*◌, ◌++◌, IfOk, OnOk};
+ghost use Rattle.assembler.specs.Placed.{words_in};
 ghost use Rattle.assembler.specs.declared.piece.Mark.TheVariants as mark;
 ghost use Rattle.kernel_code.specs.Line.{items_of, mark_of, marks_from};
 ghost use Rattle.kernel_code.specs.Marked.{piece_of};
@@ -8,6 +9,7 @@ ghost use Rattle.kernel_code.specs.Code.{body_lines, start_lines};
 ghost use Rattle.kernel_code.specs.FillCode.{layout_lines};
 ghost use Rattle.kernel_code.specs.Pieces.{layout_pieces, kernel_pieces};
 ghost use Rattle.kernel_code.specs.View.{said_of, lines_of};
+ghost use Rattle.kernel_ir.specs.Limits.{kernel_instructions};
 ghost use Rattle.kernel_code.specs.Set.{setting_of};
 ghost use Rattle.codegen_rv32.specs.Set.{body_pieces};
 
@@ -21,10 +23,11 @@ use kernel_ir::{Body, Code, Kernel, Layout};
 use line_table::RoleKind;
 use std::alloc::{AllocError, Global};
 
-/// The pieces of a kernel: of the start, of the bodies and of the layouts, in order. There is no memory
-/// for a piece of 2 ^ 32 lines.
+/// The pieces of a kernel: of the start, of the bodies and of the layouts, in order. Their text takes at
+/// most 4 bytes for each instruction of the kernel's size. There is no memory for a piece of 2 ^ 32 lines.
 pub fn generate(alloc: Global, kernel: &Kernel) -> Result<Vec<Piece>, AllocError>
-    ensures { IfOk result (λ pieces. pieces.items ≡ kernel_pieces kernel.now) }
+    ensures pieces { IfOk result (λ pieces. pieces.items ≡ kernel_pieces kernel.now) }
+    ensures bytes { IfOk result (λ pieces. 4 * words_in pieces.items ≤ 4 * kernel_instructions kernel.now) }
 {
     let layouts = kernel.layouts.as_slice();
     let bodies = kernel.bodies.as_slice();

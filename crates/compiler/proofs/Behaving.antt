@@ -16,7 +16,6 @@ use Rattle.kernel_ir.specs.World as kernel
 use Rattle.kernel_ir.specs.Laws.{Refines}
 use Rattle.kernel_ir.proofs.Fuel.{more_fuel_law as kernel_more}
 use Rattle.ada_meaning.proofs.FuelExecution.{more_fuel_law as source_more}
-use Rattle.std.proofs.lemmas.Bool.Decides.{eqb_tells}
 use Rattle.object_facts.specs.Object.{facts_of}
 use Rattle.object_format.specs.declared.object.Object.{Object}
 use Rattle.rv_machine.specs.Objects.{object_run}
@@ -24,24 +23,11 @@ use Rattle.kernel_ir.specs.Limits.{IsWithin}
 use Rattle.lower.specs.Lowered.{kernel_of}
 use Rattle.lower.specs.Same.{Observed, Same}
 use Rattle.lower.specs.Structured.{IsStructured}
+use Rattle.lower.proofs.AllFuels.{fuel_from, none_some, some_is, ended_stays}
 use Rattle.lower.proofs.Follows.{same_law}
 use Rattle.rv_semantics.specs.Run.{Run}
 use Rattle.transcript.specs.Facts.{Facts}
 use Rattle.rv_semantics.specs.Run.Outcome.{Ended}
-
--- a fuel that is at least so much, and not the greatest depth of calls
-record Fuel (n : ℕ) : Type 0 where
-  fuel : ℕ
-  enough : n ≤ fuel
-  other : fuel ≢ source.deepest
-
-fuel_from : (n : ℕ) → Fuel n
-unfolding source.deepest
-fuel_from n = by_test (eqb_tells n 512)
-  where
-    by_test : ((eqb n 512 ≡ true) × (n ≡ 512)) ⊎ ((eqb n 512 ≡ false) × (n ≢ 512)) → Fuel n
-    by_test (inl is) = record { fuel = suc n; enough = omega arith; other = λ e. absurd (omega (arith, is.1, e)) }
-    by_test (inr not) = record { fuel = n; enough = omega arith; other = not.1 }
 
 -- a run that ended as the kernel did ends so with more fuel
 ends_more : (site : Site) (run : Run) (e more : KernelEnded) → EndsAs site e run → Refines e more → EndsAs site more run
@@ -78,21 +64,6 @@ shown site (Gives a w) (kernel.Raises f v) run same ends = absurd same
 shown site (OutOfFuel w) (kernel.Raises f v) run same ends = absurd same
 
 -- where the source's execution ended, the kernel's did, and the run ends in time
-abbrev nothing : Option Execution
-nothing = None
-
-none_some : (x : Execution) → nothing ≡ Some x → ⊥
-none_some x e = cc e
-
-some_is : (x y : Execution) → Some x ≡ Some y → x ≡ y
-some_is x y e = cc e
-
--- an execution that ended stays
-ended_stays : (a b : Outcome (Option ℤ)) (x : Execution) → source_refines.Refines a b → source.ended a ≡ Some x → source.ended b ≡ Some x
-ended_stays (Gives r w) b x refines is = ap source.ended refines ∙ is
-ended_stays (Raises e w) b x refines is = ap source.ended refines ∙ is
-ended_stays (OutOfFuel w) b x refines is = absurd (none_some x is)
-
 timely : (site : Site) (k : Kernel) (input : List ℤ) (r : Outcome (Option ℤ)) (e : KernelEnded) (x : Execution) → Same r e → source.ended r ≡ Some x → KernelEndsInTime site k input e
     → (budget : ℕ) → 500 * x.cost + 5000 ≤ budget → EndsAs site e (run_on site k input budget)
 timely site k input (Gives a w) (kernel.Ends v) x same is time budget enough =

@@ -158,22 +158,47 @@ fn add_edge(out: &mut String, graph: &Graph, c: u8, value: bool) -> Result<(), A
         Next::Node(CondIx(node)) => write!(out, "{node}")?,
         Next::Leaf(outcome) => write!(out, "{}", sign(outcome))?,
     }
-    if let Some(path) = graph.path_of_leaf(CondIx(c), value) {
+    add_path(out, graph, graph.path_of_leaf(CondIx(c), value))
+}
+
+/// Adds a path, if there is one, and ends the line.
+fn add_path(out: &mut String, graph: &Graph, path: Option<Vector>) -> Result<(), AllocError> {
+    if let Some(path) = path {
         out.push_str(", path ")?;
         add_vector(out, graph, path)?;
     }
     out.push_str("\n")
 }
 
+/// Whether a graph is a tree, in words.
+fn shape(graph: &Graph) -> &'static str {
+    if graph.is_tree() { "tree" } else { "no tree" }
+}
+
+/// Adds what a graph is.
+fn add_graph(out: &mut String, graph: &Graph) -> Result<(), AllocError> {
+    writeln!(out, "{}", shape(graph))?;
+    for c in 0..graph.conditions() as u8 {
+        add_edge(out, graph, c, false)?;
+        add_edge(out, graph, c, true)?;
+    }
+    Ok(())
+}
+
 /// Answers what the graph of a decision is.
 pub(crate) fn graph(alloc: Global, out: &mut String, words: &str) -> Answer {
     let graph = graph_of(alloc, words)?;
-    writeln!(out, "{}", if graph.is_tree() { "tree" } else { "no tree" })?;
-    for c in 0..graph.conditions() as u8 {
-        add_edge(out, &graph, c, false)?;
-        add_edge(out, &graph, c, true)?;
-    }
+    add_graph(out, &graph)?;
     Ok(())
+}
+
+/// Whether paths of vectors take all edges, in words.
+fn taken(graph: &Graph, vectors: &[Vector]) -> &'static str {
+    if all_edges(graph, vectors) {
+        "all edges"
+    } else {
+        "not all edges"
+    }
 }
 
 /// Answers whether paths of vectors take all edges.
@@ -181,8 +206,7 @@ pub(crate) fn edges(alloc: Global, out: &mut String, words: &str) -> Answer {
     let (signs, vectors) = split_word(words);
     let graph = graph_of(alloc, signs)?;
     let vectors = vectors_of(alloc, vectors)?;
-    let all = all_edges(&graph, vectors.as_slice());
-    writeln!(out, "{}", if all { "all edges" } else { "not all edges" })?;
+    writeln!(out, "{}", taken(&graph, vectors.as_slice()))?;
     Ok(())
 }
 
@@ -220,22 +244,21 @@ fn add_pairs(out: &mut String, graph: &Graph, vectors: &[Vector]) -> Result<(), 
     Ok(())
 }
 
+/// Adds what vectors show of a decision.
+fn add_shown(out: &mut String, graph: &Graph, vectors: &[Vector]) -> Answer {
+    if !are_paths(graph, vectors) {
+        return Err(Failure::Fault(CaseFault::Path));
+    }
+    writeln!(out, "{}, {}", shape(graph), taken(graph, vectors))?;
+    add_outcomes(out, graph, vectors)?;
+    add_pairs(out, graph, vectors)?;
+    Ok(())
+}
+
 /// Answers what vectors show of a decision.
 pub(crate) fn pairs(alloc: Global, out: &mut String, words: &str) -> Answer {
     let (signs, vectors) = split_word(words);
     let graph = graph_of(alloc, signs)?;
     let vectors = vectors_of(alloc, vectors)?;
-    if !are_paths(&graph, vectors.as_slice()) {
-        return Err(Failure::Fault(CaseFault::Path));
-    }
-    let all = all_edges(&graph, vectors.as_slice());
-    let tree = if graph.is_tree() { "tree" } else { "no tree" };
-    writeln!(
-        out,
-        "{tree}, {}",
-        if all { "all edges" } else { "not all edges" }
-    )?;
-    add_outcomes(out, &graph, vectors.as_slice())?;
-    add_pairs(out, &graph, vectors.as_slice())?;
-    Ok(())
+    add_shown(out, &graph, vectors.as_slice())
 }

@@ -33,6 +33,8 @@ mod words;
 
 use blobs::Blobs;
 use cov_base::Failure;
+use fault::Answer;
+use std::alloc::Global;
 use std::io;
 use std::io::{BufRead, BufReader, BufWriter, Write};
 
@@ -42,13 +44,28 @@ fn main(rt: HostRuntime) -> io::Result<()> {
     let mut blobs = Blobs::new(alloc);
     let mut out = BufWriter::new(alloc, io::writer(&rt))?;
     for line in BufReader::new(alloc, rt.reader())?.lines(alloc) {
-        let line = line?;
-        let mut answer = String::new(alloc);
-        match asking::answer(alloc, &mut blobs, &mut answer, line.as_str()) {
-            Ok(()) => write!(out, "{answer}")?,
-            Err(Failure::Fault(fault)) => writeln!(out, "? {line}: {fault}")?,
-            Err(Failure::WantOfMemory) => writeln!(out, "? {line}: want of memory")?,
-        }
+        put_answer(alloc, &mut blobs, &mut out, line?.as_str())?;
     }
     out.flush()
+}
+
+/// Puts what a line is answered.
+fn put_answer<W: Write>(
+    alloc: Global,
+    blobs: &mut Blobs,
+    out: &mut W,
+    line: &str,
+) -> io::Result<()> {
+    let mut answer = String::new(alloc);
+    let outcome = asking::answer(alloc, blobs, &mut answer, line);
+    put_outcome(out, line, answer.as_str(), outcome)
+}
+
+/// Puts an answer, or why there is none.
+fn put_outcome<W: Write>(out: &mut W, line: &str, answer: &str, outcome: Answer) -> io::Result<()> {
+    match outcome {
+        Ok(()) => out.write_all(answer.as_bytes()),
+        Err(Failure::Fault(fault)) => writeln!(out, "? {line}: {fault}"),
+        Err(Failure::WantOfMemory) => writeln!(out, "? {line}: want of memory"),
+    }
 }

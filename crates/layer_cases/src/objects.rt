@@ -44,18 +44,22 @@ pub(crate) fn map_of(alloc: Global, object: &Object) -> Result<DecisionMap<'_>, 
     DecisionMap::of(alloc, object)
 }
 
+/// Whether what was written is what was read, in words.
+fn sameness(written: &[u8], read: &[u8]) -> &'static str {
+    if written == read {
+        "the same file"
+    } else {
+        "another file"
+    }
+}
+
 /// Answers what object a file is.
 pub(crate) fn object(alloc: Global, out: &mut String, bytes: &[u8]) -> Answer {
     match read_whole_object(alloc, bytes) {
         Ok(object) => {
             what_is_read_can_be_written();
             let (again, _closing) = write_with_digest(alloc, &object)?;
-            let is_same = again.as_slice() == bytes;
-            let written = if is_same {
-                "the same file"
-            } else {
-                "another file"
-            };
+            let written = sameness(again.as_slice(), bytes);
             writeln!(out, "{} words, {written} again", object.text.len())?;
         }
         Err(Failure::Fault(fault)) => writeln!(out, "{fault}")?,
@@ -70,16 +74,7 @@ pub(crate) fn plain(alloc: Global, out: &mut String, bytes: &[u8]) -> Answer {
         Ok(object) => {
             what_is_read_can_be_written();
             let again = write_object(alloc, &object)?;
-            let is_same = again.as_slice() == bytes;
-            writeln!(
-                out,
-                "{}",
-                if is_same {
-                    "the same file"
-                } else {
-                    "another file"
-                }
-            )?;
+            writeln!(out, "{}", sameness(again.as_slice(), bytes))?;
         }
         Err(Failure::Fault(fault)) => writeln!(out, "{fault}")?,
         Err(Failure::WantOfMemory) => return Err(Failure::WantOfMemory),
@@ -96,13 +91,30 @@ fn input_of(alloc: Global, bytes: &[u8]) -> Result<Vec<i32>, Failure<CaseFault>>
     }
 }
 
-/// Answers the numbers of an input file.
-pub(crate) fn input(alloc: Global, out: &mut String, bytes: &[u8]) -> Answer {
-    for number in &input_of(alloc, bytes)? {
+/// Adds the numbers of an input.
+fn add_input(out: &mut String, input: &[i32]) -> Result<(), AllocError> {
+    for number in input {
         write!(out, "{number} ")?;
     }
-    out.push_str("end of input\n")?;
+    out.push_str("end of input\n")
+}
+
+/// Answers the numbers of an input file.
+pub(crate) fn input(alloc: Global, out: &mut String, bytes: &[u8]) -> Answer {
+    let input = input_of(alloc, bytes)?;
+    add_input(out, input.as_slice())?;
     Ok(())
+}
+
+/// Adds the name of an object's exception, by its place.
+fn add_exception(out: &mut String, object: &Object, place: u32) -> Result<(), AllocError> {
+    out.push_str("ending: exception ")?;
+    if let Some(name) = object.obligations.exceptions.as_slice().get(place as usize) {
+        for byte in name.as_slice() {
+            write!(out, "{}", char::from(*byte))?;
+        }
+    }
+    out.push_str("\n")
 }
 
 /// Adds how a run ended, and its trace.
@@ -114,15 +126,7 @@ fn add_ending(
 ) -> Result<(), AllocError> {
     match ending.number.checked_sub(1) {
         None => out.push_str("ending: return\n")?,
-        Some(place) => {
-            out.push_str("ending: exception ")?;
-            if let Some(name) = object.obligations.exceptions.as_slice().get(place as usize) {
-                for byte in name.as_slice() {
-                    write!(out, "{}", char::from(*byte))?;
-                }
-            }
-            out.push_str("\n")?;
-        }
+        Some(place) => add_exception(out, object, place)?,
     }
     writeln!(out, "instructions: {}", ending.count)?;
     out.push_str("run: ")?;
@@ -161,20 +165,25 @@ fn executed(alloc: Global, object: &Object, input: &[i32], budget: u32) -> Resul
     }
 }
 
-/// Answers a run of an object.
-pub(crate) fn run_object(alloc: Global, blobs: &Blobs, out: &mut String, words: &str) -> Answer {
-    let (name, budget) = split_word(words);
-    let budget = u32::try_from(number(budget)?).unwrap_or(u32::MAX);
-    let object = object_of(alloc, blobs.named(name)?)?;
-    let input = input_of(alloc, blobs.latest()?)?;
-    let left = executed(alloc, &object, input.as_slice(), budget)?;
+/// Adds what a run left.
+fn add_left(out: &mut String, object: &Object, left: &Left) -> Result<(), AllocError> {
     for word in &left.put {
         writeln!(out, "put: {word}")?;
     }
     match left.answer {
-        Ok(ending) => add_ending(out, &object, ending, left.trace.as_slice())?,
-        Err(fault) => writeln!(out, "{fault}")?,
+        Ok(ending) => add_ending(out, object, ending, left.trace.as_slice()),
+        Err(fault) => writeln!(out, "{fault}"),
     }
+}
+
+/// Answers a run of an object.
+pub(crate) fn run_object(alloc: Global, blobs: &Blobs, out: &mut String, words: &str) -> Answer {
+    let (name, budget) = split_word(words);
+    let budget = u32::try_from(number(budget)?).unwrap_or(u32::MAX);
+    let input = input_of(alloc, blobs.latest()?)?;
+    let object = object_of(alloc, blobs.named(name)?)?;
+    let left = executed(alloc, &object, input.as_slice(), budget)?;
+    add_left(out, &object, &left)?;
     Ok(())
 }
 
@@ -189,19 +198,30 @@ fn add_word(out: &mut String, map: &DecisionMap<'_>, pc: u32) -> Result<(), Allo
         out.push_str(", needs history")?;
     }
     match map.condition(pc) {
-        Some(
-            Condition {
-                decision,
-                condition,
-                when_taken,
-                instance,
-            },
-        ) => {
-            write!(out, ", decision {} condition {}", decision.0, condition.0)?;
-            writeln!(out, " {when_taken} instance {}", instance.0)
-        }
+        Some(condition) => add_condition(out, condition),
         None => out.push_str("\n"),
     }
+}
+
+/// Adds which condition a branch evaluates.
+fn add_condition(out: &mut String, branch: Condition) -> Result<(), AllocError> {
+    let Condition {
+        decision,
+        condition,
+        when_taken,
+        instance,
+    } = branch;
+    write!(out, ", decision {} condition {}", decision.0, condition.0)?;
+    writeln!(out, " {when_taken} instance {}", instance.0)
+}
+
+/// Adds what the map of an object says of the words at addresses.
+fn add_words(out: &mut String, map: &DecisionMap<'_>, addresses: &str) -> Answer {
+    for word in addresses.split_ascii_whitespace() {
+        write!(out, "{word} ")?;
+        add_word(out, map, address(word)?)?;
+    }
+    Ok(())
 }
 
 /// Answers what words of an object are.
@@ -214,9 +234,5 @@ pub(crate) fn words_of_object(
     let (name, addresses) = split_word(words);
     let object = object_of(alloc, blobs.named(name)?)?;
     let map = map_of(alloc, &object)?;
-    for word in addresses.split_ascii_whitespace() {
-        write!(out, "{word} ")?;
-        add_word(out, &map, address(word)?)?;
-    }
-    Ok(())
+    add_words(out, &map, addresses)
 }

@@ -19,31 +19,37 @@ use coverage_set::Coverage;
 use decision_map::DecisionMap;
 use object_format::Object;
 use std::alloc::{AllocError, Global};
-use trace_format::TraceView;
+use trace_format::{Block, HistoryEntry, TraceView};
+
+/// Adds a block.
+fn add_block(out: &mut String, block: Block) -> Result<(), AllocError> {
+    let Block { start, last, flags } = block;
+    writeln!(out, "block {start:x} to {last:x} flags {flags}")
+}
+
+/// Adds an entry of a history.
+fn add_entry(out: &mut String, entry: HistoryEntry) -> Result<(), AllocError> {
+    let HistoryEntry { address, x8, edge } = entry;
+    writeln!(out, "entry {address:x} frame {x8:x} edge {edge}")
+}
+
+/// Adds what a trace holds.
+fn add_trace(out: &mut String, view: &TraceView<'_>) -> Result<(), AllocError> {
+    writeln!(out, "ending {}", view.ending())?;
+    for at in 0..view.blocks() {
+        add_block(out, view.block(at))?;
+    }
+    for at in 0..view.history() {
+        add_entry(out, view.entry(at))?;
+    }
+    Ok(())
+}
 
 /// Answers what a trace file holds.
 pub(crate) fn trace(out: &mut String, bytes: &[u8]) -> Answer {
     match TraceView::view(bytes) {
         Err(fault) => writeln!(out, "{fault}")?,
-        Ok(view) => {
-            writeln!(out, "ending {}", view.ending())?;
-            for at in 0..view.blocks() {
-                let block = view.block(at);
-                writeln!(
-                    out,
-                    "block {:x} to {:x} flags {}",
-                    block.start, block.last, block.flags
-                )?;
-            }
-            for at in 0..view.history() {
-                let entry = view.entry(at);
-                writeln!(
-                    out,
-                    "entry {:x} frame {:x} edge {}",
-                    entry.address, entry.x8, entry.edge
-                )?;
-            }
-        }
+        Ok(view) => add_trace(out, &view)?,
     }
     Ok(())
 }
@@ -58,16 +64,24 @@ fn view_of(bytes: &[u8]) -> Result<TraceView<'_>, Failure<CaseFault>>
     }
 }
 
-/// Answers whether a trace can be one of an object.
-pub(crate) fn fit(alloc: Global, blobs: &Blobs, out: &mut String, name: &str) -> Answer {
-    let object = object_of(alloc, blobs.named(name)?)?;
-    let map = map_of(alloc, &object)?;
-    let view = view_of(blobs.latest()?)?;
+/// Adds whether a trace can be one of an object.
+fn add_fit(alloc: Global, out: &mut String, object: &Object, trace: &[u8]) -> Answer
+    requires { IsSound object.now }
+{
+    let map = map_of(alloc, object)?;
+    let view = view_of(trace)?;
     match map.fit(&view) {
-        Ok(()) => writeln!(out, "fits")?,
+        Ok(()) => out.push_str("fits\n")?,
         Err(fault) => writeln!(out, "{fault}")?,
     }
     Ok(())
+}
+
+/// Answers whether a trace can be one of an object.
+pub(crate) fn fit(alloc: Global, blobs: &Blobs, out: &mut String, name: &str) -> Answer {
+    let trace = blobs.latest()?;
+    let object = object_of(alloc, blobs.named(name)?)?;
+    add_fit(alloc, out, &object, trace)
 }
 
 /// Offers a trace to a coverage.
@@ -140,14 +154,21 @@ fn add_event(out: &mut String, event: Event) -> Result<(), AllocError> {
     }
 }
 
+/// Adds how many runs there were, and their events.
+fn add_coverage(out: &mut String, runs: u64, events: &[Event]) -> Result<(), AllocError> {
+    writeln!(out, "{runs} runs")?;
+    for event in events {
+        add_event(out, *event)?;
+    }
+    Ok(())
+}
+
 /// Answers the events of traces.
 pub(crate) fn events(alloc: Global, blobs: &Blobs, out: &mut String, words: &str) -> Answer {
     let (name, names) = split_word(words);
     let object = object_of(alloc, blobs.named(name)?)?;
     let coverage = covered_by_all(alloc, blobs, &object, names)?;
-    writeln!(out, "{} runs", coverage.runs())?;
-    for event in &coverage.events(alloc)? {
-        add_event(out, *event)?;
-    }
+    let events = coverage.events(alloc)?;
+    add_coverage(out, coverage.runs(), events.as_slice())?;
     Ok(())
 }

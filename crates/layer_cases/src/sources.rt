@@ -46,20 +46,33 @@ fn add_text(out: &mut String, bytes: &[u8]) -> Result<(), AllocError> {
     Ok(())
 }
 
+/// Adds a place and what is wrong there.
+fn add_fault(out: &mut String, pos: Pos, fault: &str) -> Result<(), AllocError> {
+    writeln!(out, "{}:{}: {fault}", pos.line, pos.col)
+}
+
+/// Adds a token.
+fn add_token(out: &mut String, token: &Token) -> Result<(), AllocError> {
+    let Pos { file, line, col } = token.pos;
+    write!(out, "{file} {line}:{col} {}..{} ", token.from, token.to)?;
+    write!(out, "{:?} {:?} ", token.kind(), token.lexeme)?;
+    add_text(out, token.text.as_slice())?;
+    out.push_str("\n")
+}
+
+/// Adds tokens, and how many there are.
+fn add_tokens(out: &mut String, tokens: &[Token]) -> Result<(), AllocError> {
+    for token in tokens {
+        add_token(out, token)?;
+    }
+    writeln!(out, "{} tokens", tokens.len())
+}
+
 /// Answers the tokens.
 pub(crate) fn lex_blob(alloc: Global, out: &mut String, source: &[u8]) -> Answer {
     match tokens_of(alloc, source)? {
-        Err(pos) => writeln!(out, "{}:{}: lexical error", pos.line, pos.col)?,
-        Ok(tokens) => {
-            for token in &tokens {
-                let Pos { file, line, col } = token.pos;
-                write!(out, "{file} {line}:{col} {}..{} ", token.from, token.to)?;
-                write!(out, "{:?} {:?} ", token.kind(), token.lexeme)?;
-                add_text(out, token.text.as_slice())?;
-                out.push_str("\n")?;
-            }
-            writeln!(out, "{} tokens", tokens.len())?;
-        }
+        Err(pos) => add_fault(out, pos, "lexical error")?,
+        Ok(tokens) => add_tokens(out, tokens.as_slice())?,
     }
     Ok(())
 }
@@ -76,8 +89,8 @@ fn good_tokens(alloc: Global, source: &[u8]) -> Result<Vec<Token>, Failure<CaseF
 pub(crate) fn nested_blob(alloc: Global, out: &mut String, source: &[u8]) -> Answer {
     let tokens = good_tokens(alloc, source)?;
     match nested(tokens.as_slice()) {
-        Some(pos) => writeln!(out, "{}:{}: nested too deep", pos.line, pos.col)?,
-        None => writeln!(out, "nested well")?,
+        Some(pos) => add_fault(out, pos, "nested too deep")?,
+        None => out.push_str("nested well\n")?,
     }
     Ok(())
 }
@@ -100,34 +113,35 @@ fn extent_of(word: &str) -> Extent {
 /// What the parser says of tokens within the extent that a word names.
 fn parsed(alloc: Global, tokens: &[Token], word: &str) -> Result<Vec<Unit>, Failure<SyntaxFault>> {
     match extent_of(word) {
-        Extent::StraightLine => parse(alloc, tokens),
+        Extent::ShortCircuit => parse(alloc, tokens),
         extent => parse_within(alloc, extent, tokens),
     }
 }
 
-/// Answers whether the source derives a file.
-pub(crate) fn parse_blob(alloc: Global, out: &mut String, source: &[u8], words: &str) -> Answer {
-    let tokens = match tokens_of(alloc, source)? {
-        Ok(tokens) => tokens,
-        Err(pos) => {
-            writeln!(out, "{}:{}: lexical error", pos.line, pos.col)?;
-            return Ok(());
-        }
-    };
-    match parsed(alloc, tokens.as_slice(), words) {
-        Ok(units) => {
-            let nodes = units.iter().fold(
-                0,
-                |sum: u64, unit| sum.saturating_add(u64::from(node_count(unit))),
-            );
-            writeln!(out, "derives, {nodes} nodes")?;
-        }
-        Err(Failure::Fault(SyntaxFault { pos })) => {
-            writeln!(out, "{}:{}: syntax error", pos.line, pos.col)?;
-        }
+/// The nodes of all units.
+fn nodes_of(units: &[Unit]) -> u64 {
+    units.iter().fold(
+        0,
+        |sum: u64, unit| sum.saturating_add(u64::from(node_count(unit))),
+    )
+}
+
+/// Adds whether tokens derive a file.
+fn add_parsed(alloc: Global, out: &mut String, tokens: &[Token], words: &str) -> Answer {
+    match parsed(alloc, tokens, words) {
+        Ok(units) => writeln!(out, "derives, {} nodes", nodes_of(units.as_slice()))?,
+        Err(Failure::Fault(SyntaxFault { pos })) => add_fault(out, pos, "syntax error")?,
         Err(Failure::WantOfMemory) => return Err(Failure::WantOfMemory),
     }
     Ok(())
+}
+
+/// Answers whether the source derives a file.
+pub(crate) fn parse_blob(alloc: Global, out: &mut String, source: &[u8], words: &str) -> Answer {
+    match tokens_of(alloc, source)? {
+        Ok(tokens) => add_parsed(alloc, out, tokens.as_slice(), words),
+        Err(pos) => Ok(add_fault(out, pos, "lexical error")?),
+    }
 }
 
 /// Whether tokens are refused at the last one; without tokens at line 1 and column 1.
@@ -142,15 +156,20 @@ fn is_refused_at_its_end(alloc: Global, tokens: &[Token]) -> Result<bool, Failur
     }
 }
 
-/// Answers which beginnings of the source are not refused at their last token.
-pub(crate) fn beginnings_of_blob(alloc: Global, out: &mut String, source: &[u8]) -> Answer {
-    let tokens = good_tokens(alloc, source)?;
+/// Adds which beginnings of tokens are not refused at their last one.
+fn add_beginnings(alloc: Global, out: &mut String, tokens: &[Token]) -> Answer {
     for length in 0..=tokens.len() {
-        if !is_refused_at_its_end(alloc, &tokens.as_slice()[..length])? {
+        if !is_refused_at_its_end(alloc, &tokens[..length])? {
             writeln!(out, "{length} of {} tokens", tokens.len())?;
         }
     }
     Ok(())
+}
+
+/// Answers which beginnings of the source are not refused at their last token.
+pub(crate) fn beginnings_of_blob(alloc: Global, out: &mut String, source: &[u8]) -> Answer {
+    let tokens = good_tokens(alloc, source)?;
+    add_beginnings(alloc, out, tokens.as_slice())
 }
 
 /// The exempt regions of a source, or the place of the pragma that pairs with none.
@@ -166,22 +185,40 @@ fn regions_of(
     }
 }
 
+/// Adds an exempt region.
+fn add_region(out: &mut String, region: &Region) -> Result<(), AllocError> {
+    write!(out, "{} ", region.file)?;
+    write!(out, "{}:{} to ", region.from_line, region.from_column)?;
+    write!(out, "{}:{} ", region.to_line, region.to_column)?;
+    add_text(out, region.why.as_slice())?;
+    out.push_str("\n")
+}
+
+/// Adds exempt regions, and how many there are.
+fn add_regions(out: &mut String, regions: &[Region]) -> Result<(), AllocError> {
+    for region in regions {
+        add_region(out, region)?;
+    }
+    writeln!(out, "{} regions", regions.len())
+}
+
 /// Answers the exempt regions.
 pub(crate) fn regions_of_blob(alloc: Global, out: &mut String, source: &[u8]) -> Answer {
     match regions_of(alloc, source)? {
-        Ok(regions) => {
-            for region in &regions {
-                write!(out, "{} ", region.file)?;
-                write!(out, "{}:{} to ", region.from_line, region.from_column)?;
-                write!(out, "{}:{} ", region.to_line, region.to_column)?;
-                add_text(out, region.why.as_slice())?;
-                out.push_str("\n")?;
-            }
-            writeln!(out, "{} regions", regions.len())?;
-        }
-        Err(pos) => writeln!(out, "{}:{}: exemption error", pos.line, pos.col)?,
+        Ok(regions) => add_regions(out, regions.as_slice())?,
+        Err(pos) => add_fault(out, pos, "exemption error")?,
     }
     Ok(())
+}
+
+/// The place that the numbers of a file, a line and a column name.
+fn place_of(words: &str) -> Result<Pos, Failure<CaseFault>> {
+    let mut place = [0u32; 3];
+    for (part, word) in place.iter_mut().zip(words.split_ascii_whitespace()) {
+        *part = u32::try_from(number(word)?).unwrap_or(u32::MAX);
+    }
+    let [file, line, col] = place;
+    Ok(Pos { file, line, col })
 }
 
 /// Answers whether a place is exempt.
@@ -191,17 +228,11 @@ pub(crate) fn exempt_in_blob(
     source: &[u8],
     words: &str,
 ) -> Answer {
-    let mut place = [0u32; 3];
-    for (part, word) in place.iter_mut().zip(words.split_ascii_whitespace()) {
-        *part = u32::try_from(number(word)?).unwrap_or(u32::MAX);
-    }
-    let [file, line, col] = place;
+    let place = place_of(words)?;
     match regions_of(alloc, source)? {
-        Ok(regions) if exempt(regions.as_slice(), Pos { file, line, col }) => {
-            writeln!(out, "exempt")?;
-        }
-        Ok(_) => writeln!(out, "not exempt")?,
-        Err(pos) => writeln!(out, "{}:{}: exemption error", pos.line, pos.col)?,
+        Ok(regions) if exempt(regions.as_slice(), place) => out.push_str("exempt\n")?,
+        Ok(_) => out.push_str("not exempt\n")?,
+        Err(pos) => add_fault(out, pos, "exemption error")?,
     }
     Ok(())
 }

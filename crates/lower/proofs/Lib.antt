@@ -10,3 +10,4 @@ pub mod Small
 pub mod Building
 pub mod Whole
 pub mod Forms
+pub mod AllFuels

@@ -5,3 +5,4 @@ pub mod Same
 pub mod Marked
 pub mod Chain
 pub mod Forms
+pub mod AllFuels

@@ -13,6 +13,7 @@ ghost use Rattle.decision_meaning.specs.Pair.{Everywhere};
 ghost use Rattle.kernel_ir.specs.Limits.{IsWellFormed, IsWithin, kernel_instructions};
 ghost use Rattle.kernel_ir.specs.Meaning as code;
 ghost use Rattle.kernel_ir.specs.Obligations.{Condition, rows, conditions};
+ghost use Rattle.lower.specs.AllFuels.{Follows};
 ghost use Rattle.lower.specs.Lowered.{kernel_of};
 ghost use Rattle.lower.specs.Marked.{row_of, all_conditions};
 ghost use Rattle.lower.specs.Same.{Same};
@@ -27,6 +28,14 @@ ghost use Rattle.lower.specs.Structured.{IsStructured};
 pub fn kernels_do_what_their_programs_do()
     ensures { (p : Program) → IsStructured p → IsWithin (kernel_of p) → (fuel : ℕ) (input : List ℤ) → fuel ≢ source.deepest
         → Same (source.exec p fuel input) (code.exec (kernel_of p) fuel input) }
+{}
+
+/// On every input the kernel of a structured program ends exactly where the program's execution does, with
+/// the same ending, output and events, at a cost that is at most three times the execution's. Under each
+/// fuel its events and its output begin those of the program under some fuel.
+#[tactic(auto, using(crate::proofs::AllFuels::follows_law))]
+pub fn kernels_end_where_their_programs_end()
+    ensures { (p : Program) → IsStructured p → IsWithin (kernel_of p) → (input : List ℤ) → Follows p (kernel_of p) input }
 {}
 
 /// The kernel of a structured program is well-formed, where decisions have the graphs of their

@@ -13,6 +13,7 @@ mod lowering;
 mod statements;
 
 pub use laws::{
-    kernels_are_small, kernels_do_what_their_programs_do, kernels_hold_the_obligations,
+    kernels_are_small, kernels_do_what_their_programs_do, kernels_end_where_their_programs_end,
+    kernels_hold_the_obligations,
 };
 pub use lowering::lower;
