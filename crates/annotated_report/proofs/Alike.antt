@@ -66,7 +66,7 @@ behind : (o : Option Vector) (v : Vector) (rest : List Vector) → Has rest v �
 behind None v rest h = h
 behind (Some w) v rest h = inr h
 
-taken : (d : ℕ) (ys : List Event) (event : Event) (v : Vector) → Has ys event → vector_in d event ≡ Some v → Has (vectors_of ys d) v
+pub taken : (d : ℕ) (ys : List Event) (event : Event) (v : Vector) → Has ys event → vector_in d event ≡ Some v → Has (vectors_of ys d) v
 taken d [] event v h e = absurd h
 taken d (y ∷ ys) event v h e =
     elim h [
