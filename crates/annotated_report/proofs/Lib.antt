@@ -12,5 +12,6 @@ pub mod Same
 pub mod Judging
 pub mod Totals
 pub mod Alike
+pub mod Sorted
 pub mod Listed
 pub mod PairedEvents

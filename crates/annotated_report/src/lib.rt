@@ -16,6 +16,7 @@ mod finding;
 mod judge;
 mod laws;
 mod lines;
+mod ordered;
 mod printing;
 mod selection;
 mod shown;
