@@ -2,8 +2,8 @@
 //! once.
 
 use annotated_report::{
-    pairs_are_of_events, the_report_ends_in_all_least_pairs,
-    the_text_depends_on_the_set_of_events, verdicts_are_those_of_the_definitions,
+    pairs_are_of_events, the_report_ends_in_all_least_pairs, the_text_depends_on_the_set_of_events,
+    verdicts_are_those_of_the_definitions,
 };
 use coverage_set::{
     own_traces_pass_all_checks, traces_of_runs_say_what_the_runs_tell, unions_have_their_laws,
