@@ -66,7 +66,7 @@ behind : (o : Option Vector) (v : Vector) (rest : List Vector) → Has rest v �
 behind None v rest h = h
 behind (Some w) v rest h = inr h
 
-taken : (d : ℕ) (ys : List Event) (event : Event) (v : Vector) → Has ys event → vector_in d event ≡ Some v → Has (vectors_of ys d) v
+pub taken : (d : ℕ) (ys : List Event) (event : Event) (v : Vector) → Has ys event → vector_in d event ≡ Some v → Has (vectors_of ys d) v
 taken d [] event v h e = absurd h
 taken d (y ∷ ys) event v h e =
     elim h [
@@ -94,7 +94,7 @@ vectors_alike d xs ys h = (vectors_within d xs ys h.0, vectors_within d ys xs h.
 same_gives : (e : Expr) (value : Bool) (vs ws : List Vector) → AreAlike vs ws → gives e value vs ≡ gives e value ws
 same_gives e value vs ws h = any_same (λ v. same (outcome e (marks v)) value) vs ws h
 
-same_covered : (e : Expr) (vs ws : List Vector) → AreAlike vs ws → is_covered e vs ≡ is_covered e ws
+pub same_covered : (e : Expr) (vs ws : List Vector) → AreAlike vs ws → is_covered e vs ≡ is_covered e ws
 same_covered e vs ws h =
     ap (λ b. b && gives e false vs) (same_gives e true vs ws h) ∙ ap (λ b. gives e true ws && b) (same_gives e false vs ws h)
 
@@ -106,7 +106,7 @@ same_lacks e (v ∷ vs) (w ∷ ws) h =
     ap (λ b. lacks_outcome b (gives e false (v ∷ vs))) (same_gives e true (v ∷ vs) (w ∷ ws) h)
     ∙ ap (λ b. lacks_outcome (gives e true (w ∷ ws)) b) (same_gives e false (v ∷ vs) (w ∷ ws) h)
 
-everywhere_within : {X : Type 0} (P : X → Type 0) (xs ys : List X) → AreWithin ys xs → Everywhere P xs → Everywhere P ys
+pub everywhere_within : {X : Type 0} (P : X → Type 0) (xs ys : List X) → AreWithin ys xs → Everywhere P xs → Everywhere P ys
 everywhere_within P xs [] w h = tt
 everywhere_within P xs (y ∷ ys) w h = (everywhere-item P y xs h (w y (inl refl)), everywhere_within P xs ys (λ z k. w z (inr k)) h)
 
@@ -130,14 +130,14 @@ same_pairs level e vs ws c h =
     (moved (size e) (kind_of level e c) vs ws (shown_pair level e vs c) h (least_pair_is (size e) (kind_of level e c) vs))
     (least_pair_is (size e) (kind_of level e c) ws)
 
-same_unpaired : (level : Level) (vs ws : List Vector) (d : ℕ) (entry : DecEntry) → AreAlike vs ws → unpaired level vs d entry ≡ unpaired level ws d entry
+pub same_unpaired : (level : Level) (vs ws : List Vector) (d : ℕ) (entry : DecEntry) → AreAlike vs ws → unpaired level vs d entry ≡ unpaired level ws d entry
 same_unpaired level vs ws d entry h =
     let e = expr_of entry in
     same_found (finding_of_condition level vs d entry) (finding_of_condition level ws d entry) 0 entry.conditions
     (λ i m place eq at. ap (λ b. pair_finding b (condition_key d entry m place) (shown_pair level e vs m)) (same_covered e vs ws h)
     ∙ same_finding (size e) (is_covered e ws) (condition_key d entry m place) (shown_pair level e vs m) (shown_pair level e ws m) (same_pairs level e vs ws m h))
 
-same_paired : (level : Level) (vs ws : List Vector) (d : ℕ) (entry : DecEntry) → AreAlike vs ws → asked_pairs level vs d entry ≡ asked_pairs level ws d entry
+pub same_paired : (level : Level) (vs ws : List Vector) (d : ℕ) (entry : DecEntry) → AreAlike vs ws → asked_pairs level vs d entry ≡ asked_pairs level ws d entry
 same_paired level vs ws d entry h =
     let e = expr_of entry in
     ap (λ l. if asks_pairs level then l else [])

@@ -1,10 +1,13 @@
 -- Outcomes that vectors give, as a test and as a fact.
-use Rattle.std.proofs.Common.{◌≡◌, Bool, true, false, List, [], ◌∷◌, ◌||◌, ◌↔◌, IsTrue, refl, sym, inl, inr, ◌⊎◌}
+use Rattle.std.proofs.Common.{◌≡◌, ℕ, Bool, true, false, List, [], ◌∷◌, ◌||◌, ◌&&◌, ◌==◌, ◌↔◌, IsTrue, refl, sym, inl, inr, ◌⊎◌, eqb-true, eq-eqb}
+use Rattle.cov_base.specs.declared.event.Event.{Event}
+use Rattle.cov_base.specs.declared.event.Event.TheVariants.{Start, Done}
 use Rattle.cov_base.specs.declared.event.Vector.{Vector}
+use Rattle.cov_base.specs.declared.position.StmtId.{StmtId}
 use Rattle.decision_meaning.specs.Expr.{Expr}
 use Rattle.decision_meaning.specs.Marks.{marks, same, outcome}
-use Rattle.decision_meaning.specs.Verdict.{Gives}
-use Rattle.annotated_report.specs.Verdicts.{gives}
+use Rattle.decision_meaning.specs.Verdict.{IsStarted, Gives, GivesBoth}
+use Rattle.annotated_report.specs.Verdicts.{gives, is_covered, starts, is_started, starts_of}
 
 same_from : (a b : Bool) → same a b ≡ true → a ≡ b
 same_from true b h = sym h
@@ -52,3 +55,48 @@ both false false f g = refl
 pub gives_is : (b : Bool) (e : Expr) (value : Bool) (vectors : List Vector) → (IsTrue b ↔ Gives e vectors value) → b ≡ gives e value vectors
 gives_is b e value vectors h =
     both b (gives e value vectors) (λ t. from_gives e value vectors (h.0 t)) (λ t. h.1 (to_gives e value vectors t))
+
+pub gives_law : (e : Expr) (vectors : List Vector) (given : Bool) → IsTrue (gives e given vectors) ↔ Gives e vectors given
+gives_law e vectors given = (to_gives e given vectors, from_gives e given vectors)
+
+first_of : (a b : Bool) → (a && b) ≡ true → a ≡ true
+first_of true b h = refl
+first_of false b h = h
+
+second_of : (a b : Bool) → (a && b) ≡ true → b ≡ true
+second_of true b h = h
+second_of false b h = absurd (cc h)
+
+and_both : (a b : Bool) → a ≡ true → b ≡ true → (a && b) ≡ true
+and_both true b h l = l
+and_both false b h l = h
+
+pub covered_law : (e : Expr) (vectors : List Vector) → IsTrue (is_covered e vectors) ↔ GivesBoth e vectors
+covered_law e vectors = (
+  λ h.
+      let to_false : Gives e vectors false = to_gives e false vectors (second_of (gives e true vectors) (gives e false vectors) h) in
+      let to_true : Gives e vectors true = to_gives e true vectors (first_of (gives e true vectors) (gives e false vectors) h) in
+      (to_false, to_true),
+  λ g. and_both (gives e true vectors) (gives e false vectors) (from_gives e true vectors g.1) (from_gives e false vectors g.0),
+)
+
+to_started : (events : List Event) (s : StmtId) → is_started events s.0 ≡ true → IsStarted (starts_of events) s
+to_started [] s h = absurd (cc h)
+to_started (Start t i ∷ events) s h =
+    elim (either (t.0 == s.0) (is_started events s.0) h) [
+      | inl here ↦ inl (let same : t.0 ≡ s.0 = eqb-true t.0 s.0 here in λ j. record { 0 = same j })
+      | inr there ↦ inr (to_started events s there)
+    ]
+to_started (Done d i v ∷ events) s h = to_started events s h
+
+from_started : (events : List Event) (s : StmtId) → IsStarted (starts_of events) s → is_started events s.0 ≡ true
+from_started [] s h = absurd h
+from_started (Start t i ∷ events) s h =
+    elim h [
+      | inl here ↦ or_left (t.0 == s.0) (is_started events s.0) (eq-eqb t.0 s.0 (λ j. (here j).0))
+      | inr there ↦ or_right (t.0 == s.0) (is_started events s.0) (from_started events s there)
+    ]
+from_started (Done d i v ∷ events) s h = from_started events s h
+
+pub started_law : (events : List Event) (s : StmtId) → IsTrue (is_started events s.0) ↔ IsStarted (starts_of events) s
+started_law events s = (to_started events s, from_started events s)

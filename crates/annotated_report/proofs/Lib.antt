@@ -6,10 +6,12 @@ pub mod LeastPairs
 pub mod Collecting
 pub mod Giving
 pub mod Vectors
-pub mod PairedEvents
 pub mod ShownPairs
 pub mod Spelled
 pub mod Same
 pub mod Judging
 pub mod Totals
 pub mod Alike
+pub mod Sorted
+pub mod Listed
+pub mod PairedEvents

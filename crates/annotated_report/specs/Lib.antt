@@ -9,6 +9,6 @@ pub mod Findings
 pub mod Shown
 pub mod Caller
 pub mod Lines
-pub mod Paired
 pub mod Report
+pub mod Paired
 pub mod Members

@@ -4,6 +4,7 @@ use Rattle.std.specs.List.{list_any, filter_map}
 use Rattle.cov_base.specs.declared.event.Event.{Event}
 use Rattle.cov_base.specs.declared.event.Event.TheVariants.{Start, Done}
 use Rattle.cov_base.specs.declared.event.Vector.{Vector}
+use Rattle.cov_base.specs.declared.position.StmtId.{StmtId}
 use Rattle.decision_meaning.specs.Expr.{Expr}
 use Rattle.decision_meaning.specs.Marks.{marks, same, outcome}
 use Rattle.annotated_report.specs.declared.finding.Missing.{Missing}
@@ -17,6 +18,15 @@ starts n (Done decision instance vector) = false
 -- a statement is covered where it was started in some instance
 abbrev pub is_started : List Event → ℕ → Bool
 is_started events n = list_any (starts n) events
+
+-- the statement that an event starts
+abbrev pub start_in : Event → Option StmtId
+start_in (Start statement instance) = Some statement
+start_in (Done decision instance vector) = None
+
+-- the statements that events start, in all instances
+abbrev pub starts_of : List Event → List StmtId
+starts_of events = filter_map start_in events
 
 -- the vector that an event gives decision d
 abbrev pub vector_in : ℕ → Event → Option Vector

@@ -24,6 +24,7 @@ ghost use Rattle.annotated_report.specs.Verdicts.{is_covered};
 use crate::conditions::{Found, judge_conditions};
 use crate::evaluations::Evaluations;
 use crate::finding::{Finding, Key, Missing, Subject};
+use crate::ordered::in_order_once;
 use crate::verdict::{missing, outcomes};
 use crate::words::asks_pairs;
 use condition_graph::Graph;
@@ -75,11 +76,12 @@ fn judge_pairs(
         ≡ found.old.findings.items ++ (if asks_pairs level then unpaired level vectors.now number entry.now else [])) }
     ensures pairs { OnOk result (found.new.pairs.items ≡ found.old.pairs.items ++ asked_pairs level vectors.now number entry.now) }
 {
-    if asks_pairs(level) {
-        judge_conditions(alloc, found, level, dec, vectors, covered, number, entry)
-    } else {
-        Ok(())
+    if !asks_pairs(level) {
+        return Ok(());
     }
+    let ordered = in_order_once(alloc, vectors)?;
+    let ordered = ordered.as_slice();
+    judge_conditions(alloc, found, level, dec, ordered, covered, number, entry)
 }
 
 /// Adds what a decision and its conditions show and lack at a level, and answers how many decisions

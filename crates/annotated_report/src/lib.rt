@@ -3,8 +3,10 @@
 //!
 //! The contract that the layers above use: [`report`] gives the text that the definitions give to a
 //! level, obligations, a number of traces, a list of events and the names of the files. That text
-//! depends on which events there are, and not on their order or on how often one is there. By
-//! [`pairs_are_of_events`] each pair that it shows is of two vectors of these events.
+//! depends on which events there are, and not on their order or on how often one is there. Its verdicts
+//! are those of the definitions ([`verdicts_are_those_of_the_definitions`]), and it ends in the least
+//! pairs of vectors of these events, one for each condition that has a pair
+//! ([`the_report_ends_in_all_least_pairs`]).
 #![tactic(auto)]
 
 mod conditions;
@@ -12,7 +14,9 @@ mod decisions;
 mod evaluations;
 mod finding;
 mod judge;
+mod laws;
 mod lines;
+mod ordered;
 mod printing;
 mod selection;
 mod shown;
@@ -21,5 +25,9 @@ mod statements;
 mod verdict;
 mod words;
 
-pub use printing::{pairs_are_of_events, report, the_text_depends_on_the_set_of_events};
+pub use laws::{
+    pairs_are_of_events, the_report_ends_in_all_least_pairs, the_text_depends_on_the_set_of_events,
+    verdicts_are_those_of_the_definitions,
+};
+pub use printing::report;
 pub use words::level_word;

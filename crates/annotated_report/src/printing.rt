@@ -1,16 +1,8 @@
 //! The report.
 
-ghost use Rattle.std.specs.Prelude.{◌≡◌, ◌++◌, ℕ, List, [], length, map, codes, IfOk, OnOk, if◌then◌else◌};
-ghost use Rattle.cov_base.specs.declared.event.Event.{Event};
-ghost use Rattle.cov_base.specs.declared.level.Level.{Level};
-ghost use Rattle.cov_base.specs.declared.obligations.Obligations.{Obligations};
+ghost use Rattle.std.specs.Prelude.{◌≡◌, ◌++◌, [], length, map, codes, IfOk, OnOk, if◌then◌else◌};
 ghost use Rattle.annotated_report.specs.Caller.{AreEvaluated, AreOfStatements};
 ghost use Rattle.annotated_report.specs.Findings.{asks_outcomes, asks_pairs};
-ghost use Rattle.annotated_report.specs.Members.{AreAlike};
-ghost use Rattle.annotated_report.specs.Paired.{TellsAPair};
-ghost use Rattle.annotated_report.specs.Shown.{pair_lines};
-ghost use Rattle.cov_base.specs.declared.obligations.DecEntry.{DecEntry};
-ghost use Rattle.decision_meaning.specs.Pair.{Everywhere, Somewhere};
 ghost use Rattle.annotated_report.specs.Report.{violations_text, total_text, pairs_text, judged_totals, report_text};
 
 use crate::finding::{Finding, PairLine};
@@ -157,17 +149,3 @@ pub fn report(
     put_totals(alloc, &mut text, level, files, obligations, &judged)?;
     Ok(text)
 }
-
-/// The text depends on which events there are, and not on their order or on how often one is there.
-pub fn the_text_depends_on_the_set_of_events()
-    ensures { (level : Level) (obligations : Obligations) (traces : ℕ) (events others : List Event) (names : List (List ℕ))
-        → AreAlike events others → report_text level obligations traces events names ≡ report_text level obligations traces others names }
-{}
-
-/// Each line of a pair tells two vectors of events, of completed evaluations of the decision, that show
-/// the condition to matter.
-#[tactic(auto, using(crate::proofs::PairedEvents::pairs_told))]
-pub fn pairs_are_of_events()
-    ensures { (level : Level) (decisions : List DecEntry) (events : List Event)
-        → Everywhere (TellsAPair level decisions (λ e. Somewhere (λ x. x ≡ e) events)) (pair_lines level decisions events) }
-{}

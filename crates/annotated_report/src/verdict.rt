@@ -1,6 +1,6 @@
 //! What the vectors of a decision show of it, and of its conditions.
 
-ghost use Rattle.std.specs.Prelude.{◌≡◌, ◌<◌, Bool, true, false, length};
+ghost use Rattle.std.specs.Prelude.{◌≡◌, Bool, true, false};
 ghost use Rattle.decision_meaning.specs.Expr.{Expr, size};
 ghost use Rattle.decision_meaning.specs.Graph.{graph};
 ghost use Rattle.decision_meaning.specs.Pair.{Everywhere, IsLeastPair};
@@ -54,8 +54,7 @@ pub(crate) fn shown_pair(
     vectors: &[Vector],
     c: CondIx,
 ) -> Option<(Vector, Vector)>
-    requires condition { c.0 < length dec.now }
-    requires vectors { Everywhere (IsPathVector dec.now) vectors.now }
+    requires { Everywhere (IsPathVector dec.now) vectors.now }
     ensures { (e : Expr) → dec.now ≡ graph e → IsLeastPair (size e) (kind_of level e c.0) vectors.now (pair_view result) }
 {
     match level {

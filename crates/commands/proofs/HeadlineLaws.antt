@@ -35,7 +35,7 @@ use Rattle.transcript.specs.Reading.{Tells, IsDisciplined}
 abbrev Ended_all : Object → List ARun → Type 0
 Ended_all o runs = Everywhere (λ r. (object_run o r.budget r.input).outcome ≡ Ended r.ending) runs
 
-traced_ended : (held : Held) (o : Object) (names : List (List ℕ)) (runs : List ARun) → AreTracesOf held o names runs → Ended_all o runs
+pub traced_ended : (held : Held) (o : Object) (names : List (List ℕ)) (runs : List ARun) → AreTracesOf held o names runs → Ended_all o runs
 traced_ended held o [] [] are = tt
 traced_ended held o [] (r ∷ rs) are = absurd are
 traced_ended held o (name ∷ names) [] are = absurd are
@@ -58,7 +58,7 @@ tells_occurs p o sound behaves e r input ended =
     )
 
 -- the same of one of many runs
-tells_somewhere : (p : Program) (o : Object) → IsSound o → Behaves p o → (e : Event) (runs : List ARun) → Everywhere (λ r. IsInput r.input) runs → Ended_all o runs
+pub tells_somewhere : (p : Program) (o : Object) → IsSound o → Behaves p o → (e : Event) (runs : List ARun) → Everywhere (λ r. IsInput r.input) runs → Ended_all o runs
     → Somewhere (λ r. Tells (facts_of o) (transcript_of o r) e) runs ↔ Somewhere (λ r. Occurs p r.input e) runs
 tells_somewhere p o sound behaves e [] inputs ended = (λ none. none, λ none. none)
 tells_somewhere p o sound behaves e (r ∷ rs) inputs ended =
@@ -88,7 +88,7 @@ pub is_file : (files : List SourceFile) (main : List ℕ) (p : Program) (o : Obj
 is_file files main p o of = record { checked = of.checked; plain = of.plain; spelled = refl }
 
 -- the text of a report over an object of sources
-text_kept : (level : Level) (n : ℕ) (events : List Event) (files : List SourceFile) (main : List ℕ) (p : Program) (o : Object) → IsObjectOf files main p o
+pub text_kept : (level : Level) (n : ℕ) (events : List Event) (files : List SourceFile) (main : List ℕ) (p : Program) (o : Object) → IsObjectOf files main p o
     → report_text level o.obligations n events (map (λ file. file.name) o.files) ≡ report_text level (obligations_of p []) n events (map (λ file. file.name) files)
 text_kept level n events files main p o of =
     let named : map (λ file. file.name) o.files ≡ map (λ (file : SourceFile). file.name) files =
@@ -96,7 +96,7 @@ text_kept level n events files main p o of =
     ap (λ (names : List (List ℕ)). report_text level o.obligations n events names) named
     ∙ ap (λ (obligations : Obligations). report_text level obligations n events (map (λ file. file.name) files)) of.obligations
 
-through : {A B C : Type 0} → A ↔ B → B ↔ C → A ↔ C
+pub through : {A B C : Type 0} → A ↔ B → B ↔ C → A ↔ C
 through first second = (λ a. second.0 (first.0 a), λ c. first.1 (second.1 c))
 
 back : {A B : Type 0} → A ↔ B → B ↔ A

@@ -154,19 +154,37 @@ read_are held o number (name ∷ names) (r ∷ rs) Then output are fair says =
     one_read held o number names rs Then r are.0 output (record { trace = are.2; disciplined = fair.0 }) (rw are.1 at says)
     (λ rest. read_are held o (number + 1) names rs (λ traces. Then (are.0 ∷ traces)) output are.3 fair.1 rest)
 
--- the text of a report of traces is that of their runs
-runs_told : (level : Level) (annotation : Annotation) (o : Object) → IsSound o → (runs : List ARun) (traces : List (List ℕ)) (text : List ℕ) → AreOf o runs traces
-    → Reports level annotation o traces text
+-- The text is the report of an object's runs: of the events that their transcripts tell, and of the digests that close their traces.
+pub record IsReportOfRuns (level : Level) (o : Object) (runs : List ARun) (text : List ℕ) : Type 0 where
+  pub events : List Event
+  pub digests : List (List ℕ)
+  pub all_events : (e : Event) → Somewhere (λ x. x ≡ e) events ↔ Somewhere (λ r. Tells (facts_of o) (transcript_of o r) e) runs
+  pub all_digests : (d : List ℕ) → Somewhere (λ x. x ≡ d) digests ↔ Somewhere (λ r. digest_of_run o r ≡ d) runs
+  pub each_once : AllPairs (λ x y. x ≢ y) digests
+  pub told : text ≡ report_text level o.obligations (length digests) events (map (λ file. file.name) o.files)
+
+-- a report of traces is that of their runs
+report_of_runs : (level : Level) (annotation : Annotation) (o : Object) → IsSound o → (runs : List ARun) (traces : List (List ℕ)) (text : List ℕ) → AreOf o runs traces
+    → Reports level annotation o traces text → IsReportOfRuns level o runs text
+report_of_runs level annotation o sound runs traces text are reports = record {
+  events = reports.report.events;
+  digests = reports.report.digests;
+  all_events = λ e.
+      through (reports.report.all_events e) (alike o (λ t. Shows o t e) (λ r. Tells (facts_of o) (transcript_of o r) e) (shows_tells o sound e) runs traces are);
+  all_digests = λ d. through (reports.report.all_digests d) (alike o (ClosesWith d) (λ r. digest_of_run o r ≡ d) (closes_digest o d) runs traces are);
+  each_once = reports.report.each_once;
+  told = reports.report.told;
+}
+
+-- its text is that of any list of the events
+runs_told : (level : Level) (o : Object) (runs : List ARun) (text : List ℕ) → IsReportOfRuns level o runs text
     → (events : List Event) → ((e : Event) → Somewhere (λ x. x ≡ e) events ↔ Somewhere (λ r. Tells (facts_of o) (transcript_of o r) e) runs)
     → (digests : List (List ℕ)) → ((d : List ℕ) → Somewhere (λ x. x ≡ d) digests ↔ Somewhere (λ r. digest_of_run o r ≡ d) runs)
     → AllPairs (λ x y. x ≢ y) digests
     → text ≡ report_text level o.obligations (length digests) events (map (λ file. file.name) o.files)
-runs_told level annotation o sound runs traces text are reports events of_events digests of_digests once =
-    let report = reports.report in
-    let shown : (e : Event) → Somewhere (λ x. x ≡ e) report.events ↔ Somewhere (λ x. x ≡ e) events = λ e.
-    through (through (report.all_events e) (alike o (λ t. Shows o t e) (λ r. Tells (facts_of o) (transcript_of o r) e) (shows_tells o sound e) runs traces are)) (back (of_events e)) in
-    let counted : (d : List ℕ) → Somewhere (λ x. x ≡ d) report.digests ↔ Somewhere (λ x. x ≡ d) digests = λ d.
-    through (through (report.all_digests d) (alike o (ClosesWith d) (λ r. digest_of_run o r ≡ d) (closes_digest o d) runs traces are)) (back (of_digests d)) in
+runs_told level o runs text report events of_events digests of_digests once =
+    let shown : (e : Event) → Somewhere (λ x. x ≡ e) report.events ↔ Somewhere (λ x. x ≡ e) events = λ e. through (report.all_events e) (back (of_events e)) in
+    let counted : (d : List ℕ) → Somewhere (λ x. x ≡ d) report.digests ↔ Somewhere (λ x. x ≡ d) digests = λ d. through (report.all_digests d) (back (of_digests d)) in
     report.told
     ∙ same_text level o.obligations (length report.digests) report.events events (map (λ file. file.name) o.files) (λ e there. (shown e).0 there, λ e there. (shown e).1 there)
     ∙ ap (λ (n : ℕ). report_text level o.obligations n events (map (λ file. file.name) o.files)) (same_count report.digests digests report.each_once once counted)
@@ -180,25 +198,24 @@ came_to held level annotation o names output bytes is (inr other) =
     subst (λ (x : Object). AfterTraces held x 1 names (Covers level annotation x) (Ok output))
     (one_object other.0 o other.1.checked.closed is.checked.closed (sym other.1.spelled ∙ is.spelled)) other.2
 
--- of a call that is done
-told_done : (held : Held) (level : Level) (annotation : Annotation) (object : List ℕ) (names : List (List ℕ)) (call : Call) → call.held ≡ Some held
-    → Delivered (Coverage level annotation object names) Done call
-    → (bytes : List ℕ) (o : Object) → finmap.get held object ≡ Some bytes → IsFileOf o bytes → (runs : List ARun) → AreTracesOf held o names runs → Everywhere (λ r. IsDisciplined (facts_of o) (transcript_of o r)) runs
-    → (events : List Event) → ((e : Event) → Somewhere (λ x. x ≡ e) events ↔ Somewhere (λ r. Tells (facts_of o) (transcript_of o r) e) runs)
-    → (digests : List (List ℕ)) → ((d : List ℕ) → Somewhere (λ x. x ≡ d) digests ↔ Somewhere (λ r. digest_of_run o r ≡ d) runs)
-    → AllPairs (λ x y. x ≢ y) digests
-    → WhereTold (Appends (report_text level o.obligations (length digests) events (map (λ file. file.name) o.files))) call.written call.written_after
-told_done held level annotation object names call holds done bytes o there is runs are fair events of_events digests of_digests once =
+-- what a call that is done put is the report of the runs
+pub report_done : (held : Held) (level : Level) (annotation : Annotation) (object : List ℕ) (names : List (List ℕ)) (call : Call) → call.held ≡ Some held
+    → (done : Delivered (Coverage level annotation object names) Done call)
+    → (bytes : List ℕ) (o : Object) → finmap.get held object ≡ Some bytes → IsFileOf o bytes → (runs : List ARun) → AreTracesOf held o names runs
+    → Everywhere (λ r. IsDisciplined (facts_of o) (transcript_of o r)) runs → IsReportOfRuns level o runs done.output.text
+report_done held level annotation object names call holds done bytes o there is runs are fair =
     let comes : AfterRead held 0 object (λ bytes. AfterObject bytes (λ o. AfterTraces held o 1 names (Covers level annotation o))) (Ok done.output) =
     subst (λ (h : Option Held). IfSome h (λ told. ComesTo told (Coverage level annotation object names) (Ok done.output))) holds done.comes in
     let after = came_to held level annotation o names done.output bytes is (rw there at comes) in
     let read = read_are held o 1 names runs (Covers level annotation o) done.output are fair after in
-    let text = runs_told level annotation o is.checked.sound runs read.0 done.output.text read.1 read.2.1 events of_events digests of_digests once in
-    subst (λ (text : List ℕ). WhereTold (Appends text) call.written call.written_after) text done.delivers.text
+    report_of_runs level annotation o is.checked.sound runs read.0 done.output.text read.1 read.2.1
 
 pub runs_law : (task : Option Task) (call : Call) (status : Status) → Answers task call status → RunsAreCovered task call status
 unfolding RunsAreCovered
 runs_law task call status answers = λ held level annotation object names holds asked is.
     let done : Delivered (Coverage level annotation object names) Done call =
     subst (λ (s : Status). Because (Coverage level annotation object names) call s) is (subst (λ (t : Option Task). Answers t call status) asked answers) in
-    told_done held level annotation object names call holds done
+    λ bytes o there file runs are fair events of_events digests of_digests once.
+    let report = report_done held level annotation object names call holds done bytes o there file runs are fair in
+    let text = runs_told level o runs done.output.text report events of_events digests of_digests once in
+    subst (λ (text : List ℕ). WhereTold (Appends text) call.written call.written_after) text done.delivers.text

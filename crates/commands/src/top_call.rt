@@ -11,7 +11,7 @@ ghost use Rattle.commands.specs.Lines.{line_of};
 ghost use Rattle.commands.specs.Outcome.{call_of, PutsText, Delivers, Because, Answers};
 ghost use Rattle.commands.specs.Ready.{output_view};
 ghost use Rattle.commands.specs.RunsCovered.{RunsAreCovered};
-ghost use Rattle.commands.specs.ShownPairs.{ShownPairsOccurred};
+ghost use Rattle.commands.specs.ShownPairs.{LeastPairsAreShown};
 ghost use Rattle.commands.specs.Verdict.{name_at, name_of};
 
 use crate::ready::{Ready, prepare};
@@ -47,8 +47,9 @@ pub fn gnatcov<F: Files, S: Sink>(
     ensures runs { RunsAreCovered (task_of (map string_bytes words.now)) (call_of F.held F.reads_failed F.writes_failed S.written S.failures files.old files.new out.old out.new) result }
     ensures source { CoverageTellsTheSource (task_of (map string_bytes words.now)) (call_of F.held F.reads_failed F.writes_failed S.written S.failures files.old files.new out.old out.new) result }
 
-    // Each pair in that report is of two vectors that occurred in the program's own executions.
-    ensures pairs { ShownPairsOccurred (task_of (map string_bytes words.now)) (call_of F.held F.reads_failed F.writes_failed S.written S.failures files.old files.new out.old out.new) result }
+    // At a level that asks for pairs, that report ends in the least pairs of vectors that occurred in the
+    // program's own executions, one for each condition that has a pair.
+    ensures pairs { LeastPairsAreShown (task_of (map string_bytes words.now)) (call_of F.held F.reads_failed F.writes_failed S.written S.failures files.old files.new out.old out.new) result }
 
     // Legal programs compile, their runs end in time and never trap, and the traces of these are covered.
     ensures compiles { LegalSourcesCompile (task_of (map string_bytes words.now)) (call_of F.held F.reads_failed F.writes_failed S.written S.failures files.old files.new out.old out.new) result }

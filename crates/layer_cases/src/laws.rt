@@ -1,7 +1,10 @@
 //! The laws of the layers: functions that do nothing, each with a law as its contract. Each is called
 //! once.
 
-use annotated_report::{pairs_are_of_events, the_text_depends_on_the_set_of_events};
+use annotated_report::{
+    pairs_are_of_events, the_report_ends_in_all_least_pairs, the_text_depends_on_the_set_of_events,
+    verdicts_are_those_of_the_definitions,
+};
 use coverage_set::{
     own_traces_pass_all_checks, traces_of_runs_say_what_the_runs_tell, unions_have_their_laws,
 };
@@ -27,4 +30,6 @@ pub(crate) fn call_laws() {
     own_traces_pass_all_checks();
     the_text_depends_on_the_set_of_events();
     pairs_are_of_events();
+    the_report_ends_in_all_least_pairs();
+    verdicts_are_those_of_the_definitions();
 }

@@ -1,15 +1,17 @@
 -- The search answers the least pair.
-use Rattle.std.proofs.Common.{◌≡◌, ℕ, ◌<◌, ◌≤◌, ◌+◌, ◌-◌, ◌^◌, inl, inr, ◌||◌, Bool, true, false, not, ◌&&◌, List, [], ◌∷◌, Option, Some, None, refl, ap, subst, sym, ◌∙◌, arith, if◌then◌else◌}
-use Rattle.std.proofs.lemmas.Bool.Decides.{leb_tells}
+use Rattle.std.proofs.Common.{◌≡◌, ℕ, ◌<◌, ◌≤◌, ◌+◌, ◌-◌, ◌^◌, inl, inr, ◌||◌, Bool, true, false, not, ◌&&◌, List, [], ◌∷◌, Option, Some, None, refl, ap, subst, sym, ◌∙◌, arith, nat_lt, if◌then◌else◌}
+use Rattle.std.proofs.lemmas.Bool.{cond-false}
+use Rattle.std.proofs.lemmas.Bool.Decides.{leb_tells, nat_tests}
 use Rattle.cov_base.specs.declared.event.Vector.{Vector}
-use Rattle.decision_meaning.specs.Marks.{Marks, marks, precedes}
+use Rattle.decision_meaning.specs.Marks.{Marks, marks, bit, same, unmasked, precedes}
 use Rattle.decision_meaning.specs.Expr.{Expr, size}
 use Rattle.decision_meaning.specs.Graph.{graph}
 use Rattle.decision_meaning.specs.Path.{IsPathVector}
-use Rattle.decision_meaning.specs.Pair.{Pair, pair_precedes, Everywhere, Somewhere, IsPairOf, IsLeastPair}
-use Rattle.mcdc_verdicts.specs.Search.{widest, improves, lesser, best_with, best_of}
+use Rattle.decision_meaning.specs.Pair.{Pair, pair_precedes, is_unique_cause, is_masking, Everywhere, Somewhere, IsPairOf, IsLeastPair}
+use Rattle.decision_meaning.proofs.Pairs.{unique_masks}
+use Rattle.mcdc_verdicts.specs.Search.{widest, IsWord, improves, is_behind, lesser, best_with, best_of}
 use Rattle.mcdc_verdicts.proofs.Lists.{everywhere-map, everywhere-item, itself}
-use Rattle.mcdc_verdicts.proofs.Ordering.{pair-transitive, pair-irreflexive, narrowed, unseen_alike}
+use Rattle.mcdc_verdicts.proofs.Ordering.{key_from, by_keys, pair-transitive, pair-irreflexive, narrowed, unseen_alike}
 use Rattle.mcdc_verdicts.proofs.Marking.{unset_above}
 use Rattle.mcdc_verdicts.proofs.Causing.{IsUnseenFrom, path-unseen}
 
@@ -29,9 +31,9 @@ still false was now f h = refl
 still true was false f h = refl
 still true was true f h = sym (f refl) ∙ h
 
-of_both : (a b : Bool) → (a && b) ≡ true → a ≡ true
-of_both true b h = refl
-of_both false b h = h
+of_both : (a b : Bool) → (a && b) ≡ true → b ≡ true
+of_both true b h = h
+of_both false b h = cc
 
 beaten_by_choice : (test : Marks → Marks → Bool) (x y v w : Vector) (best : Option Pair) (b : Bool) →
     (b ≡ true → improves v w best ≡ true) → IsBeaten test best x y →
@@ -45,12 +47,12 @@ beaten_by_choice test x y v w best false sooner h = h
 beaten_by_lesser : (test : Marks → Marks → Bool) (x y v w : Vector) (best : Option Pair) →
     IsBeaten test best x y → IsBeaten test (lesser test v w best) x y
 beaten_by_lesser test x y v w best h =
-    beaten_by_choice test x y v w best (improves v w best && test (marks v) (marks w))
-    (of_both (improves v w best) (test (marks v) (marks w))) h
+    beaten_by_choice test x y v w best (test (marks v) (marks w) && improves v w best)
+    (of_both (test (marks v) (marks w)) (improves v w best)) h
 
 -- and the pair that is met is beaten
 beaten_choice : (v w : Vector) (best : Option Pair) (t i : Bool) → improves v w best ≡ i →
-    (t && improves v w (if i && t then Some (record { first = v; second = w }) else best)) ≡ false
+    (t && improves v w (if t && i then Some (record { first = v; second = w }) else best)) ≡ false
 beaten_choice v w best false i e = refl
 beaten_choice v w best true false e = e
 beaten_choice v w best true true e = pair-irreflexive widest (marks v) (marks w)
@@ -96,10 +98,10 @@ IsFrom test vectors (Some p) = IsPairOf test vectors p
 from_choice : (test : Marks → Marks → Bool) (vectors : List Vector) (v w : Vector) (best : Option Pair) (b t : Bool) →
     t ≡ test (marks v) (marks w) →
     Somewhere (λ x. x ≡ v) vectors → Somewhere (λ x. x ≡ w) vectors → IsFrom test vectors best →
-    IsFrom test vectors (if b && t then Some (record { first = v; second = w }) else best)
+    IsFrom test vectors (if t && b then Some (record { first = v; second = w }) else best)
 from_choice test vectors v w best true true e hv hw h = record { has_first = hv; has_second = hw; passes = sym e }
-from_choice test vectors v w best true false e hv hw h = h
-from_choice test vectors v w best false t e hv hw h = h
+from_choice test vectors v w best false true e hv hw h = h
+from_choice test vectors v w best b false e hv hw h = h
 
 row_from : (test : Marks → Marks → Bool) (vectors : List Vector) (v : Vector) (ws : List Vector) (best : Option Pair) →
     Somewhere (λ x. x ≡ v) vectors → Everywhere (λ w. Somewhere (λ x. x ≡ w) vectors) ws →
@@ -134,10 +136,6 @@ best_is_least test vectors =
     found test vectors (best_of test vectors vectors None)
     (all_from test vectors vectors vectors None (itself vectors) (itself vectors) tt)
     (all_beat test vectors vectors None)
-
--- a vector's words are of 32 bits
-abbrev pub IsWord : Vector → Type 0
-IsWord v = v.seen < 2 ^ 32
 
 -- over vectors with no mark from n on, the order of all bits is that of n conditions
 same_order : (n : ℕ) (v w : Vector) → IsUnseenFrom n v → IsUnseenFrom n w → IsWord v → IsWord w →
@@ -180,7 +178,7 @@ everywhere_both P Q R (x ∷ xs) ys hx hy f h = (row ys hy h.0, everywhere_both 
     row (y ∷ ys) hy h = (f x y hx.0 hy.0 h.0, row ys hy.1 h.1)
 
 -- so the least pair by all bits is the least pair by n conditions
-narrow : (n : ℕ) (test : Marks → Marks → Bool) (vectors : List Vector) (answer : Option Pair) → Everywhere (IsNarrow n) vectors →
+pub narrow : (n : ℕ) (test : Marks → Marks → Bool) (vectors : List Vector) (answer : Option Pair) → Everywhere (IsNarrow n) vectors →
     IsLeastPair widest test vectors answer → IsLeastPair n test vectors answer
 narrow n test vectors None all least = least
 narrow n test vectors (Some p) all least =
@@ -195,7 +193,7 @@ narrow n test vectors (Some p) all least =
           least.1,
     )
 
-narrow_vectors : (e : Expr) (vectors : List Vector) → Everywhere (IsPathVector (graph e)) vectors → Everywhere IsWord vectors →
+pub narrow_vectors : (e : Expr) (vectors : List Vector) → Everywhere (IsPathVector (graph e)) vectors → Everywhere IsWord vectors →
     Everywhere (IsNarrow (size e)) vectors
 narrow_vectors e [] paths words = tt
 narrow_vectors e (v ∷ vs) paths words = ((path-unseen e v paths.0, words.0), narrow_vectors e vs paths.1 words.1)
@@ -205,3 +203,85 @@ pub search_finds : (e : Expr) (test : Marks → Marks → Bool) (vectors : List 
     Everywhere IsWord vectors → IsLeastPair (size e) test vectors (best_of test vectors vectors None)
 search_finds e test vectors paths words =
     narrow (size e) test vectors (best_of test vectors vectors None) (narrow_vectors e vectors paths words) (best_is_least test vectors)
+
+-- ---- vectors that need not be tried
+
+-- a row without a better pair leaves the best one
+idle_row : (test : Marks → Marks → Bool) (v : Vector) (ws : List Vector) (best : Option Pair) →
+    Everywhere (λ w. IsBeaten test best v w) ws → best_with test v ws best ≡ best
+idle_row test v [] best none = refl
+idle_row test v (w ∷ ws) best none =
+    ap (λ (b : Option Pair). best_with test v ws b) (cond-false _ (Some (record { first = v; second = w })) best none.0)
+    ∙ idle_row test v ws best none.1
+
+never_both_ways : (a b : ℕ) → nat_lt a b ≡ true → nat_lt b a ≡ false
+never_both_ways a b h = grind (arith, nat_tests)
+
+-- vectors don't come before one another both ways round
+pub one_way : (v w : Marks) → precedes widest v w ≡ true → precedes widest w v ≡ false
+one_way v w h =
+    by_keys 0 widest w v
+    ∙ never_both_ways (key_from 0 widest v) (key_from 0 widest w) (sym (by_keys 0 widest v w) ∙ h)
+
+neither_part : (a b c : Bool) → a ≡ false → b ≡ true → (a || not b && c) ≡ false
+neither_part a b c h l =
+    ap (λ x. x || not b && c) h ∙ ap (λ x. not x && c) l
+
+behind_beaten : (test : Marks → Marks → Bool) (v w : Vector) (best : Option Pair) → is_behind v best ≡ true → IsBeaten test best v w
+behind_beaten test v w None h = cc
+behind_beaten test v w (Some p) h =
+    no_part (test (marks v) (marks w)) (improves v w (Some p))
+    (neither_part (precedes widest (marks v) (marks p.first)) (precedes widest (marks p.first) (marks v))
+    (precedes widest (marks w) (marks p.second)) (one_way (marks p.first) (marks v) h) h)
+  where
+    no_part : (t i : Bool) → i ≡ false → (t && i) ≡ false
+    no_part true i e = e
+    no_part false i e = refl
+
+each_of : (P : Vector → Type 0) → ((w : Vector) → P w) → (ws : List Vector) → Everywhere P ws
+each_of P all [] = tt
+each_of P all (w ∷ ws) = (all w, each_of P all ws)
+
+pub behind_row : (test : Marks → Marks → Bool) (v : Vector) (ws : List Vector) (best : Option Pair) →
+    is_behind v best ≡ true → best ≡ best_with test v ws best
+behind_row test v ws best h = sym (idle_row test v ws best (each_of (λ w. IsBeaten test best v w) (λ w. behind_beaten test v w best h) ws))
+
+refuted : (t : Bool) → (t ≡ true → ⊥) → t ≡ false
+refuted true f = absurd (f refl)
+refuted false f = refl
+
+differ : (b : Bool) → b ≡ true → b ≡ false → ⊥
+differ b is is_not = let h = sym is ∙ is_not in cc
+
+first_part : (a b c : Bool) → (a && b && c) ≡ true → a ≡ true
+first_part true b c h = refl
+first_part false b c h = h
+
+-- a vector in which the condition is masked is in no unique-cause pair
+masked_no_cause : (e : Expr) (c : ℕ) (v w : Vector) → IsPathVector (graph e) v → IsPathVector (graph e) w → unmasked e (marks v) c ≡ false
+    → is_unique_cause e c (marks v) (marks w) ≡ false
+masked_no_cause e c v w path_v path_w masked =
+    refuted (is_unique_cause e c (marks v) (marks w))
+    (λ cause. differ (unmasked e (marks v) c)
+    (first_part (unmasked e (marks v) c) (unmasked e (marks w) c) (not (same (bit v.value c) (bit w.value c))) (unique_masks e c v w path_v path_w cause))
+    masked)
+
+pub masked_row : (e : Expr) (c : ℕ) (v : Vector) (ws : List Vector) (best : Option Pair) → IsPathVector (graph e) v → Everywhere (IsPathVector (graph e)) ws →
+    unmasked e (marks v) c ≡ false → best ≡ best_with (is_unique_cause e c) v ws best
+masked_row e c v ws best path_v paths masked =
+    sym (idle_row (is_unique_cause e c) v ws best
+    (everywhere-map (IsPathVector (graph e)) (λ w. IsBeaten (is_unique_cause e c) best v w)
+    (λ w path_w. no_part (is_unique_cause e c (marks v) (marks w)) (improves v w best) (masked_no_cause e c v w path_v path_w masked)) ws paths))
+  where
+    no_part : (t i : Bool) → t ≡ false → (t && i) ≡ false
+    no_part true i h = cc
+    no_part false i h = refl
+
+-- where there is no masking pair, there is no unique-cause pair
+pub no_cause_pair : (e : Expr) (c : ℕ) (vectors : List Vector) → Everywhere (IsPathVector (graph e)) vectors →
+    IsLeastPair (size e) (is_masking e c) vectors None → IsLeastPair (size e) (is_unique_cause e c) vectors None
+no_cause_pair e c vectors paths none =
+    everywhere_both (IsPathVector (graph e)) (λ v w. is_masking e c (marks v) (marks w) ≡ false) (λ v w. is_unique_cause e c (marks v) (marks w) ≡ false)
+    vectors vectors paths paths
+    (λ v w path_v path_w fails. refuted (is_unique_cause e c (marks v) (marks w))
+    (λ cause. differ (is_masking e c (marks v) (marks w)) (unique_masks e c v w path_v path_w cause) fails)) none

@@ -1,11 +1,13 @@
 //! The order of vectors, and their bits.
 
 ghost use Rattle.std.specs.Prelude.{◌≡◌, ◌↔◌, ℕ, nat_eq, not, IsTrue};
+ghost use Rattle.std.specs.Ordering.{is_lt, is_gt};
 ghost use Rattle.decision_meaning.specs.Marks.{bit, marks, rank, precedes};
 ghost use Rattle.decision_meaning.specs.Pair.{turns};
 ghost use Rattle.mcdc_verdicts.specs.Search.{widest};
 
 use cov_base::{CondIx, Vector};
+use std::cmp::Ordering;
 
 /// Whether the bit of a condition is set.
 pub(crate) fn has(word: u32, c: CondIx) -> bool
@@ -59,5 +61,20 @@ pub(crate) fn precedes(v: Vector, w: Vector) -> bool
         // The first mark that differs decides.
         let first = CondIx(differing.trailing_zeros() as u8);
         rank(v, first) < rank(w, first)
+    }
+}
+
+/// How two vectors compare in the order of vectors: condition by condition, F before T before a
+/// condition that was not evaluated.
+pub fn compare(v: Vector, w: Vector) -> Ordering
+    ensures less { is_lt result ≡ precedes widest (marks v) (marks w) }
+    ensures greater { is_gt result ≡ precedes widest (marks w) (marks v) }
+{
+    if precedes(v, w) {
+        Ordering::Less
+    } else if precedes(w, v) {
+        Ordering::Greater
+    } else {
+        Ordering::Equal
     }
 }

@@ -36,7 +36,7 @@ pub returns-clause-source : goal.returns-clause-source
 returns-clause-source g c = headline_law _ _ _ c.answer.ensures
 
 pub returns-clause-pairs : goal.returns-clause-pairs
-returns-clause-pairs g c = pairs_law _ _ _
+returns-clause-pairs g c = pairs_law _ _ _ c.answer.ensures
 
 pub returns-clause-compiles : goal.returns-clause-compiles
 returns-clause-compiles g c = compile_law _ _ _ c.answer.ensures

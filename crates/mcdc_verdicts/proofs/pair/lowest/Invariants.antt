@@ -3,16 +3,14 @@ use Rattle.decision_meaning.specs.Expr.{Expr}
 use Rattle.decision_meaning.specs.Graph.{graph}
 use Rattle.decision_meaning.specs.Pair.{Everywhere}
 use Rattle.decision_meaning.specs.Path.{IsPathVector}
-use Rattle.mcdc_verdicts.specs.Search.{test_of, best_of}
-use Rattle.mcdc_verdicts.specs.View.{pair_view}
-use Rattle.mcdc_verdicts.proofs.Searching.{IsWord}
-use Rattle.mcdc_verdicts.proofs.pair.least_pair.Given as goal
+use Rattle.mcdc_verdicts.specs.Search.{IsWord, shows, lowest}
+use Rattle.mcdc_verdicts.proofs.pair.lowest.Given as goal
 
--- the vectors that are left make of the best pair so far what all of them make of none
+-- the vectors that are left make of the least one so far what all of them make of none
 abbrev pub invariant-loop-v : goal.invariant-loop-v
 invariant-loop-v l =
     Everywhere (IsPathVector l.dec) (drop l.v-index l.vectors)
     × ((e : Expr) → l.dec ≡ graph e →
-    best_of (test_of l.kind e l.c.0) (drop l.v-index l.vectors) l.vectors (pair_view l.best)
-    ≡ best_of (test_of l.fn.kind e l.fn.c.0) l.fn.vectors l.fn.vectors None)
+    lowest (shows e l.c.0 l.value) (drop l.v-index l.vectors) l.least
+    ≡ lowest (shows e l.fn.c.0 l.fn.value) l.fn.vectors None)
     × (Everywhere IsWord (drop l.v-index l.vectors) → Everywhere IsWord l.fn.vectors)

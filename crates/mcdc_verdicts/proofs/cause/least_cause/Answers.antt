@@ -1,16 +1,16 @@
 use Rattle.std.proofs.Common.{◌≡◌, [], None, drop, sym, ap, subst, ◌∙◌}
 use Rattle.std.proofs.lemmas.List.{drop_all}
 use Rattle.decision_meaning.specs.Expr.{size}
-use Rattle.decision_meaning.specs.Pair.{Everywhere, IsLeastPair}
+use Rattle.decision_meaning.specs.Pair.{Everywhere, IsLeastPair, is_unique_cause}
 use Rattle.decision_meaning.specs.Path.{IsPathVector}
-use Rattle.mcdc_verdicts.specs.Search.{test_of, best_of}
+use Rattle.mcdc_verdicts.specs.Search.{IsWord, best_of}
 use Rattle.mcdc_verdicts.specs.View.{pair_view}
-use Rattle.mcdc_verdicts.proofs.Searching.{IsWord, search_finds}
-use Rattle.mcdc_verdicts.proofs.pair.least_pair.Goals as goal
+use Rattle.mcdc_verdicts.proofs.Searching.{search_finds}
+use Rattle.mcdc_verdicts.proofs.cause.least_cause.Goals as goal
 
 pub returns : goal.returns
 returns c = λ e is.
-    let test = test_of c.args.kind e c.args.c.0 in
+    let test = is_unique_cause e c.args.c.0 in
     let vectors = c.args.vectors.now in
     let none : drop c.loop-v.v-index vectors ≡ [] = drop_all c.loop-v.v-index vectors c.loop-v-test.false in
     let words : Everywhere IsWord vectors = c.loop-v.invariant.2 (subst (λ vs. Everywhere IsWord vs) (sym none) tt) in

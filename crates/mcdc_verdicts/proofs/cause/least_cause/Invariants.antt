@@ -1,0 +1,17 @@
+use Rattle.std.proofs.Common.{◌≡◌, drop, None}
+use Rattle.decision_meaning.specs.Expr.{Expr}
+use Rattle.decision_meaning.specs.Graph.{graph}
+use Rattle.decision_meaning.specs.Pair.{Everywhere, is_unique_cause}
+use Rattle.decision_meaning.specs.Path.{IsPathVector}
+use Rattle.mcdc_verdicts.specs.Search.{IsWord, best_of}
+use Rattle.mcdc_verdicts.specs.View.{pair_view}
+use Rattle.mcdc_verdicts.proofs.cause.least_cause.Given as goal
+
+-- the vectors that are left make of the best pair so far what all of them make of none
+abbrev pub invariant-loop-v : goal.invariant-loop-v
+invariant-loop-v l =
+    Everywhere (IsPathVector l.dec) (drop l.v-index l.vectors)
+    × ((e : Expr) → l.dec ≡ graph e →
+    best_of (is_unique_cause e l.c.0) (drop l.v-index l.vectors) l.vectors (pair_view l.best)
+    ≡ best_of (is_unique_cause e l.fn.c.0) l.fn.vectors l.fn.vectors None)
+    × (Everywhere IsWord (drop l.v-index l.vectors) → Everywhere IsWord l.fn.vectors)
