@@ -1,16 +1,16 @@
 //! `compile --main=MAIN -o OBJECT SOURCE`
 
 ghost use Rattle.std.specs.Prelude.{◌≡◌, map, string_bytes, IfOk};
-ghost use Rattle.clap.specs.Words.{app_of};
+ghost use Rattle.clap.specs.Words.{app_of, found_of, rows_of};
 ghost use Rattle.command_words.specs.Gives.{Gives};
 ghost use Rattle.command_words.specs.Lines.{compile_app};
-ghost use Rattle.command_words.specs.Task.{IsWithinLimits, compile_of};
+ghost use Rattle.command_words.specs.Task.{IsWithinLimits, compile_from, compile_of};
 ghost use Rattle.command_words.specs.Command.{task_view};
 
 use crate::command::{Command, Usage};
 use crate::limits::is_short;
 use crate::matches::{read, text};
-use clap::Arg;
+use clap::{Arg, ArgMatches};
 use cov_base::Failure;
 use std::alloc::{AllocError, Global};
 
@@ -21,9 +21,17 @@ pub fn compile<'a>(alloc: Global, words: &'a [String]) -> Result<Command<'a>, Fa
     ensures limits { IfOk result (λ command. IsWithinLimits (task_view command)) }
 {
     let matches = read(compile_line(alloc)?, words)?;
-    let main = text(&matches, "main")?;
-    let object = text(&matches, "object")?;
-    let source = text(&matches, "source")?;
+    compile_from(&matches)
+}
+
+/// The command of what was found in its words.
+fn compile_from<'a>(matches: &ArgMatches<'a>) -> Result<Command<'a>, Failure<Usage>>
+    ensures command { Gives task_view (compile_from (rows_of (found_of matches.now))) result }
+    ensures limits { IfOk result (λ command. IsWithinLimits (task_view command)) }
+{
+    let main = text(matches, "main")?;
+    let object = text(matches, "object")?;
+    let source = text(matches, "source")?;
     // A name is a word or the end of one. It is tested once more by itself, so that the limit is known
     // of the command without a look into how the words were read.
     if !is_short(source) {

@@ -1,16 +1,16 @@
 //! `coverage --level=LEVEL --annotate=ANNOTATE --object=OBJECT [TRACE...]`
 
 ghost use Rattle.std.specs.Prelude.{◌≡◌, map, string_bytes, IfOk};
-ghost use Rattle.clap.specs.Words.{app_of};
+ghost use Rattle.clap.specs.Words.{app_of, found_of, rows_of};
 ghost use Rattle.command_words.specs.Gives.{Gives};
 ghost use Rattle.command_words.specs.Lines.{coverage_app};
-ghost use Rattle.command_words.specs.Task.{IsWithinLimits, annotation_named, coverage_of, level_named};
+ghost use Rattle.command_words.specs.Task.{IsWithinLimits, annotation_named, coverage_from, coverage_of, level_named};
 ghost use Rattle.command_words.specs.Command.{task_view};
 
 use crate::command::{Command, Usage};
 use crate::limits::are_few;
 use crate::matches::{read, text, texts};
-use clap::{Arg, ArgAction};
+use clap::{Arg, ArgAction, ArgMatches};
 use cov_base::{Annotation, Failure, Level};
 use std::alloc::{AllocError, Global};
 
@@ -21,10 +21,18 @@ pub fn coverage<'a>(alloc: Global, words: &'a [String]) -> Result<Command<'a>, F
     ensures limits { IfOk result (λ command. IsWithinLimits (task_view command)) }
 {
     let matches = read(coverage_line(alloc)?, words)?;
-    let level = level_named(text(&matches, "level")?)?;
-    let annotate = annotation_named(text(&matches, "annotate")?)?;
-    let object = text(&matches, "object")?;
-    let traces = texts(alloc, &matches, "trace")?;
+    coverage_from(alloc, &matches)
+}
+
+/// The command of what was found in its words.
+fn coverage_from<'a>(alloc: Global, matches: &ArgMatches<'a>) -> Result<Command<'a>, Failure<Usage>>
+    ensures command { Gives task_view (coverage_from (rows_of (found_of matches.now))) result }
+    ensures limits { IfOk result (λ command. IsWithinLimits (task_view command)) }
+{
+    let level = level_named(text(matches, "level")?)?;
+    let annotate = annotation_named(text(matches, "annotate")?)?;
+    let object = text(matches, "object")?;
+    let traces = texts(alloc, matches, "trace")?;
     if !are_few(traces.as_slice()) {
         return Err(Failure::Fault(Usage));
     }

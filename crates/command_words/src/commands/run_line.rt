@@ -1,15 +1,15 @@
 //! `run --input=INPUT [--budget=BUDGET] -o TRACE OBJECT`
 
 ghost use Rattle.std.specs.Prelude.{◌≡◌, map, string_bytes, IfOk};
-ghost use Rattle.clap.specs.Words.{app_of};
+ghost use Rattle.clap.specs.Words.{app_of, found_of, rows_of};
 ghost use Rattle.command_words.specs.Gives.{Gives};
 ghost use Rattle.command_words.specs.Lines.{run_app};
-ghost use Rattle.command_words.specs.Task.{IsWithinLimits, run_of};
+ghost use Rattle.command_words.specs.Task.{IsWithinLimits, run_from, run_of};
 ghost use Rattle.command_words.specs.Command.{task_view};
 
 use crate::command::{Command, Usage};
 use crate::matches::{number, read, text};
-use clap::Arg;
+use clap::{Arg, ArgMatches};
 use cov_base::Failure;
 use std::alloc::{AllocError, Global};
 
@@ -23,10 +23,18 @@ pub fn run<'a>(alloc: Global, words: &'a [String]) -> Result<Command<'a>, Failur
     ensures limits { IfOk result (λ command. IsWithinLimits (task_view command)) }
 {
     let matches = read(run_line(alloc)?, words)?;
-    let input = text(&matches, "input")?;
-    let budget = number(&matches, "budget")?;
-    let trace = text(&matches, "trace")?;
-    let object = text(&matches, "object")?;
+    run_from(&matches)
+}
+
+/// The command of what was found in its words.
+fn run_from<'a>(matches: &ArgMatches<'a>) -> Result<Command<'a>, Failure<Usage>>
+    ensures command { Gives task_view (run_from (rows_of (found_of matches.now))) result }
+    ensures limits { IfOk result (λ command. IsWithinLimits (task_view command)) }
+{
+    let input = text(matches, "input")?;
+    let budget = number(matches, "budget")?;
+    let trace = text(matches, "trace")?;
+    let object = text(matches, "object")?;
     // The line takes no smaller number. It is tested once more by itself, so that the limit is known of
     // the command without a look into how the words were read.
     if budget < LEAST_BUDGET {
