@@ -77,7 +77,8 @@ impl<'a> Recorder<'a> {
 impl Recorder<'_> {
     /// Sees an executed instruction: where it stands, the edge that it took if it is a conditional
     /// branch, and the frame pointer before it. Memory is taken only for a branch that needs a
-    /// history.
+    /// history. It is done at each step, so a call would be dear.
+    #[inline(always)]
     pub fn see(&mut self, pc: u32, edge: Option<bool>, x8: u32) -> Result<(), AllocError>
         // Of a transcript that the instruction goes on, the recorder then records the longer one.
         ensures recorded { OnOk result ((ss : List Seen) → Records self.old ss
