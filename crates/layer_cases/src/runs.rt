@@ -8,7 +8,6 @@
 
 ghost use Rattle.std.specs.Prelude.{◌≡◌, IfOk};
 ghost use Rattle.object_format.specs.Checked.{IsSound};
-ghost use Rattle.trace_format.specs.Checks.{IsClosed};
 
 use crate::blobs::Blobs;
 use crate::fault::{Answer, CaseFault};
@@ -49,9 +48,7 @@ pub(crate) fn trace(out: &mut String, bytes: &[u8]) -> Answer {
 }
 
 /// A view of a trace file.
-fn view_of(bytes: &[u8]) -> Result<TraceView<'_>, Failure<CaseFault>>
-    ensures { IfOk result IsClosed }
-{
+fn view_of(bytes: &[u8]) -> Result<TraceView<'_>, Failure<CaseFault>> {
     match TraceView::view(bytes) {
         Ok(view) => Ok(view),
         Err(fault) => Err(Failure::Fault(CaseFault::Trace(fault))),
@@ -78,7 +75,6 @@ fn offer(
 ) -> Result<(), Failure<CaseFault>>
     requires sound { IsSound map.now }
     requires object { map.now ≡ coverage.old.object }
-    requires closed { IsClosed view.now }
     ensures { coverage.new.object ≡ coverage.old.object }
 {
     match map.fit(view) {
@@ -146,7 +142,7 @@ pub(crate) fn events(alloc: Global, blobs: &Blobs, out: &mut String, words: &str
     let object = object_of(alloc, blobs.named(name)?)?;
     let coverage = covered_by_all(alloc, blobs, &object, names)?;
     writeln!(out, "{} runs", coverage.runs())?;
-    for event in &coverage.events(alloc)? {
+    for event in &coverage.events()? {
         add_event(out, *event)?;
     }
     Ok(())
