@@ -1,5 +1,5 @@
 /* A plain interpreter of RV32I words: the loop of loop_object.py in C, to compare the time with. It
-   decodes each word anew, as gnatcov's machine does, and records nothing. */
+   decodes each word anew, and records nothing. */
 #include <stdint.h>
 #include <stdio.h>
 #include <stdlib.h>

@@ -1,13 +1,14 @@
-"""Writes the object file of a loop without a conditional branch.
+"""Writes a loop without a conditional branch, as an object file, and as an ELF file for qemu.
 
 The loop counts a register down, adds to a word in memory, and jumps by JALR to its begin, or behind
-it when the count is 0: ten instructions a turn. The object is of the format in docs/FORMATS.md.
+it when the count is 0: ten instructions a turn. The object is of the format in docs/FORMATS.md. The
+ELF file has the same loop, and ends by the system call `exit` of Linux.
 """
 import hashlib
 import struct
 import sys
 
-TURNS = 1_000_000
+TURNS = 9_999_000
 TEXT_START = 0x10000
 DATA_START = 0x1000000
 
@@ -50,9 +51,11 @@ def jalr(rd, rs1, offset):
 
 
 ECALL = 0x73
+CALL_END = 3
+CALL_EXIT = 93
 
 
-def words():
+def words(call):
     start = [
         lui(5, TURNS >> 12),
         addi(5, 5, TURNS & 0xFFF),
@@ -74,7 +77,7 @@ def words():
     ]
     # When the count is 0 the jump goes 64 bytes behind the loop's begin.
     padding = [addi(0, 0, 0)] * (16 - len(loop))
-    end = [addi(10, 0, 0), addi(17, 0, 3), ECALL]
+    end = [addi(10, 0, 0), addi(17, 0, call), ECALL]
     return start + loop + padding + end
 
 
@@ -90,12 +93,12 @@ def listed(entries):
     return number(len(entries)) + b"".join(entries)
 
 
-def file():
+def object_file():
     names = [b"constraint_error", b"program_error", b"storage_error", b"test_io.end_error"]
     parts = [
         b"GCOB" + number(1),
         number(TEXT_START),
-        listed([number(word) for word in words()]),
+        listed([number(word) for word in words(CALL_END)]),
         number(DATA_START) + listed([]),
         listed([text(b"loop.adb") + bytes(32)]),
         listed([text(b"") + number(0) * 3]),
@@ -110,6 +113,24 @@ def file():
     return content + hashlib.sha256(content).digest()
 
 
+def elf_file():
+    """The text in one segment, and a page of zeros for the data in another."""
+    text = b"".join(number(word) for word in words(CALL_EXIT))
+    header, entry, page = 52, 32, 0x1000
+    load, execute, write, read = 1, 1, 2, 4
+    ident = b"\x7fELF" + bytes([1, 1, 1]) + bytes(9)
+    executable, riscv = 2, 243
+    fields = (executable, riscv, 1, TEXT_START, header, 0, 0, header, entry, 2, 0, 0, 0)
+    parts = [
+        ident + struct.pack("<HHIIIIIHHHHHH", *fields),
+        struct.pack("<8I", load, page, TEXT_START, TEXT_START, len(text), len(text), read | execute, page),
+        struct.pack("<8I", load, 0, DATA_START, DATA_START, 0, page, read | write, page),
+    ]
+    head = b"".join(parts)
+    return head + bytes(page - len(head)) + text
+
+
 if __name__ == "__main__":
-    with open(sys.argv[1], "wb") as out:
-        out.write(file())
+    for name, content in zip(sys.argv[1:], (object_file(), elf_file())):
+        with open(name, "wb") as out:
+            out.write(content)

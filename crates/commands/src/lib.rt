@@ -18,7 +18,7 @@ mod top_call;
 pub use compiler::Why;
 pub use decision_map::FitFault;
 pub use object_format::ObjectFault;
-pub use rv_semantics::TrapWhy;
+pub use rv_machine::TrapWhy;
 pub use status::{FileRef, Status, TraceWhy};
 pub use top_call::gnatcov;
 pub use trace_format::TraceFault;

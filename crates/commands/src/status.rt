@@ -8,7 +8,7 @@ ghost use Rattle.commands.specs.TraceWords.{address_text, trace_text, place_text
 use compiler::Why;
 use decision_map::FitFault;
 use object_format::ObjectFault;
-use rv_semantics::TrapWhy;
+use rv_machine::TrapWhy;
 use std::alloc::{AllocError, Global};
 use trace_format::TraceFault;
 use vector_rebuild::BrokenHistory;

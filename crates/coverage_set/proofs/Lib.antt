@@ -1,4 +1,5 @@
 pub mod Members
+pub mod Merged
 pub mod Replayed
 pub mod Starts
 pub mod SaidLaw

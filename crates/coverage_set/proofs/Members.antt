@@ -29,17 +29,78 @@ contains_of (y ∷ xs) x some = elim some [
   | inr later ↦ let rest = contains_of xs x later in (suc rest.0, omega (arith, rest.1), rest.2)
 ]
 
--- what is left of a permutation of two lists, once each item stands once, is what stands in one of them
-pub kept_members : {X : Type 0} (E : X → X → Bool) → IsEquivalence E → ((x y : X) → E x y ≡ true → x ≡ y)
-    → (a b sorted : List X) → IsPermutation (a ++ b) sorted
-    → (x : X) → Somewhere (λ y. y ≡ x) (dedup E sorted) ↔ (Somewhere (λ y. y ≡ x) a ⊎ Somewhere (λ y. y ≡ x) b)
-kept_members E laws exact a b sorted same x = (
-  λ some. in_append (λ y. y ≡ x) a b
-      (somewhere_of (a ++ b) x (Contains-permutation sorted (a ++ b) x (IsPermutation-sym (a ++ b) sorted same) (Contains-from_dedup E sorted x (contains_of (dedup E sorted) x some)))),
-  λ some.
-      let there : Somewhere (λ y. y ≡ x) (a ++ b) = elim some [ inl one ↦ in_left (λ y. y ≡ x) a b one | inr other ↦ in_right (λ y. y ≡ x) a b other ] in
-      somewhere_of (dedup E sorted) x (Contains-dedup laws exact sorted x (Contains-permutation (a ++ b) sorted x same (contains_of (a ++ b) x there))),
+-- what stands in a list behind which others were put
+pub of_append : {X : Type 0} (old more new : List X) → new ≡ old ++ more
+    → (x : X) → Somewhere (λ y. y ≡ x) new ↔ (Somewhere (λ y. y ≡ x) old ⊎ Somewhere (λ y. y ≡ x) more)
+of_append old more new is x = rw is (
+  λ some. in_append (λ y. y ≡ x) old more some,
+  λ some. elim some [ inl one ↦ in_left (λ y. y ≡ x) old more one | inr other ↦ in_right (λ y. y ≡ x) old more other ],
 )
+
+pub of_push : {X : Type 0} (old kept new : List X) (item : X) → new ≡ kept ++ item ∷ []
+    → ((x : X) → Somewhere (λ y. y ≡ x) kept ↔ Somewhere (λ y. y ≡ x) old)
+    → (x : X) → Somewhere (λ y. y ≡ x) new ↔ (Somewhere (λ y. y ≡ x) old ⊎ (item ≡ x))
+of_push old kept new item is same x =
+    let both = of_append kept (item ∷ []) new is x in (
+      λ some. elim (both.0 some) [
+        | inl early ↦ inl ((same x).0 early)
+        | inr late ↦ elim late [ inl here ↦ inr here | inr none ↦ absurd none ]
+      ],
+      λ some. both.1 (elim some [ inl early ↦ inl ((same x).1 early) | inr here ↦ inr (inl here) ]),
+    )
+
+-- a union with what is said otherwise
+pub in_either : (A B C D : Type 0) → (C ↔ (A ⊎ B)) → (B ↔ D) → C ↔ (A ⊎ D)
+in_either A B C D union same = (
+  λ c. elim (union.0 c) [ inl a ↦ inl a | inr b ↦ inr (same.0 b) ],
+  λ either. union.1 (elim either [ inl a ↦ inl a | inr d ↦ inr (same.1 d) ]),
+)
+
+-- a union with a set of one item
+pub in_one_more : {X : Type 0} (old one new : List X) (item x : X) → one ≡ item ∷ []
+    → (Somewhere (λ y. y ≡ x) new ↔ (Somewhere (λ y. y ≡ x) old ⊎ Somewhere (λ y. y ≡ x) one))
+    → Somewhere (λ y. y ≡ x) new ↔ (Somewhere (λ y. y ≡ x) old ⊎ (item ≡ x))
+in_one_more old one new item x is union =
+    in_either (Somewhere (λ y. y ≡ x) old) (Somewhere (λ y. y ≡ x) one) (Somewhere (λ y. y ≡ x) new) (item ≡ x) union
+    (rw is (λ some. elim some [ inl here ↦ here | inr none ↦ absurd none ], λ here. inl here))
+
+-- once each item of a list stands once, what stands in it is as before
+pub kept_all : {X : Type 0} (E : X → X → Bool) → IsEquivalence E → ((x y : X) → E x y ≡ true → x ≡ y)
+    → (list sorted : List X) → IsPermutation list sorted
+    → (x : X) → Somewhere (λ y. y ≡ x) (dedup E sorted) ↔ Somewhere (λ y. y ≡ x) list
+kept_all E laws exact list sorted same x = (
+  λ some. somewhere_of list x
+      (Contains-permutation sorted list x (IsPermutation-sym list sorted same) (Contains-from_dedup E sorted x (contains_of (dedup E sorted) x some))),
+  λ some. somewhere_of (dedup E sorted) x (Contains-dedup laws exact sorted x (Contains-permutation list sorted x same (contains_of list x some))),
+)
+
+-- what was gathered of three lists, one after another
+pub all_gathered : {X : Type 0} (P : X → Type 0) (done flagged starts first second third set : List X)
+    → ((x : X) → Somewhere (λ y. y ≡ x) first ↔ Somewhere (λ y. y ≡ x) done)
+    → ((x : X) → Somewhere (λ y. y ≡ x) second ↔ (Somewhere (λ y. y ≡ x) first ⊎ Somewhere (λ y. y ≡ x) flagged))
+    → ((x : X) → Somewhere (λ y. y ≡ x) third ↔ (Somewhere (λ y. y ≡ x) second ⊎ Somewhere (λ y. y ≡ x) starts))
+    → ((x : X) → Somewhere (λ y. y ≡ x) set ↔ Somewhere (λ y. y ≡ x) third)
+    → ((x : X) → Somewhere (λ y. y ≡ x) ((done ++ flagged) ++ starts) ↔ P x)
+    → (x : X) → Somewhere (λ y. y ≡ x) set ↔ P x
+all_gathered {X = X} P done flagged starts first second third set has_done has_flagged has_starts is_set says x = (
+  λ some. (says x).0 (elim ((has_starts x).0 ((is_set x).0 some)) [
+    | inl early ↦ in_left is (done ++ flagged) starts (elim ((has_flagged x).0 early) [
+      | inl earlier ↦ in_left is done flagged ((has_done x).0 earlier)
+      | inr flag ↦ in_right is done flagged flag
+    ])
+    | inr start ↦ in_right is (done ++ flagged) starts start
+  ]),
+  λ told. (is_set x).1 ((has_starts x).1 (elim (in_append is (done ++ flagged) starts ((says x).1 told)) [
+    | inl early ↦ inl ((has_flagged x).1 (elim (in_append is done flagged early) [
+      | inl earlier ↦ inl ((has_done x).1 earlier)
+      | inr flag ↦ inr flag
+    ]))
+    | inr start ↦ inr start
+  ])),
+)
+  where
+    is : X → Type 0
+    is y = y ≡ x
 
 -- an order that finds two values equal
 pub equal_by : {X : Type 0} (R : X → X → Ordering) (x y : X) → eq_by_cmp R x y ≡ true → R x y ≡ Equal

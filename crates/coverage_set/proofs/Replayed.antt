@@ -1,5 +1,5 @@
 -- A history that is replayed entry by entry.
-use Rattle.std.proofs.Common.{◌≡◌, ℕ, suc, zero, ◌+◌, Bool, true, false, not, ◌==◌, take-append-drop, List, [], ◌∷◌, ◌++◌, map, length, take, drop, slice_get, option_map, option_to_list, Option, Some, None, refl, sym, ap, subst, ◌∙◌, append_assoc, append-nil, arith}
+use Rattle.std.proofs.Common.{◌≡◌, ◌↔◌, ◌⊎◌, inl, inr, ℕ, suc, zero, ◌≤◌, ◌+◌, Bool, true, false, not, ◌==◌, take-append-drop, List, [], ◌∷◌, ◌++◌, map, length, take, drop, slice_get, option_map, option_to_list, Option, Some, None, refl, sym, ap, subst, ◌∙◌, append_assoc, append-nil, arith}
 use Rattle.std.proofs.lemmas.List.{map-append}
 use Rattle.std.proofs.lemmas.List.Elements.{filter_map-append}
 use Rattle.std.specs.List.{filter_map, cons_option}
@@ -8,10 +8,11 @@ use Rattle.cov_base.specs.declared.event.Event.{Event}
 use Rattle.decision_map.specs.Decisions.{is_tree_at}
 use Rattle.decision_map.specs.Roles.{condition_at, needs_history}
 use Rattle.decision_map.specs.declared.condition.Condition.{Condition as Decided}
-use Rattle.decision_meaning.specs.Pair.{Everywhere}
+use Rattle.decision_meaning.specs.Pair.{Somewhere, Everywhere}
 use Rattle.object_facts.specs.Object.{facts_of, condition_of}
 use Rattle.object_format.specs.declared.object.Object.{Object}
 use Rattle.trace_format.specs.declared.trace.HistoryEntry.{HistoryEntry}
+use Rattle.transcript.proofs.Lists.{in_append, in_left, in_right}
 use Rattle.transcript.specs.Computed.{completed, done_by, done_at, done_of}
 use Rattle.transcript.specs.Facts.{Facts}
 use Rattle.transcript.specs.Trace.{visit_in, Branched}
@@ -28,7 +29,7 @@ use Rattle.cov_base.specs.declared.failure.Failure.TheVariants.{Fault, WantOfMem
 -- a rebuild holds these entries, and these are their events
 pub record HasReplayed (o : Facts) (r : Rebuild) (events : List Event) (fed : List HistoryEntry) : Type 0 where
   pub holds : Rebuilds o r fed
-  pub told : events ≡ done_of o [] (visits_of o fed)
+  pub told : (e : Event) → Somewhere (λ x. x ≡ e) events ↔ Somewhere (λ x. x ≡ e) (done_of o [] (visits_of o fed))
 
 -- the events of visits that come after others
 pub done_append : (o : Facts) (xs ys past : List Visit) → done_of o past (xs ++ ys) ≡ done_of o past xs ++ done_of o (onto xs past) ys
@@ -61,20 +62,42 @@ taken_at xs at x is =
     let next : at + 1 ≡ suc at = omega arith in
     ap (λ (k : ℕ). take k xs) next ∙ taken_from xs at x is
 
+-- all is taken
+pub taken_whole : {X : Type 0} (xs : List X) (at : ℕ) → length xs ≤ at → take at xs ≡ xs
+taken_whole [] zero all = refl
+taken_whole [] (suc at) all = refl
+taken_whole (x ∷ xs) zero all = absurd (omega arith)
+taken_whole (x ∷ xs) (suc at) all = ap (λ (ys : List _). x ∷ ys) (taken_whole xs at (omega arith))
+
 -- one entry more
 pub replayed_more : (o : Facts) (old new : Rebuild) (before after : List Event) (history : List HistoryEntry) (at : ℕ) (entry : HistoryEntry) (event : Option Event)
     → slice_get history at ≡ Some entry → HasReplayed o old before (take at history)
     → ((fed : List HistoryEntry) → Rebuilds o old fed → Rebuilds o new (fed ++ entry ∷ []))
     → ((fed : List HistoryEntry) → Rebuilds o old fed → option_to_list event ≡ done_at o (onto (visits_of o fed) []) (visit_in o (branched_of entry)))
-    → after ≡ before ++ option_to_list event → HasReplayed o new after (take (at + 1) history)
+    → ((e : Event) → Somewhere (λ x. x ≡ e) after ↔ (Somewhere (λ x. x ≡ e) before ⊎ Somewhere (λ x. x ≡ e) (option_to_list event)))
+    → HasReplayed o new after (take (at + 1) history)
 replayed_more o old new before after history at entry event is so_far holds computed added =
     subst (HasReplayed o new after) (sym (taken_at history at entry is)) (record {
       holds = holds (take at history) so_far.holds;
-      told = added
-          ∙ ap (λ (es : List Event). es ++ option_to_list event) so_far.told
-          ∙ ap (λ (es : List Event). done_of o [] (visits_of o (take at history)) ++ es) (computed (take at history) so_far.holds)
-          ∙ sym (done_more o (take at history) entry);
+      told = λ e. subst (λ (es : List Event). Somewhere (λ x. x ≡ e) after ↔ Somewhere (λ x. x ≡ e) es)
+          (ap (λ (es : List Event). earlier ++ es) (computed (take at history) so_far.holds) ∙ sym (done_more o (take at history) entry))
+          (of_both e);
     })
+  where
+    earlier : List Event
+    earlier = done_of o [] (visits_of o (take at history))
+
+    of_both : (e : Event) → Somewhere (λ x. x ≡ e) after ↔ Somewhere (λ x. x ≡ e) (earlier ++ option_to_list event)
+    of_both e = (
+      λ some. elim ((added e).0 some) [
+        | inl old ↦ in_left (λ x. x ≡ e) earlier (option_to_list event) ((so_far.told e).0 old)
+        | inr here ↦ in_right (λ x. x ≡ e) earlier (option_to_list event) here
+      ],
+      λ some. (added e).1 (elim (in_append (λ x. x ≡ e) earlier (option_to_list event) some) [
+        | inl old ↦ inl ((so_far.told e).1 old)
+        | inr here ↦ inr here
+      ]),
+    )
 
 -- ---- where it breaks
 

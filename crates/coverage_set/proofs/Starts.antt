@@ -1,35 +1,27 @@
 -- The starts whose rows lie in blocks.
-use Rattle.std.proofs.Common.{◌≡◌, ℕ, ◌+◌, ◌<◌, ◌≤◌, Bool, true, false, cond, ◌||◌, ◌==◌, List, [], ◌∷◌, map, drop, slice_get, find, option_map, Option, Some, None, refl, sym, ap, subst, ◌∙◌, inl, inr, arith, nat_lt, eq-eqb, ne_eqb, eqb-true, le-leb}
+use Rattle.std.proofs.Common.{◌≡◌, ℕ, ◌+◌, ◌<◌, ◌≤◌, Bool, true, false, cond, ◌&&◌, ◌||◌, ◌==◌, List, [], ◌∷◌, map, drop, length, get_or, slice_get, find, option_map, Option, Some, None, suc, zero, ◌⊎◌, ◌++◌, append_assoc, refl, sym, ap, subst, ◌∙◌, inl, inr, arith, nat_lt, nat_le, eq-eqb, ne_eqb, eqb-true, le-leb}
+use Rattle.std.proofs.lemmas.Option.{slice_get_past}
+use Rattle.std.specs.Prelude.{IfSome}
 use Rattle.std.specs.List.{list_any}
-use Rattle.std.proofs.lemmas.Bool.{and_parts, ltb-true, leb-true}
+use Rattle.std.proofs.lemmas.Bool.{and_parts, ltb-true, leb-true, leb-false, lt-leb}
 use Rattle.cov_base.specs.declared.event.Event.{Event}
 use Rattle.cov_base.specs.declared.event.Event.TheVariants.{Start}
 use Rattle.cov_base.specs.declared.position.StmtId.{StmtId}
 use Rattle.cov_base.specs.declared.position.InstId.{InstId}
-use Rattle.decision_meaning.specs.Pair.{Somewhere}
+use Rattle.decision_meaning.specs.Pair.{Somewhere, Everywhere}
 use Rattle.line_table.specs.declared.rows.Row.{Row}
 use Rattle.object_facts.specs.Object.{row_of, facts_of}
 use Rattle.object_format.specs.Checked.{IsSound}
 use Rattle.object_format.specs.declared.object.Object.{Object}
-use Rattle.spelling.specs.Checks.{rising, rising_after}
+use Rattle.spelling.specs.Checks.{first_failing, rising, rising_after}
 use Rattle.trace_format.specs.declared.trace.Block.{Block}
+use Rattle.trace_format.specs.declared.trace.Trace.{Trace}
+use Rattle.trace_format.specs.Checks.{in_order, Passes}
 use Rattle.trace_format.specs.Trace.{TraceFile}
 use Rattle.transcript.specs.Trace.{Says, Block as Executed}
 use Rattle.vector_rebuild.proofs.LeafEdges.{left_at}
 use Rattle.vector_rebuild.specs.Entries.{block_of, trace_in}
-use Rattle.coverage_set.specs.Said.{covers, starts_in}
-
--- ---- a search over what is left
-
-pub any_here : {X : Type 0} (p : X → Bool) (xs : List X) (at : ℕ) (x : X) → slice_get xs at ≡ Some x → p x ≡ true
-    → list_any p (drop at xs) ≡ list_any p xs → true ≡ list_any p xs
-any_here p xs at x is passes all =
-    sym (ap (λ (ys : List _). list_any p ys) (left_at xs at x is) ∙ ap (λ (b : Bool). b || list_any p (drop (at + 1) xs)) passes) ∙ all
-
-pub any_past : {X : Type 0} (p : X → Bool) (xs : List X) (at : ℕ) (x : X) → slice_get xs at ≡ Some x → p x ≡ false
-    → list_any p (drop at xs) ≡ list_any p xs → list_any p (drop (at + 1) xs) ≡ list_any p xs
-any_past p xs at x is fails all =
-    sym (ap (λ (ys : List _). list_any p ys) (left_at xs at x is) ∙ ap (λ (b : Bool). b || list_any p (drop (at + 1) xs)) fails) ∙ all
+use Rattle.coverage_set.specs.Said.{covers, starts_in, AreFrom}
 
 -- ---- blocks that cover an address
 
@@ -58,6 +50,111 @@ cover (b ∷ blocks) pc some = elim some [
     or_later true rest = refl
     or_later false rest = rest
 
+-- ---- blocks and rows in their orders
+
+-- a block that ends before the rows of a list covers none of them
+ends_before : (b : Block) (pc : ℕ) → b.last < pc → covers pc b ≡ false
+ends_before b pc ends = rw (lt-leb pc b.last ends) (and_false (nat_le b.start pc))
+  where
+    and_false : (t : Bool) → (t && false) ≡ false
+    and_false true = refl
+    and_false false = refl
+
+starts_after : (b : Block) (pc : ℕ) → pc < b.start → covers pc b ≡ false
+starts_after b pc starts = rw (lt-leb b.start pc starts) refl
+
+pub past_block : (b : Block) (bs : List Block) (pc : ℕ) (rows : List Row) → b.last < pc → AreFrom pc rows → starts_in bs rows ≡ starts_in (b ∷ bs) rows
+past_block b bs pc [] ends from = refl
+past_block b bs pc (row ∷ rows) ends from =
+    rw (ends_before b row.address (omega (arith, ends, from.0)))
+    (ap (λ (es : List Event). cond (list_any (covers row.address) bs) (Start row.statement row.instance ∷ es) es) (past_block b bs pc rows ends from.1))
+
+pub one_past : (blocks : List Block) (at : ℕ) (b : Block) (pc : ℕ) (rows : List Row) → slice_get blocks at ≡ Some b → b.last < pc → AreFrom pc rows
+    → starts_in (drop (at + 1) blocks) rows ≡ starts_in (drop at blocks) rows
+one_past blocks at b pc rows is ends from =
+    past_block b (drop (at + 1) blocks) pc rows ends from ∙ ap (λ (bs : List Block). starts_in bs rows) (sym (left_at blocks at b is))
+
+-- the first block passes the check of order, and so do those behind it
+step_by : (before : Option Block) (b : Block) (bs : List Block) (at : ℕ) (t : Bool) → in_order before b ≡ t
+    → cond t (first_failing in_order (Some b) (at + 1) bs) (Some at) ≡ None
+    → (in_order before b ≡ true) × (first_failing in_order (Some b) (at + 1) bs ≡ None)
+step_by before b bs at true is none = (is, none)
+step_by before b bs at false is none = cc
+
+above_here : (before b : Block) → in_order (Some before) b ≡ true → before.start < b.start
+above_here before b is = ltb-true before.start b.start (and_parts _ (nat_lt before.start b.start) is).1
+
+-- blocks start above an address
+abbrev StartAbove : ℕ → List Block → Type 0
+StartAbove pc bs = Everywhere (λ (b : Block). pc < b.start) bs
+
+raised : (low high : ℕ) (bs : List Block) → low < high → StartAbove high bs → StartAbove low bs
+raised low high [] less above = tt
+raised low high (b ∷ bs) less above = (omega (arith, less, above.0), raised low high bs less above.1)
+
+all_above : (b : Block) (at : ℕ) (bs : List Block) → first_failing in_order (Some b) at bs ≡ None → StartAbove b.start bs
+all_above b at [] none = tt
+all_above b at (n ∷ bs) none =
+    let step = step_by (Some b) n bs at (in_order (Some b) n) refl none in
+    let here : b.start < n.start = above_here b n step.0 in
+    (here, raised b.start n.start bs here (all_above n (at + 1) bs step.1))
+
+behind_above : (before : Option Block) (k : ℕ) (bs : List Block) (at : ℕ) (b : Block) → first_failing in_order before k bs ≡ None → slice_get bs at ≡ Some b
+    → StartAbove b.start (drop (suc at) bs)
+behind_above before k [] at b none is = absurd (cc is)
+behind_above before k (first ∷ bs) zero b none is =
+    let same : first ≡ b = cc is in
+    subst (λ (x : Block). StartAbove x.start bs) same (all_above first (k + 1) bs (step_by before first bs k (in_order before first) refl none).1)
+behind_above before k (first ∷ bs) (suc at) b none is =
+    behind_above (Some first) (k + 1) bs at b (step_by before first bs k (in_order before first) refl none).1 is
+
+none_covers : (pc : ℕ) (bs : List Block) → StartAbove pc bs → list_any (covers pc) bs ≡ false
+none_covers pc [] above = refl
+none_covers pc (b ∷ bs) above = rw (starts_after b pc above.0) (none_covers pc bs above.1)
+
+-- of blocks, the first that doesn't end before an address decides whether one covers it
+decides : (b : Block) (bs : List Block) (pc : ℕ) → pc ≤ b.last → StartAbove b.start bs → covers pc b ≡ (covers pc b || list_any (covers pc) bs)
+decides b bs pc reaches above = elim (le_or_lt b.start pc) [
+  | inl low ↦ rw (le-leb b.start pc low, le-leb pc b.last reaches) refl
+  | inr high ↦ rw (starts_after b pc high) (sym (none_covers pc bs (raised pc b.start bs high above)))
+]
+  where
+    le_or_lt : (m n : ℕ) → (m ≤ n) ⊎ (n < m)
+    le_or_lt m n = by_test (nat_le m n) refl
+      where
+        by_test : (t : Bool) → nat_le m n ≡ t → (m ≤ n) ⊎ (n < m)
+        by_test true is = inl (leb-true m n is)
+        by_test false is = inr (leb-false m n is)
+
+pub first_decides : (t : Trace) (at : ℕ) (b : Block) (pc : ℕ) → Passes t → slice_get t.blocks at ≡ Some b → pc ≤ b.last
+    → covers pc b ≡ list_any (covers pc) (drop at t.blocks)
+first_decides t at b pc passes is reaches =
+    let next : at + 1 ≡ suc at = omega arith in
+    let above : StartAbove b.start (drop (at + 1) t.blocks) =
+    subst (λ (k : ℕ). StartAbove b.start (drop k t.blocks)) (sym next) (behind_above None 0 t.blocks at b passes.order is) in
+    decides b (drop (at + 1) t.blocks) pc reaches above ∙ ap (list_any (covers pc)) (sym (left_at t.blocks at b is))
+
+-- behind the last block there is none
+pub none_there : (blocks : List Block) (at pc : ℕ) → at ≡ length blocks → IfSome (slice_get blocks at) (λ (b : Block). pc ≤ b.last)
+none_there blocks at pc is = rw (slice_get_past blocks at (omega (arith, is))) tt
+
+pub reached : (blocks : List Block) (at : ℕ) (b : Block) (pc : ℕ) → slice_get blocks at ≡ Some b
+    → IfSome (slice_get blocks at) (λ (b : Block). pc ≤ b.last) → pc ≤ b.last
+reached blocks at b pc is reaches = subst (λ (found : Option Block). IfSome found (λ (x : Block). pc ≤ x.last)) is reaches
+
+-- rows from a row on stand at its address or above it
+lowered : (low high : ℕ) (rows : List Row) → low ≤ high → AreFrom high rows → AreFrom low rows
+lowered low high [] le from = tt
+lowered low high (row ∷ rows) le from = (omega (arith, le, from.0), lowered low high rows le from.1)
+
+rows_above : (first : Row) (rows : List Row) → rising_after (λ (one next : Row). nat_lt one.address next.address) first rows ≡ true → AreFrom first.address rows
+rows_above first [] rises = tt
+rows_above first (next ∷ rows) rises =
+    let parts = and_parts (nat_lt first.address next.address) (rising_after (λ (one later : Row). nat_lt one.address later.address) next rows) rises in
+    let step : first.address < next.address = ltb-true first.address next.address parts.0 in
+    let here : first.address ≤ next.address = omega (arith, step) in
+    (here, lowered first.address next.address rows here (rows_above next rows parts.1))
+
 -- ---- rows by their addresses
 
 -- rows after a row stand at higher addresses
@@ -76,6 +173,46 @@ rising_behind : (first : Row) (rows : List Row) → rising_after (λ (one next :
     → rising (λ (one next : Row). nat_lt one.address next.address) rows ≡ true
 rising_behind first [] rises = refl
 rising_behind first (next ∷ rows) rises = (and_parts (nat_lt first.address next.address) (rising_after (λ (one later : Row). nat_lt one.address later.address) next rows) rises).1
+
+rows_from : (rows : List Row) (at : ℕ) (row : Row) → rising (λ (one next : Row). nat_lt one.address next.address) rows ≡ true → slice_get rows at ≡ Some row
+    → AreFrom row.address (drop at rows)
+rows_from [] at row rises is = absurd (cc is)
+rows_from (first ∷ rows) zero row rises is =
+    let same : first ≡ row = cc is in
+    let here : first.address ≤ first.address = omega arith in
+    subst (λ (x : Row). AreFrom x.address (first ∷ rows)) same (here, rows_above first rows rises)
+rows_from (first ∷ rows) (suc at) row rises is = rows_from rows at row (rising_behind first rows rises) is
+
+-- a row of a list that is another by name
+pub row_there : (rows known : List Row) (at : ℕ) (d : Row) → known ≡ rows → at < length known → slice_get rows at ≡ Some (get_or known at d)
+row_there rows known at d same within = sym (ap (λ (rs : List Row). slice_get rs at) same) ∙ there known at d within
+  where
+    there : (rs : List Row) (k : ℕ) (e : Row) → k < length rs → slice_get rs k ≡ Some (get_or rs k e)
+    there [] k e within' = absurd (omega arith)
+    there (r ∷ rs) zero e within' = refl
+    there (r ∷ rs) (suc k) e within' = there rs k e (omega arith)
+
+-- one row more
+pub one_row : (blocks : List Block) (rows : List Row) (at old new : ℕ) (row : Row) (covered : Bool) (before after whole : List Event)
+    → rising (λ (one next : Row). nat_lt one.address next.address) rows ≡ true → slice_get rows at ≡ Some row
+    → ((rs : List Row) → AreFrom row.address rs → starts_in (drop new blocks) rs ≡ starts_in (drop old blocks) rs)
+    → covered ≡ list_any (covers row.address) (drop new blocks)
+    → after ≡ before ++ cond covered (Start row.statement row.instance ∷ []) []
+    → before ++ starts_in (drop old blocks) (drop at rows) ≡ whole
+    → after ++ starts_in (drop new blocks) (drop (at + 1) rows) ≡ whole
+one_row blocks rows at old new row covered before after whole rises is passed tells added so_far =
+    ap (λ (es : List Event). es ++ starts_in (drop new blocks) (drop (at + 1) rows)) added
+    ∙ append_assoc before (cond covered (Start row.statement row.instance ∷ []) []) (starts_in (drop new blocks) (drop (at + 1) rows))
+    ∙ ap (λ (es : List Event). before ++ es)
+    (joined covered ∙ ap (λ (t : Bool). cond t (Start row.statement row.instance ∷ starts_in (drop new blocks) (drop (at + 1) rows)) (starts_in (drop new blocks) (drop (at + 1) rows))) tells
+    ∙ ap (λ (rs : List Row). starts_in (drop new blocks) rs) (sym (left_at rows at row is))
+    ∙ passed (drop at rows) (rows_from rows at row rises is))
+    ∙ so_far
+  where
+    joined : (t : Bool) → cond t (Start row.statement row.instance ∷ []) [] ++ starts_in (drop new blocks) (drop (at + 1) rows)
+        ≡ cond t (Start row.statement row.instance ∷ starts_in (drop new blocks) (drop (at + 1) rows)) (starts_in (drop new blocks) (drop (at + 1) rows))
+    joined true = refl
+    joined false = refl
 
 -- a row is the one of its address
 pub row_found : (rows : List Row) (row : Row) → rising (λ (one next : Row). nat_lt one.address next.address) rows ≡ true

@@ -74,12 +74,12 @@ impl<'a> Coverage<'a> {
 
     /// The events, each once: starts by statement and instance, then evaluations by decision, instance
     /// and vector.
-    pub fn events(&self, alloc: Global) -> Result<Vec<Event>, AllocError>
+    pub fn events(&self) -> Result<Vec<Event>, AllocError>
         ensures all { IfOk result (λ events. (e : Event) → Somewhere (λ x. x ≡ e) events.items ↔ Has self.now e) }
         ensures each_once { IfOk result (λ events. AllPairs (λ x y. x ≢ y) events.items) }
         ensures order { IfOk result (λ events. IsStrictlySortedBy event_cmp events.items) }
     {
-        Vec::from_slice(alloc, self.events.as_slice())
+        Vec::from_slice(self.alloc, self.events.as_slice())
     }
 
     /// Adds what a trace of the object says, and its run.
@@ -102,8 +102,9 @@ impl<'a> Coverage<'a> {
         ensures refused { OnErr result (self.new ≡ self.old) }
     {
         let found = said(self.alloc, map, view)?;
-        let events = self.events.with(self.alloc, found.as_slice())?;
-        let runs = self.runs.with(self.alloc, &[view.closing()])?;
+        let single = SortedSet::single(self.alloc, view.closing())?;
+        let events = self.events.with(self.alloc, &found)?;
+        let runs = self.runs.with(self.alloc, &single)?;
         self.events = events;
         self.runs = runs;
         Ok(())
@@ -115,8 +116,8 @@ impl<'a> Coverage<'a> {
         ensures ok { OnOk result (IsUnion self.old other.now self.new) }
         ensures err { OnErr result (self.new ≡ self.old) }
     {
-        let events = self.events.with(self.alloc, other.events.as_slice())?;
-        let runs = self.runs.with(self.alloc, other.runs.as_slice())?;
+        let events = self.events.with(self.alloc, &other.events)?;
+        let runs = self.runs.with(self.alloc, &other.runs)?;
         self.events = events;
         self.runs = runs;
         Ok(())

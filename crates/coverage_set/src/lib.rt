@@ -8,9 +8,11 @@
 
 mod coverage;
 mod exact;
+mod gathered;
 mod laws;
 mod said;
 mod set;
+mod started;
 
 pub use coverage::Coverage;
 pub use laws::{

@@ -1,11 +1,13 @@
-//! Sets as sorted lists.
+//! Sets as sorted lists, and the lists that they are made of.
 
-ghost use Rattle.std.specs.Prelude.{◌≡◌, ◌≢◌, ◌↔◌, ◌⊎◌, List, [], IfOk, AllPairs};
+ghost use Rattle.std.specs.Prelude.{◌≡◌, ◌≢◌, ◌↔◌, ◌⊎◌, ◌++◌, ◌∷◌, ◌+◌, ◌<◌, [], length, IfOk, IfSome, MatchOption, AllPairs, true};
 ghost use Rattle.std.specs.List.Sorted.{IsStrictlySortedBy};
+ghost use Rattle.std.specs.Set.{sorted_merge};
 ghost use Rattle.decision_meaning.specs.Pair.{Somewhere};
 
 use crate::exact::Exact;
 use std::alloc::{AllocError, Global};
+use std::cmp::Ordering;
 use std::marker::Model;
 
 /// A set. Contracts see its items, each once, in rising order.
@@ -35,6 +37,25 @@ impl<T: Exact + Drop> SortedSet<T> {
         }
     }
 
+    /// The set of one item.
+    pub fn single(alloc: Global, item: T) -> Result<Self, AllocError>
+        ensures { IfOk result (λ set. set ≡ item ∷ []) }
+    {
+        let mut items = Vec::new(alloc);
+        items.push(item)?;
+        Ok(SortedSet { items })
+    }
+
+    /// The set of the items of a list. It takes no memory.
+    pub fn of(list: Vec<T>) -> Self
+        ensures { (x : T) → Somewhere (λ y. y ≡ x) result ↔ Somewhere (λ y. y ≡ x) list.items }
+    {
+        let mut items = list;
+        items.sort_unstable();
+        items.dedup();
+        SortedSet { items }
+    }
+
     /// The items, each once.
     pub fn as_slice(&self) -> &[T]
         ensures items { result.now ≡ self.now }
@@ -44,16 +65,45 @@ impl<T: Exact + Drop> SortedSet<T> {
         self.items.as_slice()
     }
 
-    /// The set with more items.
-    pub fn with(&self, alloc: Global, more: &[T]) -> Result<Self, AllocError>
+    /// The set with the items of another: both are gone through once.
+    pub fn with(&self, alloc: Global, more: &SortedSet<T>) -> Result<Self, AllocError>
         ensures { IfOk result (λ both. (x : T) → Somewhere (λ y. y ≡ x) both
             ↔ (Somewhere (λ y. y ≡ x) self.now ⊎ Somewhere (λ y. y ≡ x) more.now)) }
     {
-        let mut items = Vec::new(alloc);
-        items.extend_from_slice(self.items.as_slice())?;
-        items.extend_from_slice(more)?;
-        items.sort_unstable();
-        items.dedup();
+        let items = merged(alloc, self.items.as_slice(), more.items.as_slice())?;
         Ok(SortedSet { items })
+    }
+}
+
+/// The items of two rising lists, in rising order. An item of both comes once.
+fn merged<T: Exact + Drop>(alloc: Global, left: &[T], right: &[T]) -> Result<Vec<T>, AllocError>
+    ensures { IfOk result (λ items. items.items ≡ sorted_merge T.cmp true left.now right.now) }
+{
+    let mut items = Vec::new(alloc);
+    let mut first = left;
+    let mut second = right;
+    while let Some((item, firsts, seconds)) = least_of(first, second) {
+        items.push(item)?;
+        first = firsts;
+        second = seconds;
+    }
+    items.extend_from_slice(first)?;
+    items.extend_from_slice(second)?;
+    Ok(items)
+}
+
+/// The lesser of the first items of two lists, and what is then left of both. Of equal items both go.
+/// There is none where one of the lists is empty.
+fn least_of<'a, T: Exact>(left: &'a [T], right: &'a [T]) -> Option<(T, &'a [T], &'a [T])>
+    ensures merged { MatchOption result (sorted_merge T.cmp true left.now right.now ≡ left.now ++ right.now)
+        (λ least. sorted_merge T.cmp true left.now right.now ≡ least.0 ∷ sorted_merge T.cmp true least.1.now least.2.now) }
+    ensures shorter { IfSome result (λ least. length least.1.now + length least.2.now < length left.now + length right.now) }
+{
+    let (first, lefts) = left.split_first()?;
+    let (second, rights) = right.split_first()?;
+    match first.cmp(second) {
+        Ordering::Less => Some((*first, lefts, right)),
+        Ordering::Equal => Some((*first, lefts, rights)),
+        Ordering::Greater => Some((*second, left, rights)),
     }
 }

@@ -18,9 +18,10 @@ use crate::places::kind_in;
 use object_format::Object;
 use trace_format::{Block, HistoryEntry, NOT_TAKEN, TAKEN, TraceView};
 
-/// Whether the trace is this object's.
+/// Whether the trace is this object's. The blocks of every view rise, which the later checks need.
 fn check_object(object: &Object, view: &TraceView<'_>) -> Result<(), FitFault>
-    ensures { result_err result ≡ foreign object.now view.now }
+    ensures fault { result_err result ≡ foreign object.now view.now }
+    ensures ordered { AreOrdered view.now.blocks }
 {
     let kept = view.object();
     if kept != object.closing {
@@ -165,7 +166,6 @@ pub(crate) fn check(
 ) -> Result<(), FitFault>
     requires mappable { IsMappable object.now }
     requires kinds { AreKinds object.now kinds.now }
-    requires ordered { AreOrdered view.now.blocks }
     ensures { result_err result ≡ fault_of object.now view.now }
 {
     check_object(object, view)?;

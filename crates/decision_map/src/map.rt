@@ -7,7 +7,6 @@ ghost use Rattle.decision_meaning.specs.Graph.{graph, IsTree};
 ghost use Rattle.decision_map.specs.declared.condition.Condition.{Condition};
 ghost use Rattle.decision_map.specs.Kinds.{kinds_of_text};
 ghost use Rattle.decision_map.specs.Blocks.{block_end};
-ghost use Rattle.trace_format.specs.Checks.{IsClosed};
 ghost use Rattle.decision_map.specs.Fits.{fault_of};
 ghost use Rattle.std.specs.Result.{result_err};
 ghost use Rattle.decision_map.specs.Decisions.{graph_at, is_tree_at};
@@ -124,7 +123,6 @@ impl<'a> DecisionMap<'a> {
     /// Whether a trace can be one of the object: the checks from `foreign` to `history not flat`, of
     /// which the first that fails is answered.
     pub fn fit(&self, view: &TraceView<'_>) -> Result<(), FitFault>
-        requires { IsClosed view.now }
         ensures { result_err result ≡ fault_of self.now view.now }
     {
         fit::check(self.object, self.kinds.as_slice(), view)

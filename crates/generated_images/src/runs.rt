@@ -6,8 +6,8 @@ ghost use Rattle.rv_semantics.specs.Layout.{memory_bytes};
 use cov_base::Seq;
 use line_table::RoleKind;
 use linker::Image;
-use rv_machine::Machine;
-use rv_semantics::{MEMORY_BYTES, Seen, Stepped, TEXT_START};
+use rv_machine::{Machine, Seen, Stepped};
+use rv_semantics::{MEMORY_BYTES, TEXT_START};
 use std::alloc::{AllocError, Global};
 
 /// What an executed instruction tells.

@@ -154,7 +154,7 @@ fn executed(alloc: Global, object: &Object, input: &[i32], budget: u32) -> Resul
         Ok(ending) => Ok(Left {
             answer: Ok(ending),
             put,
-            trace: recorder.trace(alloc, ending.number)?,
+            trace: recorder.trace(ending.number)?,
         }),
         Err(Failure::Fault(fault)) => Ok(Left {
             answer: Err(fault),

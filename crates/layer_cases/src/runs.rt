@@ -8,7 +8,6 @@
 
 ghost use Rattle.std.specs.Prelude.{◌≡◌, IfOk};
 ghost use Rattle.object_format.specs.Checked.{IsSound};
-ghost use Rattle.trace_format.specs.Checks.{IsClosed};
 
 use crate::blobs::Blobs;
 use crate::fault::{Answer, CaseFault};
@@ -55,9 +54,7 @@ pub(crate) fn trace(out: &mut String, bytes: &[u8]) -> Answer {
 }
 
 /// A view of a trace file.
-fn view_of(bytes: &[u8]) -> Result<TraceView<'_>, Failure<CaseFault>>
-    ensures { IfOk result IsClosed }
-{
+fn view_of(bytes: &[u8]) -> Result<TraceView<'_>, Failure<CaseFault>> {
     match TraceView::view(bytes) {
         Ok(view) => Ok(view),
         Err(fault) => Err(Failure::Fault(CaseFault::Trace(fault))),
@@ -92,7 +89,6 @@ fn offer(
 ) -> Result<(), Failure<CaseFault>>
     requires sound { IsSound map.now }
     requires object { map.now ≡ coverage.old.object }
-    requires closed { IsClosed view.now }
     ensures { coverage.new.object ≡ coverage.old.object }
 {
     match map.fit(view) {
@@ -168,7 +164,7 @@ pub(crate) fn events(alloc: Global, blobs: &Blobs, out: &mut String, words: &str
     let (name, names) = split_word(words);
     let object = object_of(alloc, blobs.named(name)?)?;
     let coverage = covered_by_all(alloc, blobs, &object, names)?;
-    let events = coverage.events(alloc)?;
+    let events = coverage.events()?;
     add_coverage(out, coverage.runs(), events.as_slice())?;
     Ok(())
 }

@@ -10,8 +10,7 @@ ghost use Rattle.trace_record.specs.Recorded.{Records};
 ghost use Rattle.rv32_emulator.specs.Ran.{Stands, Turns};
 
 use crate::input::next_word;
-use rv_machine::Machine;
-use rv_semantics::{Seen, Stepped, TrapWhy};
+use rv_machine::{Machine, Seen, Stepped, TrapWhy};
 use std::alloc::AllocError;
 use trace_record::Recorder;
 
@@ -62,7 +61,8 @@ pub fn take_turn<'a>(
     }
 }
 
-/// Shows the recorder an executed instruction.
+/// Shows the recorder an executed instruction. It is done at each step, so a call would be dear.
+#[inline(always)]
 fn show(recorder: &mut Recorder<'_>, seen: Seen) -> Result<(), AllocError>
     ensures recorded { OnOk result ((ss : List Seen) → Records recorder.old ss
         → IsTranscript recorder.old.object (ss ++ seen ∷ []) → Records recorder.new (ss ++ seen ∷ [])) }

@@ -1,7 +1,7 @@
 //! The machine that executes an object's text, one instruction at a time.
 //!
-//! A `Machine` holds the program counter, 32 registers and 32 MiB of memory. It decodes each word
-//! when it executes it, and takes no memory once it is made.
+//! A `Machine` holds the program counter, 32 registers and 32 MiB of memory. It decodes the words of
+//! its text once, when it is made, and takes no memory after that.
 //!
 //! The contract that the layers above use: [`Machine::step`] and [`Machine::give`] are `step` and
 //! `given` of the crate `rv_semantics`, and a new machine is at its `start`. `image_of` and
@@ -11,5 +11,7 @@
 mod compute;
 mod machine;
 mod memory;
+mod text;
 
 pub use machine::Machine;
+pub use rv_semantics::{Seen, Stepped, TrapWhy};

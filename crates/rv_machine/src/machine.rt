@@ -1,6 +1,7 @@
 //! The machine and its steps.
 
-ghost use Rattle.std.specs.Prelude.{◌≡◌, ◌+◌, ◌*◌, ◌/◌, ◌%◌, ◌^◌, ◌<◌, ◌≤◌, None, nat_le, length, IfOk, IsTrue};
+ghost use Rattle.std.specs.Prelude.{◌≡◌, ◌+◌, ◌*◌, ◌/◌, ◌%◌, ◌^◌, ◌<◌, ◌≤◌, None, nat_le, length, option_map, IfOk, IsTrue};
+ghost use Rattle.rv_isa.specs.Decoding.{instr_of};
 ghost use Rattle.rv_isa.specs.Immediates.{sign_12};
 ghost use Rattle.rv_semantics.specs.Arithmetic.{sum_32};
 ghost use Rattle.rv_semantics.specs.Layout.{memory_bytes, text_start, text_word, in_text};
@@ -10,10 +11,11 @@ ghost use Rattle.object_format.specs.Fields.{is_placed};
 ghost use Rattle.rv_machine.specs.Machine.{image_of, state_of};
 ghost use Rattle.rv_machine.specs.Objects.{object_image, object_start};
 
+use crate::text::DecodedText;
 use crate::{compute, memory};
 use object_format::Object;
-use rv_isa::{Imm12, Instr, LoadOp, Reg, StoreOp, decode};
-use rv_semantics::{MEMORY_BYTES, Seen, Stepped, TEXT_START, TrapWhy, word_at};
+use rv_isa::{Imm12, Instr, LoadOp, Reg, StoreOp};
+use rv_semantics::{MEMORY_BYTES, Seen, Stepped, TEXT_START, TrapWhy};
 use std::alloc::{AllocError, Global};
 use std::marker::Model;
 
@@ -27,7 +29,7 @@ const CALL_END: u32 = 3;
 /// A machine with the text of an object: the program counter, the registers and the memory.
 #[derive(Debug, Drop)]
 pub struct Machine<'a> {
-    text: &'a [u32],
+    text: DecodedText<'a>,
     exceptions: usize,
     pc: u32,
     registers: [u32; 32],
@@ -41,7 +43,7 @@ impl<'a> Model for Machine<'a> {
     ghost Value = { Loaded };
 
     ghost view = { λ m. record {
-      text = m.text.now;
+      text = m.text;
       exceptions = m.exceptions;
       pc = m.pc;
       registers = m.registers;
@@ -71,6 +73,7 @@ impl<'a> Machine<'a> {
             start (record { text = text.now; exceptions = exceptions }) entry init_at init.now) }
     {
         let memory = memory::loaded_with(alloc, text, init_at, init)?;
+        let text = DecodedText::of(alloc, text)?;
         let mut registers = [0; 32];
         registers[2] = MEMORY_BYTES;
         Ok(Machine {
@@ -109,12 +112,10 @@ impl Machine<'_> {
         ensures image { image_of self.new ≡ image_of self.old }
         ensures answer { (result, state_of self.new) ≡ step (image_of self.old) (state_of self.old) }
     {
-        let Some(word) = self.fetched() else {
-            return self.trap(TrapWhy::Outside);
-        };
-        match decode(word) {
-            Some(instr) => self.act(&instr),
-            None => self.trap(TrapWhy::BadWord),
+        match self.instruction() {
+            Some(Some(instr)) => self.act(&instr),
+            Some(None) => self.trap(TrapWhy::BadWord),
+            None => self.trap(TrapWhy::Outside),
         }
     }
 
@@ -321,11 +322,12 @@ impl Machine<'_> {
         }
     }
 
-    /// The word at the program counter, if that is in the text.
-    fn fetched(&self) -> Option<u32>
-        ensures { result ≡ text_word (image_of self.now).text (state_of self.now).pc }
+    /// The instruction at the program counter: nothing outside the text, and an empty place where
+    /// the word there holds none.
+    fn instruction(&self) -> Option<Option<Instr>>
+        ensures { result ≡ option_map instr_of (text_word (image_of self.now).text (state_of self.now).pc) }
     {
-        word_at(self.text, self.pc)
+        self.text.at(self.pc)
     }
 
     /// The program counter.

@@ -56,6 +56,13 @@ layered_took bytes t are e =
     let s = single_took trace_magic 1 trace_parts trace_parts_ok bytes f.0 are f.1 in
     subst (λ (u : TraceFile). IsLayered bytes u) f.2 (record { fits = s.0; closing = s.1; spelled = s.2 })
 
+-- a trace whose layers are right, and none of whose entries fails a check
+pub closed_of : (bytes : List ℕ) (read t : TraceFile) → IsBytes bytes → layered bytes ≡ Ok read → t ≡ read → first_failing in_order None 0 t.blocks ≡ None
+    → first_failing has_known_flags None 0 t.blocks ≡ None → first_failing has_known_edge None 0 t.history ≡ None → IsClosed t
+closed_of bytes read t are e same order flags edges =
+    let l = subst (λ (u : TraceFile). IsLayered bytes u) (sym same) (layered_took bytes read are e) in
+    record { fits = l.fits; passes = record { order = order; flags = flags; edges = edges }; closing = l.closing }
+
 ordered_took : (t u : TraceFile) → ordered t ≡ Ok u → Passes (trace_in t) × (t ≡ u)
 ordered_took t u e =
     let a = bind_ok (unless (first_failing in_order None 0 t.blocks) faults.Order) (λ order. unless (first_failing has_known_flags None 0 t.blocks) faults.Flag >>= λ flags. unless (first_failing has_known_edge None 0 t.history) faults.Flag >>= λ edges. Ok t) u e in

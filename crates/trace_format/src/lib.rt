@@ -16,6 +16,6 @@ mod write;
 
 pub use fault::TraceFault;
 pub use laws::{one_trace, passing};
-pub use trace::{Block, HistoryEntry, NOT_TAKEN, TAKEN, Trace};
+pub use trace::{Block, HistoryEntry, NOT_TAKEN, TAKEN, Trace, TraceParts};
 pub use view::TraceView;
-pub use write::write_trace;
+pub use write::{write_parts, write_trace};

@@ -1,11 +1,13 @@
 //! A trace: which blocks a run of an object executed, and what its branches did.
 
-ghost use Rattle.std.specs.Prelude.{◌≡◌, ◌<◌, ◌^◌, length};
+ghost use Rattle.std.specs.Prelude.{◌≡◌, ◌<◌, ◌^◌, ◌++◌, length, All, OnOk};
+ghost use Rattle.spelling.specs.Format.{list_of};
 ghost use Rattle.trace_format.specs.Formats.{entry_value, block_entry, block_entry_ok, block_value, block_fixed, history_entry, history_entry_ok, history_value, history_fixed, trace_parts, trace_parts_ok};
 
 use cov_base::{Digest, Seq};
-use spelling::{Fixed, Formatted, Writable};
+use spelling::{Fixed, Formatted, Writable, put_many};
 use std::alloc::AllocError;
+use std::marker::Model;
 
 /// The bytes that begin a trace file.
 pub const MAGIC: [u8; 4] = *b"GCTR";
@@ -122,19 +124,49 @@ fn entry_at(bytes: &[u8]) -> (u32, u32, u8)
     (u32::at(first), u32::at(second), rest[0])
 }
 
-impl Formatted for Trace {
+/// The same, of entries that stand in lists of others: it is written without a copy of them.
+/// Contracts see the trace.
+#[derive(Debug, Drop)]
+pub struct TraceParts<'a> {
+    pub object: Digest,
+    pub ending: u32,
+    pub blocks: &'a [Block],
+    pub history: &'a [HistoryEntry],
+}
+
+impl<'a> Model for TraceParts<'a> {
+    ghost use Rattle.trace_format.specs.declared.trace.Trace.{Trace};
+
+    ghost Value = { Trace };
+
+    ghost view = { λ t. record { object = t.object; ending = t.ending; blocks = t.blocks.now; history = t.history.now } };
+}
+
+impl<'a> Formatted for TraceParts<'a> {
     ghost format = { trace_parts };
 
     ghost is_format = { trace_parts_ok };
 }
 
-impl Writable for Trace {
+impl<'a> Writable for TraceParts<'a> {
     ghost CountsFit = { λ trace. (length trace.blocks < 2 ^ 32) × (length trace.history < 2 ^ 32) };
 
     fn write(&self, into: &mut Vec<u8>) -> Result<(), AllocError> {
         self.object.write(into)?;
         self.ending.write(into)?;
-        self.blocks.write(into)?;
-        self.history.write(into)
+        put_list(into, self.blocks)?;
+        put_list(into, self.history)
     }
+}
+
+/// Appends a list: the count of its entries, and these.
+#[tactic(auto, unfolding(spelling::specs::Format::word))]
+fn put_list<T: Writable>(into: &mut Vec<u8>, entries: &[T]) -> Result<(), AllocError>
+    requires few { length entries.now < 2 ^ 32 }
+    requires entries { All T.CountsFit entries.now }
+    ensures spelled { OnOk result (into.new.items ≡ into.old.items ++ (list_of T.format).spell entries.now) }
+    ensures fits { OnOk result ((list_of T.format).Fits entries.now) }
+{
+    (entries.len() as u32).write(into)?;
+    put_many(into, entries)
 }

@@ -28,6 +28,25 @@ impl<'a> Model for TraceView<'a> {
 
     ghost view = { λ t. record { object = t.object; ending = t.ending; blocks = t.blocks; history = t.history; closing = t.closing } };
 
+    ghost invariant = { λ t. (length t.blocks < 2 ^ 32) × (length t.history < 2 ^ 32)
+        × IsClosed (record { object = t.object; ending = t.ending; blocks = t.blocks; history = t.history; closing = t.closing }) };
+}
+
+/// What stands in a trace file whose layers are right, before its entries are looked at.
+#[derive(Drop)]
+struct Layers<'a> {
+    object: Digest,
+    ending: u32,
+    blocks: Entries<'a, Block>,
+    history: Entries<'a, HistoryEntry>,
+    closing: Digest,
+}
+
+impl<'a> Model for Layers<'a> {
+    ghost Value = { TraceFile };
+
+    ghost view = { λ t. record { object = t.object; ending = t.ending; blocks = t.blocks; history = t.history; closing = t.closing } };
+
     ghost invariant = { λ t. (length t.blocks < 2 ^ 32) × (length t.history < 2 ^ 32) };
 }
 
@@ -46,9 +65,11 @@ impl<'a> TraceView<'a> {
         checked(bytes)
     }
 
-    /// The closing digest of the object that was run.
+    /// The closing digest of the object that was run. A view passed the checks of the format, which
+    /// is told here to those who hold a trace to its object.
     pub fn object(&self) -> Digest
-        ensures { result ≡ self.now.object }
+        ensures value { result ≡ self.now.object }
+        ensures passed { IsClosed self.now }
     {
         self.object
     }
@@ -60,9 +81,10 @@ impl<'a> TraceView<'a> {
         self.ending
     }
 
-    /// How many blocks there are.
+    /// How many blocks there are. Their starts rise, since the view passed the checks.
     pub fn blocks(&self) -> u32
-        ensures { result ≡ length self.now.blocks }
+        ensures count { result ≡ length self.now.blocks }
+        ensures passed { IsClosed self.now }
     {
         self.blocks.len() as u32
     }
@@ -103,21 +125,27 @@ impl<'a> TraceView<'a> {
 fn checked(bytes: &[u8]) -> Result<TraceView<'_>, TraceFault>
     ensures { result ≡ trace_of bytes.now }
 {
-    let view = unchecked(bytes)?;
-    if let Some(at) = first_failing_at::<Block, InOrder>(&view.blocks) {
+    let layers = layers_of(bytes)?;
+    if let Some(at) = first_failing_at::<Block, InOrder>(&layers.blocks) {
         return Err(TraceFault::Order { at: at as u32 });
     }
-    if let Some(at) = first_failing_at::<Block, KnownFlags>(&view.blocks) {
+    if let Some(at) = first_failing_at::<Block, KnownFlags>(&layers.blocks) {
         return Err(TraceFault::Flag { at: at as u32 });
     }
-    if let Some(at) = first_failing_at::<HistoryEntry, KnownEdge>(&view.history) {
+    if let Some(at) = first_failing_at::<HistoryEntry, KnownEdge>(&layers.history) {
         return Err(TraceFault::Flag { at: at as u32 });
     }
-    Ok(view)
+    Ok(TraceView {
+        object: layers.object,
+        ending: layers.ending,
+        blocks: layers.blocks,
+        history: layers.history,
+        closing: layers.closing,
+    })
 }
 
-/// A view of a file whose layers are right.
-fn unchecked(bytes: &[u8]) -> Result<TraceView<'_>, LayerFault>
+/// What stands in the bytes of a trace file.
+fn layers_of(bytes: &[u8]) -> Result<Layers<'_>, LayerFault>
     ensures { result ≡ layered bytes.now }
 {
     let (version, rest) = opened(&MAGIC, bytes)?;
@@ -129,7 +157,7 @@ fn unchecked(bytes: &[u8]) -> Result<TraceView<'_>, LayerFault>
     let (blocks, rest) = Entries::read_list(rest)?;
     let (history, rest) = Entries::read_list(rest)?;
     let closing = closed(bytes, rest)?;
-    Ok(TraceView {
+    Ok(Layers {
         object,
         ending,
         blocks,

@@ -16,12 +16,11 @@ ghost use Rattle.trace_record.specs.Written.{traced};
 use crate::blocks::blocks_of;
 use crate::history::keep;
 use crate::mark::{Mark, set_bit, set_edge};
-use cov_base::Seq;
 use decision_map::{DecisionMap, WordKind};
 use object_format::Object;
 use std::alloc::{AllocError, Global};
 use std::marker::Model;
-use trace_format::{HistoryEntry, Trace, write_trace};
+use trace_format::{HistoryEntry, TraceParts, write_parts};
 
 /// The instructions that were executed one after another since the last control transfer: the
 /// addresses of the first and of the last.
@@ -33,8 +32,9 @@ pub struct OpenPiece {
 
 /// What is kept of a run of an object: a mark for each word of its text, the piece that no control
 /// transfer has ended yet, and the history of the branches that need one.
-#[derive(Debug, Drop)]
+#[derive(Drop)]
 pub struct Recorder<'a> {
+    alloc: Global,
     map: DecisionMap<'a>,
     marks: Vec<Mark>,
     open_piece: Option<OpenPiece>,
@@ -65,6 +65,7 @@ impl<'a> Recorder<'a> {
         let map = DecisionMap::of(alloc, object)?;
         let marks = vec![in alloc; Mark(0); object.text.len()]?;
         Ok(Recorder {
+            alloc,
             map,
             marks,
             open_piece: None,
@@ -76,7 +77,8 @@ impl<'a> Recorder<'a> {
 impl Recorder<'_> {
     /// Sees an executed instruction: where it stands, the edge that it took if it is a conditional
     /// branch, and the frame pointer before it. Memory is taken only for a branch that needs a
-    /// history.
+    /// history. It is done at each step, so a call would be dear.
+    #[inline(always)]
     pub fn see(&mut self, pc: u32, edge: Option<bool>, x8: u32) -> Result<(), AllocError>
         // Of a transcript that the instruction goes on, the recorder then records the longer one.
         ensures recorded { OnOk result ((ss : List Seen) → Records self.old ss
@@ -102,7 +104,7 @@ impl Recorder<'_> {
 impl Recorder<'_> {
     /// The trace file of the run that was seen, whose ending has this number: 0 for return, else the
     /// number of an exception.
-    pub fn trace(&self, alloc: Global, ending: u32) -> Result<Vec<u8>, AllocError>
+    pub fn trace(&self, ending: u32) -> Result<Vec<u8>, AllocError>
         // Nothing was seen, or the last instruction was a control transfer.
         requires recorded { (ss : List Seen) × Records self.now ss × IsEnded (facts_of self.now.object) ss }
         requires short_history { length self.now.history < 2 ^ 32 }
@@ -113,15 +115,14 @@ impl Recorder<'_> {
         ensures reads_back { IfOk result (λ bytes. (ss : List Seen) → Records self.now ss → IsEnded (facts_of self.now.object) ss
             → trace_of bytes.items ≡ Ok (closed_by (traced self.now.object ss ending) (trace_digest (traced self.now.object ss ending)))) }
     {
-        let blocks = blocks_of(alloc, &self.map, self.marks.as_slice())?;
-        let history = Vec::from_slice(alloc, self.history.as_slice())?;
-        let trace = Trace {
+        let blocks = blocks_of(self.alloc, &self.map, self.marks.as_slice())?;
+        let trace = TraceParts {
             object: self.map.object().closing,
             ending,
-            blocks: Seq::from(blocks),
-            history: Seq::from(history),
+            blocks: blocks.as_slice(),
+            history: self.history.as_slice(),
         };
-        write_trace(alloc, &trace)
+        write_parts(self.alloc, &trace)
     }
 }
 

@@ -13,7 +13,7 @@ ghost use Rattle.commands.specs.Outcome.{Prepares};
 ghost use Rattle.commands.specs.Reading.{AreRead, StopsAt, StopsAmong, UnlessMemory};
 ghost use Rattle.commands.specs.Ready.{verdict_view};
 ghost use Rattle.object_format.specs.Checked.{IsSound};
-ghost use Rattle.trace_format.specs.Checks.{IsClosed, trace_of};
+ghost use Rattle.trace_format.specs.Checks.{trace_of};
 
 use crate::ready::{Ready, object_of, read_file};
 use crate::status::{Status, TraceWhy};
@@ -125,7 +125,6 @@ fn add_trace(
 /// A view of the trace with this number.
 fn view_of(number: u32, trace: &[u8]) -> Result<TraceView<'_>, Status>
     ensures read { IfOk result (λ view. trace_of trace.now ≡ Ok view) }
-    ensures closed { IfOk result IsClosed }
     ensures refused { IfErr result (IsBadFile number trace.now) }
 {
     TraceView::view(trace).map_err(|why| refusal(number, TraceWhy::File(why)))
@@ -133,7 +132,6 @@ fn view_of(number: u32, trace: &[u8]) -> Result<TraceView<'_>, Status>
 
 /// Checks that the trace with this number can be one of the object.
 fn check_fit(decisions: &DecisionMap<'_>, number: u32, view: &TraceView<'_>) -> Result<(), Status>
-    requires { IsClosed view.now }
     ensures fits { OnOk result (fault_of decisions.now view.now ≡ None) }
     ensures refused { IfErr result (IsBadFit number decisions.now view.now) }
 {
@@ -188,7 +186,7 @@ fn report_of(
     ensures { IfOk result (λ text. IsReport level object.now (Has coverage.now) (HasRun coverage.now) text.items) }
 {
     let files = named_files(alloc, object.files.as_slice())?;
-    let events = coverage.events(alloc)?;
+    let events = coverage.events()?;
     report(
         alloc,
         level,

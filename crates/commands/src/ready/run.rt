@@ -70,7 +70,7 @@ fn executed(
     let mut put = Vec::new(alloc);
     match run(alloc, object, input, budget, &mut recorder, &mut put) {
         Ok(ending) => {
-            let trace = recorder.trace(alloc, ending.number)?;
+            let trace = recorder.trace(ending.number)?;
             let exceptions = object.obligations.exceptions.as_slice();
             let text = run_lines(alloc, exceptions, put.as_slice(), ending, trace.as_slice())?;
             Ok((trace, text))

@@ -4,4 +4,4 @@ use Rattle.coverage_set.proofs.Replayed.{HasReplayed}
 use Rattle.coverage_set.proofs.said.replay.Given as goal
 
 abbrev pub invariant-loop-at : goal.invariant-loop-at
-invariant-loop-at l = HasReplayed (facts_of l.map) l.rebuild l.events.items (take l.at l.view.history)
+invariant-loop-at l = HasReplayed (facts_of l.map) l.rebuild l.events (take l.at l.view.history)

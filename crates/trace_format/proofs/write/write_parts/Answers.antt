@@ -1,5 +1,5 @@
 use Rattle.trace_format.proofs.TraceLaws.{is_long, is_closed, reads_back}
-use Rattle.trace_format.proofs.write.write_trace.Goals as goal
+use Rattle.trace_format.proofs.write.write_parts.Goals as goal
 
 pub returns-clause-len : goal.returns-clause-len
 returns-clause-len c = is_long c.args.trace.now c.write_file.result c.write_file.ensures.spelled c.write_file.ensures.fits

@@ -1,0 +1,88 @@
+//! Items that are gathered one by one, of which most stand there already.
+
+ghost use Rattle.std.specs.Prelude.{◌≡◌, ◌↔◌, ◌⊎◌, [], OnOk};
+ghost use Rattle.decision_meaning.specs.Pair.{Somewhere};
+
+use crate::exact::Exact;
+use crate::set::SortedSet;
+use std::alloc::{AllocError, Global};
+use std::marker::Model;
+
+/// How many items are kept at least before doubled ones are looked for.
+const LEAST_LIMIT: usize = 1024;
+
+/// Items in any order. Doubled ones are dropped when there are about twice as many items as different
+/// ones, so a long history of few vectors takes the room of few.
+#[derive(Drop)]
+pub struct Gathered<T: Exact + Drop> {
+    items: Vec<T>,
+    limit: usize,
+}
+
+impl<T: Exact + Drop> Model for Gathered<T> {
+    ghost use Rattle.std.specs.Prelude.{List};
+
+    ghost Value = { List T };
+
+    ghost view = { λ g. g.items.items };
+}
+
+impl<T: Exact + Drop> Gathered<T> {
+    /// Nothing is gathered.
+    pub fn new(alloc: Global) -> Self
+        ensures { result ≡ [] }
+    {
+        Gathered {
+            items: Vec::new(alloc),
+            limit: LEAST_LIMIT,
+        }
+    }
+
+    /// Adds an item.
+    pub fn add(&mut self, item: T) -> Result<(), AllocError>
+        ensures { OnOk result ((x : T) → Somewhere (λ y. y ≡ x) self.new ↔ (Somewhere (λ y. y ≡ x) self.old ⊎ (item ≡ x))) }
+    {
+        self.make_room();
+        self.items.push(item)?;
+        Ok(())
+    }
+
+    /// Adds the items of a list.
+    pub fn add_all(&mut self, items: &[T]) -> Result<(), AllocError>
+        ensures { OnOk result ((x : T) → Somewhere (λ y. y ≡ x) self.new
+            ↔ (Somewhere (λ y. y ≡ x) self.old ⊎ Somewhere (λ y. y ≡ x) items.now)) }
+    {
+        self.items.extend_from_slice(items)?;
+        Ok(())
+    }
+
+    /// Drops doubled items where the limit is reached.
+    fn make_room(&mut self)
+        ensures { (x : T) → Somewhere (λ y. y ≡ x) self.new ↔ Somewhere (λ y. y ≡ x) self.old }
+    {
+        if self.items.len() < self.limit {
+            return;
+        }
+        self.thin();
+    }
+
+    /// Drops doubled items.
+    fn thin(&mut self)
+        ensures { (x : T) → Somewhere (λ y. y ≡ x) self.new ↔ Somewhere (λ y. y ≡ x) self.old }
+    {
+        self.items.sort_unstable();
+        self.items.dedup();
+        self.limit = self
+            .items
+            .len()
+            .saturating_mul(2)
+            .saturating_add(LEAST_LIMIT);
+    }
+
+    /// The set of the items.
+    pub fn into_set(self) -> SortedSet<T>
+        ensures { (x : T) → Somewhere (λ y. y ≡ x) result ↔ Somewhere (λ y. y ≡ x) self }
+    {
+        SortedSet::of(self.items)
+    }
+}
