@@ -11,7 +11,7 @@ use crate::command::{Command, Usage};
 use crate::limits::are_few;
 use crate::matches::{read, text, texts};
 use clap::{Arg, ArgAction};
-use cov_base::{Annotation, Failure, Level};
+use cov_base::{Annotation, Failure, Level, Seq};
 use std::alloc::{AllocError, Global};
 
 /// The command that the words ask for, of which the first is `coverage`.
@@ -32,7 +32,7 @@ pub fn coverage<'a>(alloc: Global, words: &'a [String]) -> Result<Command<'a>, F
         level,
         annotate,
         object,
-        traces,
+        traces: Seq::from(traces),
     })
 }
 
