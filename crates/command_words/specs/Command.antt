@@ -8,4 +8,4 @@ use Rattle.command_words.specs.declared.command.Command.TheVariants as command
 abbrev pub task_view : Command → Task
 task_view (command.Compile main object source) = Compile main.now object.now source.now
 task_view (command.Run input budget trace object) = Run input.now budget trace.now object.now
-task_view (command.Coverage level annotate object traces) = Coverage level annotate object.now (map (λ trace. trace.now) traces.items)
+task_view (command.Coverage level annotate object traces) = Coverage level annotate object.now (map (λ trace. trace.now) traces)

@@ -1,6 +1,6 @@
 //! The commands, and the one fault of words.
 
-use cov_base::{Annotation, Level};
+use cov_base::{Annotation, Level, Seq};
 use thiserror::Error;
 
 /// What the words ask for. Names are names of files, but for `main`, the main unit's.
@@ -24,7 +24,7 @@ pub enum Command<'a> {
         level: Level,
         annotate: Annotation,
         object: &'a str,
-        traces: Vec<&'a str>,
+        traces: Seq<&'a str>,
     },
 }
 

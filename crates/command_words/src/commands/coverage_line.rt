@@ -11,7 +11,7 @@ use crate::command::{Command, Usage};
 use crate::limits::are_few;
 use crate::matches::{read, text, texts};
 use clap::{Arg, ArgAction, ArgMatches};
-use cov_base::{Annotation, Failure, Level};
+use cov_base::{Annotation, Failure, Level, Seq};
 use std::alloc::{AllocError, Global};
 
 /// The command that the words ask for, of which the first is `coverage`.
@@ -40,7 +40,7 @@ fn coverage_from<'a>(alloc: Global, matches: &ArgMatches<'a>) -> Result<Command<
         level,
         annotate,
         object,
-        traces,
+        traces: Seq::from(traces),
     })
 }
 

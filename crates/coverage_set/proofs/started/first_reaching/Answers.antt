@@ -1,4 +1,4 @@
-use Rattle.std.proofs.Common.{◌≡◌, ◌∙◌, ◌≤◌, sym, arith, length}
+use Rattle.std.proofs.Common.{◌∙◌, arith}
 use Rattle.coverage_set.proofs.Starts.{one_past, none_there}
 use Rattle.coverage_set.proofs.started.first_reaching.Goals as goal
 

@@ -1,4 +1,4 @@
-use Rattle.std.proofs.Common.{◌≡◌, ◌∙◌, sym}
+use Rattle.std.proofs.Common.{◌∙◌}
 use Rattle.trace_format.specs.Trace.{trace_in}
 use Rattle.coverage_set.proofs.Starts.{first_decides, reached}
 use Rattle.coverage_set.proofs.started.is_covered_at.Goals as goal

@@ -1,5 +1,4 @@
-use Rattle.std.proofs.Common.{◌≡◌, ◌↔◌, ◌⊎◌, List, [], ◌∷◌, sym, subst, ap, ◌∙◌, inl, inr}
-use Rattle.decision_meaning.specs.Pair.{Somewhere}
+use Rattle.std.proofs.Common.{List, [], ◌∷◌, ap, ◌∙◌}
 use Rattle.coverage_set.proofs.Fitting.{history_kept}
 use Rattle.coverage_set.proofs.Members.{in_either, in_one_more}
 use Rattle.coverage_set.proofs.coverage.Coverage.add_trace.Goals as goal

@@ -1,6 +1,4 @@
-use Rattle.std.proofs.Common.{◌≡◌, List, true, ap₂, ◌∙◌, subst, sym}
-use Rattle.std.specs.Set.{sorted_merge}
-use Rattle.coverage_set.proofs.Merged.{sorted_merged, has_both, HasBoth}
+use Rattle.coverage_set.proofs.Merged.{sorted_merged, has_both}
 use Rattle.coverage_set.proofs.set.SortedSet.with.Goals as goal
 
 pub invariant_of-result : goal.invariant_of-result
