@@ -1,5 +1,5 @@
 -- Outcomes that vectors give, as a test and as a fact.
-use Rattle.std.proofs.Common.{◌≡◌, ℕ, Bool, true, false, List, [], ◌∷◌, ◌||◌, ◌&&◌, ◌==◌, ◌↔◌, IsTrue, refl, sym, inl, inr, ◌⊎◌, eqb-true, eq-eqb}
+use Rattle.std.proofs.Common.{◌≡◌, Bool, true, false, List, [], ◌∷◌, ◌||◌, ◌&&◌, ◌==◌, ◌↔◌, IsTrue, refl, sym, inl, inr, ◌⊎◌, eqb-true, eq-eqb}
 use Rattle.cov_base.specs.declared.event.Event.{Event}
 use Rattle.cov_base.specs.declared.event.Event.TheVariants.{Start, Done}
 use Rattle.cov_base.specs.declared.event.Vector.{Vector}
@@ -7,7 +7,7 @@ use Rattle.cov_base.specs.declared.position.StmtId.{StmtId}
 use Rattle.decision_meaning.specs.Expr.{Expr}
 use Rattle.decision_meaning.specs.Marks.{marks, same, outcome}
 use Rattle.decision_meaning.specs.Verdict.{IsStarted, Gives, GivesBoth}
-use Rattle.annotated_report.specs.Verdicts.{gives, is_covered, starts, is_started, starts_of}
+use Rattle.annotated_report.specs.Verdicts.{gives, is_covered, is_started, starts_of}
 
 same_from : (a b : Bool) → same a b ≡ true → a ≡ b
 same_from true b h = sym h

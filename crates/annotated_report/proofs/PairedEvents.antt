@@ -1,8 +1,8 @@
 -- A report ends in the least pairs of the vectors of events.
-use Rattle.std.proofs.Common.{◌≡◌, ◌↔◌, inl, inr, ⊎_elim, ℕ, zero, suc, ◌+◌, Bool, true, false, cond, ◌&&◌, ◌==◌, List, [], ◌∷◌, ◌++◌, Option, Some, None, refl, sym, ap, subst, ◌∙◌, slice_get, eqb-true, eq-eqb, arith, codes, length, if◌then◌else◌}
+use Rattle.std.proofs.Common.{◌≡◌, ◌↔◌, inl, inr, ⊎_elim, ℕ, ◌+◌, Bool, true, false, cond, ◌==◌, List, [], ◌∷◌, ◌++◌, Option, Some, None, refl, sym, ap, subst, ◌∙◌, slice_get, eqb-true, eq-eqb, arith, codes, length, if◌then◌else◌}
 use Rattle.std.proofs.lemmas.Bool.{cond-true}
 use Rattle.std.proofs.lemmas.List.{append_assoc}
-use Rattle.std.specs.List.{filter_map, cons_option}
+use Rattle.std.specs.List.{cons_option}
 use Rattle.cov_base.specs.declared.event.Event.{Event}
 use Rattle.cov_base.specs.declared.event.Event.TheVariants.{Start, Done}
 use Rattle.cov_base.specs.declared.event.Vector.{Vector}
@@ -10,20 +10,16 @@ use Rattle.cov_base.specs.declared.level.Level.{Level}
 use Rattle.cov_base.specs.declared.obligations.DecEntry.{DecEntry}
 use Rattle.cov_base.specs.declared.obligations.Obligations.{Obligations}
 use Rattle.cov_base.specs.declared.obligations.Place.{Place}
-use Rattle.cov_base.specs.declared.position.InstId.{InstId}
 use Rattle.decision_meaning.specs.Expr.{size}
 use Rattle.decision_meaning.specs.Marks.{marks}
 use Rattle.decision_meaning.specs.Pair.{Pair, Somewhere, Everywhere, IsLeastPair}
 use Rattle.mcdc_verdicts.proofs.Lists.{everywhere-item}
-use Rattle.annotated_report.specs.declared.finding.Key.{Key}
 use Rattle.annotated_report.specs.declared.finding.PairLine.{PairLine}
 use Rattle.annotated_report.specs.declared.finding.Subject.{Subject}
 use Rattle.annotated_report.specs.declared.finding.Subject.TheVariants.{Statement, Decision, Condition}
 use Rattle.annotated_report.specs.Findings.{asks_outcomes, asks_pairs, expr_of, condition_key, findings, started_count, covered_count}
 use Rattle.annotated_report.specs.LeastPair.{kind_of, shown_pair}
-use Rattle.annotated_report.specs.Numbered.{each_numbered}
-use Rattle.annotated_report.specs.Order.{in_order}
-use Rattle.annotated_report.specs.Paired.{IsGiven, IsLeastGiven, TellsAPair, HaveLines, EndsInPairs}
+use Rattle.annotated_report.specs.Paired.{IsGiven, TellsAPair, HaveLines, EndsInPairs}
 use Rattle.annotated_report.specs.Report.{head_text, violations_text, total_text, pairs_text, report_text}
 use Rattle.annotated_report.specs.Shown.{pair_line, line_of_condition, paired, asked_pairs, all_paired, pair_lines, condition_count}
 use Rattle.annotated_report.specs.Verdicts.{is_started, vector_in, vectors_of}

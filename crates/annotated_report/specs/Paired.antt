@@ -21,15 +21,16 @@ pub record IsGiven (IsThere : Event → Type 0) (d : ℕ) (v : Vector) : Type 0 
   pub instance : InstId
   pub there : IsThere (Done (record { 0 = d }) instance v)
 
--- of all vectors that are given of decision d, this is the least pair that shows its condition c to matter, by the kind of pair that the level
--- asks for
-pub record IsLeastGiven (level : Level) (IsThere : Event → Type 0) (d : ℕ) (entry : DecEntry) (c : ℕ) (pair : Pair) : Type 0 where
+-- of all vectors that are given of decision d, this is the least pair that shows its condition c to matter, by the
+-- kind of pair that the level asks for
+pub record IsLeastGiven (level : Level) (IsThere : Event → Type 0) (d : ℕ) (entry : DecEntry) (c : ℕ) (pair : Pair)
+    : Type 0 where
   pub vectors : List Vector
   pub all_given : (v : Vector) → Somewhere (λ x. x ≡ v) vectors ↔ IsGiven IsThere d v
   pub least : IsLeastPair (size (expr_of entry)) (kind_of level (expr_of entry) c) vectors (Some pair)
 
--- The line tells two vectors that show a condition of one of these decisions to matter, by the kind of pair that the level asks for: both are
--- those of completed evaluations of the decision that are there, and no such pair of them is less.
+-- The line tells two vectors that show a condition of one of these decisions to matter, by the kind of pair that the
+-- level asks for: both are those of completed evaluations of the decision that are there, and no such pair is less.
 pub record TellsAPair (level : Level) (decisions : List DecEntry) (IsThere : Event → Type 0) (line : PairLine) : Type 0 where
   pub decision : ℕ
   pub entry : DecEntry
@@ -53,9 +54,10 @@ HaveLines level decisions IsThere lines =
     → IsGiven IsThere d v → IsGiven IsThere d w → kind_of level (expr_of entry) c (marks v) (marks w) ≡ true
     → Somewhere (λ (line : PairLine). line.key ≡ condition_key d entry c place) lines
 
--- The text ends in the part on conditions and pairs: each of its lines tells the least pair of a condition, each condition that has a pair has
--- a line, and no two lines are of one condition.
-pub record EndsInPairs (level : Level) (decisions : List DecEntry) (IsThere : Event → Type 0) (names : List (List ℕ)) (text : List ℕ) : Type 0 where
+-- The text ends in the part on conditions and pairs: each of its lines tells the least pair of a condition, each
+-- condition that has a pair has a line, and no two lines are of one condition.
+pub record EndsInPairs (level : Level) (decisions : List DecEntry) (IsThere : Event → Type 0)
+    (names : List (List ℕ)) (text : List ℕ) : Type 0 where
   pub before : List ℕ
   pub lines : List PairLine
   pub ends : text ≡ before ++ pairs_text names (condition_count decisions) lines

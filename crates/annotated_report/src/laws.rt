@@ -22,8 +22,9 @@ ghost use Rattle.annotated_report.specs.Verdicts.{is_started, starts_of, vectors
 /// The text depends on which events there are, and not on their order or on how often one is there.
 #[tactic(auto, using(crate::proofs::Alike::same_text))]
 pub fn the_text_depends_on_the_set_of_events()
-    ensures { (level : Level) (obligations : Obligations) (traces : ℕ) (events others : List Event) (names : List (List ℕ))
-        → AreAlike events others → report_text level obligations traces events names ≡ report_text level obligations traces others names }
+    ensures { (level : Level) (obligations : Obligations) (traces : ℕ) (events others : List Event)
+        (names : List (List ℕ)) → AreAlike events others
+        → report_text level obligations traces events names ≡ report_text level obligations traces others names }
 {}
 
 /// What a report says of statements, decisions and conditions are the verdicts of the definitions: a
@@ -31,10 +32,12 @@ pub fn the_text_depends_on_the_set_of_events()
 /// for a condition is the least one of the level's kind. The vectors of a decision are those of its
 /// evaluations, in all instances.
 pub fn verdicts_are_those_of_the_definitions()
-    ensures started { (events : List Event) (s : StmtId) → IsTrue (is_started events s.0) ↔ IsStarted (starts_of events) s }
+    ensures started { (events : List Event) (s : StmtId)
+        → IsTrue (is_started events s.0) ↔ IsStarted (starts_of events) s }
     ensures vectors { (events : List Event) (d : ℕ) (v : Vector)
         → Somewhere (λ x. x ≡ v) (vectors_of events d) ↔ IsGiven (λ e. Somewhere (λ x. x ≡ e) events) d v }
-    ensures outcomes { (e : Expr) (vectors : List Vector) (given : Bool) → IsTrue (gives e given vectors) ↔ Gives e vectors given }
+    ensures outcomes { (e : Expr) (vectors : List Vector) (given : Bool)
+        → IsTrue (gives e given vectors) ↔ Gives e vectors given }
     ensures covered { (e : Expr) (vectors : List Vector) → IsTrue (is_covered e vectors) ↔ GivesBoth e vectors }
     ensures least { (level : Level) (e : Expr) (vectors : List Vector) (c : ℕ)
         → IsLeastPair (size e) (kind_of level e c) vectors (shown_pair level e vectors c) }

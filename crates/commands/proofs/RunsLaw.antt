@@ -154,7 +154,8 @@ read_are held o number (name ∷ names) (r ∷ rs) Then output are fair says =
     one_read held o number names rs Then r are.0 output (record { trace = are.2; disciplined = fair.0 }) (rw are.1 at says)
     (λ rest. read_are held o (number + 1) names rs (λ traces. Then (are.0 ∷ traces)) output are.3 fair.1 rest)
 
--- The text is the report of an object's runs: of the events that their transcripts tell, and of the digests that close their traces.
+-- The text is the report of an object's runs: of the events that their transcripts tell, and of the digests that close
+-- their traces.
 pub record IsReportOfRuns (level : Level) (o : Object) (runs : List ARun) (text : List ℕ) : Type 0 where
   pub events : List Event
   pub digests : List (List ℕ)

@@ -21,20 +21,25 @@ use Rattle.kernel_code.specs.Whole.{IsInput}
 use Rattle.object_format.specs.declared.object.Object.{Object}
 use Rattle.object_format.specs.File.{object_bytes}
 
--- What was put ends in the part on conditions and pairs of the program's decisions. Each of its lines names a condition, and tells two vectors
--- of completed evaluations in the program's own executions on these inputs: of all vectors of such evaluations of the decision they are the
--- least pair of the level's kind for the condition. Each condition that has such a pair has a line, and no two lines are of one condition.
-pub record PutsLeastPairs (level : Level) (p : Program) (files : List SourceFile) (runs : List ARun) (old new : List ℕ) : Type 0 where
+-- What was put ends in the part on conditions and pairs of the program's decisions. Each of its lines names a condition,
+-- and tells two vectors of completed evaluations in the program's own executions on these inputs: of all vectors of such
+-- evaluations of the decision they are the least pair of the level's kind for the condition. Each condition that has
+-- such a pair has a line, and no two lines are of one condition.
+pub record PutsLeastPairs (level : Level) (p : Program) (files : List SourceFile) (runs : List ARun)
+    (old new : List ℕ) : Type 0 where
   pub text : List ℕ
   pub put : Appends text old new
-  pub pairs : EndsInPairs level (obligations_of p []).decisions (λ e. Somewhere (λ r. Occurs p r.input e) runs) (map (λ file. file.name) files) text
+  pub pairs : EndsInPairs level (obligations_of p []).decisions (λ e. Somewhere (λ r. Occurs p r.input e) runs)
+      (map (λ file. file.name) files) text
 
--- For every program, every object of it, and the traces of runs of that object on any inputs: after Done of coverage over these files at a level
--- that asks for pairs, what was put ends in the least pairs of the program's own executions.
+-- For every program, every object of it, and the traces of runs of that object on any inputs: after Done of coverage over
+-- these files at a level that asks for pairs, what was put ends in the least pairs of the program's own executions.
 unfoldable pub LeastPairsAreShown : Option Task → Call → Status → Type 0
 LeastPairsAreShown task call status =
     (held : Held) (level : Level) (annotation : Annotation) (object : List ℕ) (names : List (List ℕ))
-    → call.held ≡ Some held → task ≡ Some (Coverage level annotation object names) → status ≡ Done → asks_pairs level ≡ true
-    → (files : List SourceFile) (main : List ℕ) (p : Program) (o : Object) → IsObjectOf files main p o → finmap.get held object ≡ Some (object_bytes o)
+    → call.held ≡ Some held → task ≡ Some (Coverage level annotation object names) → status ≡ Done
+    → asks_pairs level ≡ true
+    → (files : List SourceFile) (main : List ℕ) (p : Program) (o : Object) → IsObjectOf files main p o
+    → finmap.get held object ≡ Some (object_bytes o)
     → (runs : List ARun) → AreTracesOf held o names runs → Everywhere (λ r. IsInput r.input) runs
     → WhereTold (PutsLeastPairs level p files runs) call.written call.written_after

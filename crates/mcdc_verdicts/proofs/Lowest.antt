@@ -6,12 +6,12 @@ use Rattle.cov_base.specs.declared.event.Vector.{Vector}
 use Rattle.decision_meaning.specs.Expr.{Expr, size}
 use Rattle.decision_meaning.specs.Graph.{graph}
 use Rattle.decision_meaning.specs.Marks.{Marks, marks, bit, same, unmasked, precedes}
-use Rattle.decision_meaning.specs.Pair.{Pair, pair_precedes, is_masking, Everywhere, Somewhere, IsPairOf, IsLeastPair}
+use Rattle.decision_meaning.specs.Pair.{Pair, pair_precedes, is_masking, Everywhere, Somewhere, IsLeastPair}
 use Rattle.decision_meaning.specs.Path.{IsPathVector}
-use Rattle.mcdc_verdicts.specs.Search.{widest, IsWord, shows, precedes_least, lower, lowest, in_turn, pair_of}
-use Rattle.mcdc_verdicts.proofs.Lists.{everywhere-map, itself}
+use Rattle.mcdc_verdicts.specs.Search.{widest, IsWord, shows, precedes_least, lower, lowest, pair_of}
+use Rattle.mcdc_verdicts.proofs.Lists.{itself}
 use Rattle.mcdc_verdicts.proofs.Ordering.{key_from, by_keys, pairs_by_keys}
-use Rattle.mcdc_verdicts.proofs.Searching.{narrow, narrow_vectors, everywhere_both}
+use Rattle.mcdc_verdicts.proofs.Searching.{narrow, narrow_vectors}
 
 -- the place of a vector in the order
 abbrev key : Vector → ℕ

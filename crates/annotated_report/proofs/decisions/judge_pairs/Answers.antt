@@ -8,7 +8,7 @@ use Rattle.annotated_report.specs.declared.finding.Finding.{Finding}
 use Rattle.annotated_report.specs.declared.finding.PairLine.{PairLine}
 use Rattle.annotated_report.specs.Findings.{asks_pairs, expr_of, unpaired}
 use Rattle.annotated_report.specs.Members.{AreAlike}
-use Rattle.annotated_report.specs.Shown.{paired, asked_pairs}
+use Rattle.annotated_report.specs.Shown.{paired}
 use Rattle.annotated_report.specs.Verdicts.{is_covered}
 use Rattle.annotated_report.proofs.Alike.{everywhere_within, same_covered, same_unpaired, same_paired}
 use Rattle.annotated_report.proofs.decisions.judge_pairs.Goals as goal

@@ -1,4 +1,4 @@
-use Rattle.std.proofs.Common.{◌≡◌, List, IsPermutation, subst}
+use Rattle.std.proofs.Common.{List, IsPermutation, subst}
 use Rattle.cov_base.specs.declared.event.Vector.{Vector}
 use Rattle.annotated_report.proofs.Sorted.{vectors_alike}
 use Rattle.annotated_report.proofs.ordered.in_order_once.Goals as goal

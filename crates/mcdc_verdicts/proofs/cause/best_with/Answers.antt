@@ -1,4 +1,4 @@
-use Rattle.std.proofs.Common.{◌≡◌, Bool, false, List, sym, subst, ◌∙◌}
+use Rattle.std.proofs.Common.{◌≡◌, false, List, sym, subst, ◌∙◌}
 use Rattle.decision_meaning.specs.Graph.{Edges}
 use Rattle.decision_meaning.specs.Marks.{marks, unmasked}
 use Rattle.decision_meaning.specs.Pair.{Everywhere, is_unique_cause}
