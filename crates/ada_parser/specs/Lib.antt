@@ -10,3 +10,4 @@ pub mod Grammar
 pub mod UnitReading
 pub mod UnitDepth
 pub mod Refusal
+pub mod Opening

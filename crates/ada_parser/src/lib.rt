@@ -3,7 +3,7 @@
 //!
 //! The grammar stands in `specs/` as what token lists derive, a case for each production; it knows
 //! nothing of the parser. Productions open with an [`Extent`](expression_parser::Extent): [`parse`] is for
-//! the extent of straight-line programs, and [`parse_within`] for any. The tokens are read with one of
+//! the language that is open today, and [`parse_within`] for any extent. The tokens are read with one of
 //! them in view; that this reading is the derivation is proved in `proofs/`, for every extent.
 //!
 //! The contract that the layers above use: [`parse`] answers the units that the tokens derive, or

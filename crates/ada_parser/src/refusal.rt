@@ -3,8 +3,8 @@
 ghost use Rattle.std.specs.Prelude.{◌≡◌, IfOk, IfErr, sum_by};
 ghost use Rattle.ada_syntax.specs.Nodes.{unit_nodes};
 ghost use Rattle.declaration_parser.specs.NodeTokens.{node_tokens};
-ghost use Rattle.expression_parser.specs.declared.extent.Extent.TheVariants.{StraightLine};
 ghost use Rattle.ada_parser.specs.Grammar.{IsFile};
+ghost use Rattle.ada_parser.specs.Opening.{open_extent};
 ghost use Rattle.ada_parser.specs.Refusal as refusal;
 
 use crate::units::file;
@@ -14,6 +14,9 @@ use cov_base::{Failure, Pos};
 use expression_parser::{Extent, Fault, Parser};
 use std::alloc::Global;
 use thiserror::Error;
+
+/// How much of the language is open today.
+const OPEN_EXTENT: Extent = Extent::ShortCircuit;
 
 /// The tokens derive no file. The place is that of the first token with which the tokens so far
 /// begin none, or, where there is no such token, that of the last one. Without tokens it is line 1
@@ -70,12 +73,12 @@ pub fn parse_within(
     }
 }
 
-/// The library units of a file of straight-line code, from its tokens.
+/// The library units of a file of the language as it is open today, from its tokens.
 pub fn parse(alloc: Global, tokens: &[Token]) -> Result<Vec<Unit>, Failure<SyntaxFault>>
-    ensures tree { IfOk result (λ units. IsFile StraightLine units.items tokens.now) }
-    ensures only_tree { IfOk result (λ units. refusal.IsOnlyFile StraightLine tokens.now units.items) }
+    ensures tree { IfOk result (λ units. IsFile open_extent units.items tokens.now) }
+    ensures only_tree { IfOk result (λ units. refusal.IsOnlyFile open_extent tokens.now units.items) }
     ensures nodes { IfOk result (λ units. sum_by unit_nodes units.items ≡ node_tokens tokens.now) }
-    ensures refused { IfErr result (refusal.RefusedBy StraightLine tokens.now) }
+    ensures refused { IfErr result (refusal.RefusedBy open_extent tokens.now) }
 {
-    parse_within(alloc, Extent::StraightLine, tokens)
+    parse_within(alloc, OPEN_EXTENT, tokens)
 }

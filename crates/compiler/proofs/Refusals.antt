@@ -15,7 +15,8 @@ use Rattle.compiler.specs.Legal.{IsLegal, AreRefused, no_units, breaks_names, br
 use Rattle.cov_base.specs.declared.obligations.SourceFile.{SourceFile}
 use Rattle.cov_base.specs.declared.position.Pos.{Pos}
 use Rattle.generic_expand.specs.Expanded.{first_past}
-use Rattle.compiler.specs.Units.{open_extent, all_tokens, first_nested, first_too_large, AreUnits, no_file, file_then, BreaksGrammar, here, behind, HaveTokens, HaveUnits, HaveNoUnits, too_large, without_tokens, too_deep, without_units}
+use Rattle.ada_parser.specs.Opening.{open_extent}
+use Rattle.compiler.specs.Units.{all_tokens, first_nested, first_too_large, AreUnits, no_file, file_then, BreaksGrammar, here, behind, HaveTokens, HaveUnits, HaveNoUnits, too_large, without_tokens, too_deep, without_units}
 use Rattle.compiler.specs.declared.fault.SourceFault.{SourceFault}
 
 none_some : {X : Type 0} (o : Option X) (x : X) → o ≡ None → o ≡ Some x → ⊥

@@ -14,7 +14,8 @@ use Rattle.cov_base.specs.declared.obligations.SourceFile.{SourceFile}
 use Rattle.compiler.specs.declared.fault.SourceFault.{SourceFault}
 use Rattle.parsed_programs.specs.Parsed.{AreTokensOf, AreOfFiles, no_file, and_file, AreTokensOfFiles, no_file_behind, tokens_then}
 use Rattle.compiler.specs.Units as sources
-use Rattle.compiler.specs.Units.{size_limit, first_too_large, all_tokens, lexed, before, open_extent, AreUnits, BreaksGrammar, HaveTokens, HaveUnits, HaveOnlyUnits, HaveNoUnits, without_units, FailsFor, first_nested}
+use Rattle.ada_parser.specs.Opening.{open_extent}
+use Rattle.compiler.specs.Units.{size_limit, first_too_large, all_tokens, lexed, before, AreUnits, BreaksGrammar, HaveTokens, HaveUnits, HaveOnlyUnits, HaveNoUnits, without_units, FailsFor, first_nested}
 use Rattle.compiler.specs.Steps.{FailsToParse, AreOnlyUnits}
 
 -- ---- tokens

@@ -5,21 +5,16 @@ use Rattle.ada_lexer.specs.declared.token.Token.{Token}
 use Rattle.ada_lexer.specs.Nesting.{nested_of}
 use Rattle.ada_lexer.specs.Tokens.{tokens_of}
 use Rattle.ada_parser.specs.Grammar.{IsFile}
+use Rattle.ada_parser.specs.Opening.{open_extent}
 use Rattle.ada_parser.specs.Refusal.{Refused}
 use Rattle.ada_syntax.specs.declared.unit.Unit.{Unit as LibraryUnit}
 use Rattle.cov_base.specs.declared.failure.Failure.{Failure}
 use Rattle.cov_base.specs.declared.failure.Failure.TheVariants.{Fault, WantOfMemory}
 use Rattle.cov_base.specs.declared.obligations.SourceFile.{SourceFile}
 use Rattle.cov_base.specs.declared.position.Pos.{Pos}
-use Rattle.expression_parser.specs.declared.extent.Extent.{Extent}
-use Rattle.expression_parser.specs.declared.extent.Extent.TheVariants.{ShortCircuit}
 use Rattle.compiler.specs.declared.fault.SourceFault.{SourceFault}
 use Rattle.compiler.specs.declared.fault.Why.{Why}
 use Rattle.compiler.specs.declared.fault.Why.TheVariants.{Limit, Lexical, Syntax}
-
--- how much of the language is open
-abbrev pub open_extent : Extent
-open_extent = ShortCircuit
 
 -- the most bytes of a source file
 abbrev pub size_limit : ℕ

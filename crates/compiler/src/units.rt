@@ -5,6 +5,7 @@ ghost use Rattle.std.specs.Prelude.{◌≡◌, ◌^◌, ◌<◌, ℕ, List, [], 
 ghost use Rattle.ada_places.specs.Places.{unit_conditions, decision_places, places_of};
 ghost use Rattle.ada_places.specs.Rising.{DecisionsRise, StatementsRise};
 ghost use Rattle.ada_parser.specs.Grammar.{IsFile};
+ghost use Rattle.ada_parser.specs.Opening.{open_extent};
 ghost use Rattle.ada_parser.specs.Refusal.{IsOnlyFile};
 ghost use Rattle.parsed_programs.specs.Parsed.{AreTokensOfFiles};
 ghost use Rattle.parsed_programs.specs.Places.{AreInFiles};
@@ -14,7 +15,6 @@ ghost use Rattle.compiler.specs.Units.{
   fault_in,
   first_nested,
   first_too_large,
-  open_extent,
   AreUnits,
   FailsFor,
   HaveNoUnits,
@@ -29,17 +29,13 @@ ghost use Rattle.compiler.specs.declared.fault.SourceFault.{SourceFault};
 
 use crate::fault::{SourceFault, Why};
 use ada_lexer::{LexFault, Token, lex, nested};
-use ada_parser::parse_within;
+use ada_parser::parse;
 use ada_syntax::Unit;
 use cov_base::{Failure, Pos, Seq, SourceFile};
-use expression_parser::Extent;
 use std::alloc::Global;
 
 /// The most bytes of a source file.
 const MAX_SOURCE: usize = 1_048_576;
-
-/// How much of the language is open.
-const OPEN_EXTENT: Extent = Extent::ShortCircuit;
 
 /// Where each file begins.
 const BEGINNING: Pos = Pos {
@@ -154,7 +150,7 @@ fn units_of_file(
     ensures only_units { IfOk result (λ units. IsOnlyFile open_extent tokens.now units.items) }
     ensures refused { IfErr result (FailsToParse file (tokens.now ∷ [])) }
 {
-    match parse_within(alloc, OPEN_EXTENT, tokens) {
+    match parse(alloc, tokens) {
         Ok(units) => Ok(units),
         Err(Failure::Fault(fault)) => Err(Failure::Fault(fault_in(file, fault.pos, Why::Syntax))),
         Err(Failure::WantOfMemory) => Err(Failure::WantOfMemory),

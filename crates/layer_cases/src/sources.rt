@@ -100,7 +100,7 @@ fn extent_of(word: &str) -> Extent {
 /// What the parser says of tokens within the extent that a word names.
 fn parsed(alloc: Global, tokens: &[Token], word: &str) -> Result<Vec<Unit>, Failure<SyntaxFault>> {
     match extent_of(word) {
-        Extent::StraightLine => parse(alloc, tokens),
+        Extent::ShortCircuit => parse(alloc, tokens),
         extent => parse_within(alloc, extent, tokens),
     }
 }

@@ -1,5 +1,5 @@
 use Rattle.std.proofs.lemmas.Result.{IfOk-weaker, IfErr-weaker}
-use Rattle.compiler.specs.Units.{open_extent}
+use Rattle.ada_parser.specs.Opening.{open_extent}
 use Rattle.parsed_programs.proofs.Files.{statements_rise, decisions_rise}
 use Rattle.parsed_programs.proofs.Within.{statements_within, decisions_within, conditions_within}
 use Rattle.compiler.proofs.UnitLaws.{lists_of_files, are_of_files, only_of_files, parsed_refused}
