@@ -9,6 +9,7 @@ use Rattle.cov_base.specs.declared.obligations.Obligations.{Obligations}
 use Rattle.cov_base.specs.declared.obligations.Place.{Place}
 use Rattle.cov_base.specs.declared.obligations.StmtEntry.{StmtEntry}
 use Rattle.decision_meaning.specs.Expr.{Expr}
+use Rattle.decision_meaning.specs.Expression.{expression_of}
 use Rattle.decision_meaning.specs.Pair.{Pair}
 use Rattle.annotated_report.specs.declared.finding.Finding.{Finding}
 use Rattle.annotated_report.specs.declared.finding.Key.{Key}
@@ -16,7 +17,6 @@ use Rattle.annotated_report.specs.declared.finding.Missing.{Missing}
 use Rattle.annotated_report.specs.declared.finding.Missing.TheVariants as missing
 use Rattle.annotated_report.specs.declared.finding.Subject.{Subject}
 use Rattle.annotated_report.specs.declared.finding.Subject.TheVariants as subject
-use Rattle.annotated_report.specs.Expression.{expression_of}
 use Rattle.annotated_report.specs.LeastPair.{shown_pair}
 use Rattle.annotated_report.specs.Numbered.{each_numbered, sum_numbered}
 use Rattle.annotated_report.specs.Order.{in_order}

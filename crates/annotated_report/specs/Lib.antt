@@ -1,5 +1,4 @@
 pub mod Words
-pub mod Expression
 pub mod Verdicts
 pub mod LeastPair
 pub mod Numbered

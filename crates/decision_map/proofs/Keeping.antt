@@ -18,7 +18,8 @@ use Rattle.decision_map.specs.declared.condition.Condition.{Condition}
 use Rattle.decision_map.specs.declared.graphs.DecisionGraph.{DecisionGraph}
 use Rattle.decision_map.specs.declared.kind.WordKind.{WordKind}
 use Rattle.decision_map.specs.declared.kind.WordKind.TheVariants.{Branch, HistoryBranch, Stop}
-use Rattle.decision_map.specs.Decisions.{expression_of, is_tree, is_tree_at, graph_of_entry}
+use Rattle.decision_meaning.specs.Expression.{expression_of}
+use Rattle.decision_map.specs.Decisions.{is_tree, is_tree_at, graph_of_entry}
 use Rattle.decision_map.specs.Kinds.{kind_of_instr, kind_of_word, keeps_history, address_of, kinds_of_text}
 use Rattle.decision_map.specs.Mapped.{plain, marked}
 use Rattle.decision_map.specs.Roles.{condition_of, IsMappable}

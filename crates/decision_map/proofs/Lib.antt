@@ -1,4 +1,3 @@
-pub mod Postfix
 pub mod Trees
 pub mod Standing
 pub mod RoleSearch

@@ -9,9 +9,10 @@ use Rattle.decision_meaning.specs.Graph.{Edges, graph, IsTree}
 use Rattle.object_format.specs.declared.object.Object.{Object}
 use Rattle.decision_map.specs.declared.condition.Condition.{Condition}
 use Rattle.decision_map.specs.declared.graphs.DecisionGraph.{DecisionGraph}
-use Rattle.decision_map.specs.Decisions.{expression_of, is_tree, is_tree_at, graph_at, graph_of_entry}
+use Rattle.decision_meaning.specs.Expression.{expression_of}
+use Rattle.decision_map.specs.Decisions.{is_tree, is_tree_at, graph_at, graph_of_entry}
 use Rattle.decision_map.specs.Roles.{condition_at, needs_history, NeedsHistory}
-use Rattle.decision_map.proofs.Postfix.{read_postfix}
+use Rattle.decision_meaning.proofs.Postfix.{read_postfix}
 use Rattle.decision_map.proofs.Trees.{tree_law}
 
 not_true : (b : Bool) → not b ≡ true → b ≡ true → ⊥

@@ -6,7 +6,7 @@ use Rattle.decision_meaning.specs.Expr.{Expr, IsPostfixOf}
 use Rattle.decision_meaning.specs.Graph.{Edges, graph, IsTree}
 use Rattle.decision_map.specs.declared.graphs.DecisionGraph.{DecisionGraph}
 use Rattle.decision_map.specs.Decisions.{is_tree, graph_of_entry}
-use Rattle.decision_map.proofs.Postfix.{read_postfix}
+use Rattle.decision_meaning.proofs.Postfix.{read_postfix}
 
 pub tree_law : (graph : List Edges) → is_tree graph ≡ true ↔ IsTree graph
 unfolding is_tree

@@ -10,3 +10,4 @@ pub mod Pairs
 pub mod Symmetry
 pub mod Choices
 pub mod AllEdges
+pub mod Postfix

@@ -1,4 +1,5 @@
 pub mod Expr
+pub mod Expression
 pub mod Graph
 pub mod Marks
 pub mod Path

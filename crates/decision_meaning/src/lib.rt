@@ -5,13 +5,20 @@
 
 ghost use Rattle.std.specs.Prelude.{◌≡◌, ◌<◌, ℕ, suc, Bool, true, false, not, List, length, Some};
 ghost use Rattle.cov_base.specs.declared.event.Vector.{Vector};
-ghost use Rattle.decision_meaning.specs.Expr.{Expr, size, value_of};
+ghost use Rattle.decision_meaning.specs.Expr.{Expr, size, value_of, IsPostfixOf};
+ghost use Rattle.decision_meaning.specs.Expression.{expression_of};
 ghost use Rattle.decision_meaning.specs.Graph.{graph, node, leaf, next_in, IsTree};
 ghost use Rattle.decision_meaning.specs.Marks.{Marks, marks, outcome, unmasked, precedes};
 ghost use Rattle.decision_meaning.specs.Pair.{is_unique_cause, is_masking, Pair, Everywhere, IsLeastPair};
 ghost use Rattle.decision_meaning.specs.Path.{Step, LeadsTo, vector_of, IsPathVector, walked};
 ghost use Rattle.decision_meaning.specs.Turn.{can_turn};
 ghost use Rattle.decision_meaning.specs.Verdict.{TakesAllEdges, HasPair};
+
+/// The bytes of a decision spell one expression, which is the one that is read from them.
+#[tactic(auto, using(crate::proofs::Postfix::read_postfix))]
+pub fn bytes_spell_one_expression()
+    ensures { (bytes : List ℕ) (e : Expr) → IsPostfixOf bytes e → expression_of bytes ≡ e }
+{}
 
 /// A graph has a node for each condition.
 #[tactic(auto, using(crate::proofs::Edges::length_graph))]

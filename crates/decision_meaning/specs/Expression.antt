@@ -32,5 +32,5 @@ latest [] = condition
 latest (e ∷ below) = e
 
 -- the expression that a decision's bytes spell
-abbrev pub expression_of : List ℕ → Expr
+unfoldable pub expression_of : List ℕ → Expr
 expression_of bytes = latest (read_bytes bytes [])
