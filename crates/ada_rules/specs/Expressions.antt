@@ -63,9 +63,14 @@ closed is_open before p g =
     then given (record g.value { form = decision_form (decision_label before p) g.value.at g.value.form }) (measured p (test_of g.value.at g.value.form) g.next)
     else g
 
--- a part of an instance is one of its generic's declarations, with actuals for formals; of what is no generic nothing is known (RM 12.3)
+-- a part of an instance is one of its generic's declarations, with actuals for formals, but no formal itself; of what is no generic nothing
+-- is known (RM 12.3)
+abbrev pub unless_formal : Region → List ℕ → Option Entity → Option Entity
+unless_formal formals name x = if is_some (entity_of name formals) then None else x
+
 abbrev pub part_of_generic : ℕ → List Actual → List ℕ → Interface → Option Entity
-part_of_generic n actuals name (generic_interface formals region) = option_map (seen n actuals) (shown (entity_of name region))
+part_of_generic n actuals name (generic_interface formals region) =
+    option_map (seen n actuals) (unless_formal formals name (shown (entity_of name region)))
 part_of_generic n actuals name i = Some component
 
 -- a part of what a unit declares (RM 4.1.3). A generic is no package from outside.

@@ -130,6 +130,9 @@ actual_plan env s n before f x = do
 
 -- an actual that there is no formal for is looked at for its names
 abbrev pub any_plan : Env → State → source.Expr → Plan (Given Actual)
+any_plan env s (source.named p x) = do
+  d ← denoted env s x
+  rule (Some (given any_actual d.next))
 any_plan env s x = do
   y ← judged env itself s x
   rule (Some (given any_actual y.next))
