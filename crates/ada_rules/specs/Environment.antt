@@ -8,7 +8,7 @@ use Rattle.ada_meaning.specs.Program.{LibraryObject, ExceptionDeclaration, Insta
 use Rattle.ada_meaning.specs.Types.{Owner, here, of_instance, Static, Subtype}
 use Rattle.ada_rules.specs.Plan.{Plan, Judgement, ◌>>=◌, rule, construct}
 use Rattle.ada_rules.specs.Types.{Identity, declared_in, AdaSubtype}
-use Rattle.ada_rules.specs.Statics.{Known, Test, Demand, Facts}
+use Rattle.ada_rules.specs.Statics.{Test, Demand, Asked, asked, instantiated, Facts}
 use Rattle.ada_rules.specs.Entities.{key, Entity, hidden, mark, routine, test_io, unit, Routine, Region, entity_of, is_new, redefined, Actual, seen, shown}
 
 -- the two steps: the rules on names of all units come before those on types
@@ -73,7 +73,7 @@ pub record State : Type 0 where
   pub library_objects : ℕ
   pub exceptions : ℕ
   pub types : ℕ
-  pub demands : List Demand
+  pub demands : List Asked
   pub excesses : List Pos
   pub types_declared : List Declares
   pub words : List Words
@@ -170,7 +170,7 @@ one_type_more s = record s { types = s.types + 1 }
 
 -- with one more demand
 abbrev pub demanded : Env → Pos → Test → State → State
-demanded env p t s = record s { demands = record { place = p; generic = env.generic; test = t } ∷ s.demands }
+demanded env p t s = record s { demands = asked (record { place = p; generic = env.generic; test = t }) ∷ s.demands }
 
 abbrev pub all_demanded : Env → Pos → List Test → State → State
 all_demanded env p [] s = s

@@ -42,13 +42,19 @@ abbrev pub after_step : {A : Type 0} → (Pos → Checked) → Result A Pos → 
 after_step refusal (Err p) later = refusal p
 after_step refusal (Ok x) later = later x
 
+-- the steps behind the rules on names, each where those before it pass: the rules on types, those on static values, the counted limits
+abbrev pub after_counts : Library → List ℕ → Walked → Checked
+after_counts l main x = refused_or too_large (first_excess x.world x.next l.units) (λ u. legal (program_of x.world x.next main))
+
+abbrev pub after_values : Library → List ℕ → Walked → Checked
+after_values l main x = refused_or mistyped (first_unmet x.world.instances (reverse x.next.demands)) (λ u. after_counts l main x)
+
+abbrev pub after_names : Library → List ℕ → Checked
+after_names l main = after_step mistyped (judged_in typing l main).answer (λ x. after_values l main x)
+
 -- the name of the main unit is given in lower case
 abbrev pub checked_in : Library → List ℕ → Checked
-checked_in l main =
-    after_step unnamed (judged_in naming l main).answer (λ names.
-    after_step mistyped (judged_in typing l main).answer (λ x.
-    refused_or mistyped (first_unmet x.world.instances (reverse x.next.demands)) (λ u.
-    refused_or too_large (first_excess x.world x.next l.units) (λ v. legal (program_of x.world x.next main)))))
+checked_in l main = after_step unnamed (judged_in naming l main).answer (λ x. after_names l main)
 
 abbrev pub checked : List LibraryUnit → List ℕ → Checked
 checked units main = checked_in (library_of units) main

@@ -13,3 +13,4 @@ pub mod Library
 pub mod Units
 pub mod Limits
 pub mod Legal
+pub mod Refusals

@@ -1,8 +1,8 @@
 -- Static expressions (Ada RM 2012, 4.9), and what the rules demand of their values: a demand is met in each instance of the generic in whose
 -- text it stands, or, where it stands in none, once.
-use Rattle.std.specs.Prelude.{ℕ, zero, suc, nat_eq, nat_le, ℤ, pos, negsuc, ◌+ℤ◌, ◌-ℤ◌, int_lt, int_le, ◌+◌, ◌*◌, Bool, true, false, not, ◌&&◌, ◌||◌, List, [], ◌∷◌, ◌++◌, map, filter, find, Option, Some, None, option_map, is_none, is_some, slice_get, unwrap_or, if◌then◌else◌}
+use Rattle.std.specs.Prelude.{ℕ, zero, suc, nat_eq, nat_le, ℤ, pos, negsuc, ◌+ℤ◌, ◌-ℤ◌, int_lt, int_le, ◌+◌, ◌*◌, Bool, true, false, not, ◌&&◌, ◌||◌, List, [], ◌∷◌, ◌++◌, map, Option, Some, None, option_map, is_none, is_some, slice_get, unwrap_or, if◌then◌else◌}
 use Rattle.std.specs.List.{list_all, list_any}
-use Rattle.std.specs.Option.{option_and_then}
+use Rattle.std.specs.Option.{option_and_then, option_or}
 use Rattle.std.specs.Ordering.{int_eq}
 use Rattle.cov_base.specs.TextOrder.{precedes}
 use Rattle.cov_base.specs.declared.position.Pos.{Pos}
@@ -46,6 +46,29 @@ pub record Demand : Type 0 where
   pub place : Pos
   pub generic : Option ℕ
   pub test : Test
+
+-- demands in the order in which they are made, with the instances where they stand among them
+pub data Asked : Type 0 where
+  asked : Demand → Asked
+  instantiated : (generic instance : ℕ) → Asked
+
+-- an instance that was made
+pub record Made : Type 0 where
+  pub generic : ℕ
+  pub instance : ℕ
+
+abbrev pub stands_in : Option ℕ → Option ℕ → Bool
+stands_in (Some g) (Some h) = nat_eq g h
+stands_in g h = false
+
+-- the instances of a generic among these, or, for what stands in none, instance 0
+abbrev pub made_of : ℕ → List Made → List ℕ
+made_of g [] = []
+made_of g (m ∷ ms) = if nat_eq m.generic g then m.instance ∷ made_of g ms else made_of g ms
+
+abbrev pub looked_in : List Made → Option ℕ → List ℕ
+looked_in made None = 0 ∷ []
+looked_in made (Some g) = made_of g made
 
 -- what an instance has for a formal, in numbers: a value, the bounds of a subtype and of its type, or those of a function's result
 pub data Fact : Type 0 where
@@ -176,11 +199,23 @@ module _ (instances : List Facts) where
   places_of None = 0 ∷ []
   places_of (Some g) = instances_from 1 g instances
 
-  abbrev pub is_satisfied : Demand → Bool
-  is_satisfied d = list_all (λ inst. holds inst d.test) (places_of d.generic)
+  -- where a demand is made that fails in one of these instances
+  abbrev pub failing : List ℕ → Demand → Option Pos
+  failing [] d = None
+  failing (i ∷ is) d = if holds i d.test then failing is d else Some d.place
 
--- the first demand that is not met; those that stand in no generic come first
-abbrev pub first_unmet : List Facts → List Demand → Option Pos
-first_unmet instances ds =
-    option_map (λ d. d.place) (find (λ d. not (is_satisfied instances d))
-        (filter (λ d. is_none d.generic) ds ++ filter (λ d. is_some d.generic) ds))
+  -- the first of these demands of a generic that fails in an instance
+  abbrev pub failing_in : ℕ → ℕ → List Demand → Option Pos
+  failing_in g i [] = None
+  failing_in g i (d ∷ ds) = option_or (if stands_in (Some g) d.generic then failing (i ∷ []) d else None) (failing_in g i ds)
+
+  -- the first demand that is not met, where these demands and these instances came before
+  abbrev pub unmet_behind : List Demand → List Made → List Asked → Option Pos
+  unmet_behind before made [] = None
+  unmet_behind before made (asked d ∷ rest) = option_or (failing (looked_in made d.generic) d) (unmet_behind (before ++ d ∷ []) made rest)
+  unmet_behind before made (instantiated g i ∷ rest) =
+      option_or (failing_in g i before) (unmet_behind before (record { generic = g; instance = i } ∷ made) rest)
+
+-- The first demand that is not met. A demand of a generic's text is asked in each instance after the demands on its actuals.
+abbrev pub first_unmet : List Facts → List Asked → Option Pos
+first_unmet instances xs = unmet_behind instances [] [] xs

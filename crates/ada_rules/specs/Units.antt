@@ -16,7 +16,7 @@ use Rattle.ada_syntax.specs.declared.unit.PackageSpecification.{PackageSpecifica
 use Rattle.ada_syntax.specs.declared.unit.SubprogramBody.{SubprogramBody}
 use Rattle.ada_syntax.specs.declared.unit.Unit.{Unit as LibraryUnit}
 use Rattle.ada_rules.specs.Plan.{Plan, Judgement, ◌>>=◌, rule, construct}
-use Rattle.ada_rules.specs.Statics.{Facts}
+use Rattle.ada_rules.specs.Statics.{Facts, Asked, instantiated}
 use Rattle.ada_rules.specs.Entities.{Actual, key, same_name, Entity, hidden, routine, unit, Region, predefined_region}
 use Rattle.ada_rules.specs.Environment.{Step, Interface, no_interface, package_interface, generic_interface, instance_interface, subprogram_interface, World, interface_of, State, beginning_state, Given, given, Returning, no_result, Env, with_local}
 use Rattle.ada_rules.specs.Denoted.{nowhere}
@@ -105,13 +105,20 @@ package_judged env s p n x = construct p (do
   rule (Some (record { world = with_interface env.world n (interface_with x.formals formals.value region.value); next = behind_unit (in_package env (generic_at x.formals n) n []) n region.next })))
 
 -- an instance: a package of its own, whose name is not visible in it (RM 12.3)
+abbrev pub instantiated_by : Option ℕ → ℕ → List Asked → List Asked
+instantiated_by None k ds = ds
+instantiated_by (Some g) k ds = instantiated g k ∷ ds
+
 abbrev pub with_instance : World → Pos → ℕ → ℕ → Instance → Option ℕ → List Actual → State → Walked
 with_instance w p n k i g actuals s = record {
   world = record w {
     interfaces = set w.interfaces n (instance_interface g k actuals);
     instances = set w.instances (pred k) (facts_made w g actuals);
   };
-  next = record s { instances_declared = instance_made w p i g actuals ∷ s.instances_declared };
+  next = record s {
+    instances_declared = instance_made w p i g actuals ∷ s.instances_declared;
+    demands = instantiated_by g k s.demands;
+  };
 }
 
 abbrev pub instance_judged : Env → State → Pos → ℕ → ℕ → Instance → Judgement Walked
