@@ -41,8 +41,8 @@ failing_in_fails : (instances : List Facts) (g i : ℕ) (ds : List Demand) (p : 
 failing_in_fails instances g i [] p e = cc
 failing_in_fails instances g i (d ∷ ds) p e =
     elim (either (if stands_in (Some g) d.generic then failing instances (i ∷ []) d else None) (failing_in instances g i ds) p e) [
-      inl h ↦ failing_if instances i d ds p (stands_in (Some g) d.generic) h
-    | inr h ↦ later_fails (failing_in_fails instances g i ds p h)
+      | inl h ↦ failing_if instances i d ds p (stands_in (Some g) d.generic) h
+      | inr h ↦ later_fails (failing_in_fails instances g i ds p h)
     ]
 
 -- a demand behind others
@@ -67,13 +67,13 @@ unmet_fails : (instances : List Facts) (before : List Demand) (made : List Made)
 unmet_fails instances before made [] p e = cc
 unmet_fails instances before made (asked d ∷ rest) p e =
     elim (either (failing instances (looked_in made d.generic) d) (unmet_behind instances (before ++ d ∷ []) made rest) p e) [
-      inl h ↦ inr (failing_fails instances (looked_in made d.generic) d (demands_of rest) p h)
-    | inr h ↦ joined before d (demands_of rest) (unmet_fails instances (before ++ d ∷ []) made rest p h)
+      | inl h ↦ inr (failing_fails instances (looked_in made d.generic) d (demands_of rest) p h)
+      | inr h ↦ joined before d (demands_of rest) (unmet_fails instances (before ++ d ∷ []) made rest p h)
     ]
 unmet_fails instances before made (instantiated g i ∷ rest) p e =
     elim (either (failing_in instances g i before) (unmet_behind instances before (record { generic = g; instance = i } ∷ made) rest) p e) [
-      inl h ↦ inl (failing_in_fails instances g i before p h)
-    | inr h ↦ unmet_fails instances before (record { generic = g; instance = i } ∷ made) rest p h
+      | inl h ↦ inl (failing_in_fails instances g i before p h)
+      | inr h ↦ unmet_fails instances before (record { generic = g; instance = i } ∷ made) rest p h
     ]
 
 among_none : {A : Type 0} {instances : List Facts} {p : Pos} → Fails instances p [] → A

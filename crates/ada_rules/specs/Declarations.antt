@@ -1,9 +1,6 @@
 -- The cases of declarations of types, subtypes, objects and exceptions (Ada RM 2012, 3.2.2 to 3.8, 11.1), and of what objects are set to.
-use Rattle.std.specs.Prelude.{ℕ, nat_eq, ◌+◌, pos, ◌-ℤ◌, Bool, true, false, not, ◌&&◌, List, [], ◌∷◌, ◌++◌, codes, map, length, Option, Some, None, option_map, is_some, unwrap_or, if◌then◌else◌}
-use Rattle.std.specs.Option.{option_and_then}
-use Rattle.std.specs.List.{list_all}
+use Rattle.std.specs.Prelude.{ℕ, nat_eq, ◌+◌, pos, ◌-ℤ◌, Bool, true, false, not, List, [], ◌∷◌, ◌++◌, codes, length, Option, Some, None, option_map, if◌then◌else◌}
 use Rattle.cov_base.specs.declared.position.Pos.{Pos}
-use Rattle.ada_syntax.specs.Tree as source
 use Rattle.ada_syntax.specs.Tree.{expr_pos, name_pos}
 use Rattle.ada_syntax.specs.declared.declaration.Bounds.{Bounds}
 use Rattle.ada_syntax.specs.declared.declaration.Component.{Component}
@@ -21,12 +18,12 @@ use Rattle.ada_syntax.specs.declared.declaration.TypeDefinition.TheVariants as d
 use Rattle.ada_syntax.specs.declared.name.Identifier.{Identifier}
 use Rattle.ada_meaning.specs.Program as program
 use Rattle.ada_meaning.specs.Tree as tree
-use Rattle.ada_meaning.specs.Types.{Owner, Static, static_number, Range, between, Subtype}
+use Rattle.ada_meaning.specs.Types.{Static, Range, between, Subtype}
 use Rattle.ada_rules.specs.Plan.{Plan, Judgement, ◌>>=◌, rule, construct}
 use Rattle.ada_rules.specs.Types.{Identity, AdaType, integer_type, enumeration, array_type, record_type, AdaSubtype, of_type, Fields, no_field, and_field, type_in, range_in, base, numbers, integer_subtype, is_scalar, Kind, is_integral, is_discrete, fits, common, settled, subtype_in_tree}
-use Rattle.ada_rules.specs.Statics.{Owed, Known, Spans, within, Test, lies_in, in_order, is_met}
-use Rattle.ada_rules.specs.Entities.{key, Variable, Entity, hidden, mark, literal, object, raisable, component, Region, redefined}
-use Rattle.ada_rules.specs.Environment.{Step, typed_rule, State, Words, Declares, Given, given, Env, with_local, opened, owner_of, new_identity, one_type_more, demanded, hide, hide_all, statement_label, started}
+use Rattle.ada_rules.specs.Statics.{Known, within, Test, lies_in, in_order}
+use Rattle.ada_rules.specs.Entities.{key, Entity, mark, literal, object, raisable, component, Region, redefined}
+use Rattle.ada_rules.specs.Environment.{typed_rule, State, Words, Given, given, Env, with_local, opened, owner_of, new_identity, one_type_more, demanded, hide, hide_all, statement_label, started}
 use Rattle.ada_rules.specs.Denoted.{Judged, expr_of}
 use Rattle.ada_rules.specs.Expressions.{itself, judged, Valued, folded, static_part, Marked, mark_part, scalar_mark}
 
@@ -71,7 +68,7 @@ index_of env s (discrete.Bounds b) = construct (expr_pos b.low) (do
   low ← static_part env s is_discrete (in_range base) b.low
   high ← static_part env low.next is_discrete (in_range base) b.high
   typed_rule env.step (given integer_subtype high.next)
-    (option_map (index_between env (expr_pos b.low) low high) (common low.value.kind high.value.kind)))
+      (option_map (index_between env (expr_pos b.low) low high) (common low.value.kind high.value.kind)))
 
 -- the components of a record, each of which hides its names in a region of their own (RM 3.8)
 abbrev pub with_fields : List Identifier → AdaSubtype → Fields → Fields
@@ -156,7 +153,7 @@ abbrev pub new_value : Env → State → AdaSubtype → Initial → Judgement (G
 new_value env s t i = construct (initial_pos i) (do
   x ← judged env itself s i.value
   typed_rule env.step (given (record { value = any_value; known = None }) x.next)
-    (option_map (λ v. given (record { value = v; known = known_of i.others x.value }) x.next) (value_for t i.others x.value)))
+      (option_map (λ v. given (record { value = v; known = known_of i.others x.value }) x.next) (value_for t i.others x.value)))
 
 -- the initial value of an object of the library level, which is static (this language's profile)
 abbrev pub innermost : AdaSubtype → List Pos → AdaSubtype
@@ -180,7 +177,7 @@ abbrev pub library_value : Env → State → AdaSubtype → Initial → Judgemen
 library_value env s t i = construct (initial_pos i) (do
   x ← static_part env s (λ k. true) (in_range (range_in (innermost t i.others))) i.value
   typed_rule env.step (given (record { initial = program.no_initial; known = None }) x.next)
-    (option_map (λ v. given (record { initial = v; known = known_value i.others x.value }) x.next) (initial_for t i.others x.value)))
+      (option_map (λ v. given (record { initial = v; known = known_value i.others x.value }) x.next) (initial_for t i.others x.value)))
 
 -- a declaration's result: the region behind it, the state, and of a subprogram or block the declarations of the typed program
 pub record Declared : Type 0 where
@@ -215,7 +212,13 @@ known_constant constancy.Constant k = k
 
 abbrev pub object_entity : tree.Object → Constancy → AdaSubtype → Option Known → Entity
 object_entity o c t k = object (record {
-  object = o; parts = tree.whole; subtype = t; is_writable = is_variable c; is_indexed = false; known = k; values = within (range_in t);
+  object = o;
+  parts = tree.whole;
+  subtype = t;
+  is_writable = is_variable c;
+  is_indexed = false;
+  known = k;
+  values = within (range_in t);
 })
 
 -- objects of a subprogram, in order, with the words that they have
@@ -285,15 +288,15 @@ abbrev pub objects_declared : Env → Pos → Constancy → Region → List Iden
 objects_declared env p c region is t None =
     if env.is_library
     then typed_rule env.step (library_declared env c region is t.value no_library_value t.next)
-        (option_map (λ u. library_declared env c region is t.value no_library_value t.next) (may_be_bare c))
+    (option_map (λ u. library_declared env c region is t.value no_library_value t.next) (may_be_bare c))
     else typed_rule env.step (local_bare c region is t) (option_map (λ u. local_bare c region is t) (may_be_bare c))
 objects_declared env p c region is t (Some i) =
     if env.is_library
     then library_value (with_local env region) t.next t.value i >>= (λ v.
-        typed_rule env.step (library_declared env c region is t.value v.value v.next)
-            (option_map (λ u. library_declared env c region is t.value v.value v.next) (one_name is)))
+    typed_rule env.step (library_declared env c region is t.value v.value v.next)
+    (option_map (λ u. library_declared env c region is t.value v.value v.next) (one_name is)))
     else new_value (with_local env region) t.next t.value i >>= (λ v.
-        typed_rule env.step (local_set env p c region is t.value v) (option_map (λ u. local_set env p c region is t.value v) (one_name is)))
+    typed_rule env.step (local_set env p c region is t.value v) (option_map (λ u. local_set env p c region is t.value v) (one_name is)))
 
 -- exceptions (RM 11.1), with the last part of their full names
 abbrev pub exception_name : Env → Identifier → List ℕ

@@ -1,8 +1,7 @@
 -- What names denote and what expressions are, by local rules on their parts (Ada RM 2012, 4.1, 4.5, 4.6, 6.4.1).
-use Rattle.std.specs.Prelude.{ℕ, zero, suc, nat_eq, nat_le, nat_lt, ◌+◌, ℤ, pos, Bool, true, false, not, ◌&&◌, ◌||◌, List, [], ◌∷◌, ◌++◌, codes, length, Option, Some, None, option_map, is_some, is_none, slice_get, unwrap_or, if◌then◌else◌}
+use Rattle.std.specs.Prelude.{ℕ, nat_eq, nat_lt, ◌+◌, pos, Bool, true, false, not, ◌&&◌, ◌||◌, List, [], ◌∷◌, ◌++◌, codes, length, Option, Some, None, option_map, if◌then◌else◌}
 use Rattle.std.specs.Option.{option_and_then}
 use Rattle.cov_base.specs.declared.position.Pos.{Pos}
-use Rattle.ada_syntax.specs.Tree as source
 use Rattle.ada_syntax.specs.declared.expr.UnaryOperator.{UnaryOperator}
 use Rattle.ada_syntax.specs.declared.expr.UnaryOperator.TheVariants as unary
 use Rattle.ada_syntax.specs.declared.expr.BinaryOperator.{BinaryOperator}
@@ -11,7 +10,7 @@ use Rattle.ada_syntax.specs.declared.expr.LogicalOperator.{LogicalOperator}
 use Rattle.ada_syntax.specs.declared.expr.LogicalOperator.TheVariants as logical
 use Rattle.ada_syntax.specs.declared.expr.RelationalOperator.{RelationalOperator}
 use Rattle.ada_syntax.specs.declared.expr.RelationalOperator.TheVariants as relational
-use Rattle.ada_meaning.specs.Program.{Mode, in_mode, out_mode, in_out_mode}
+use Rattle.ada_meaning.specs.Program.{Mode, in_mode}
 use Rattle.ada_meaning.specs.Tree as tree
 use Rattle.ada_meaning.specs.Types.{Sign, unary_plus, unary_minus, absolute_value, Operator, addition, subtraction, multiplication, division, modulus, remainder, Relation, equal, unequal, less, at_most, greater, at_least, Static, static_number, static_first, static_last, static_length, static_sign, static_operation, Range}
 use Rattle.ada_rules.specs.Types.{Identity, AdaType, array_type, record_type, AdaSubtype, of_type, Fields, no_field, and_field, type_in, range_in, is_scalar, is_integer, same_type, boolean_type, Kind, universal, kind_of, is_integral, is_discrete, is_boolean, fits, common}
@@ -58,7 +57,13 @@ pub data Denoted : Type 0 where
 -- what the step of names goes on with
 abbrev pub any_judged : Judged
 any_judged = record {
-  form = plain (tree.literal (pos 0)); at = nowhere; kind = universal; known = None; values = None; variable = None; is_name = false;
+  form = plain (tree.literal (pos 0));
+  at = nowhere;
+  kind = universal;
+  known = None;
+  values = None;
+  variable = None;
+  is_name = false;
 }
 
 -- a value of a type
@@ -280,12 +285,24 @@ complemented (test_form t) = test_form (negated t)
 -- an operator and its one operand (RM 4.5.4, 4.5.6)
 abbrev pub signed : Pos → Judged → Sign → Judged
 signed p x s = record {
-  form = plain (tree.signed s (expr_of x)); at = p; kind = x.kind; known = known_by (static_sign s) x.known; values = None; variable = None; is_name = false;
+  form = plain (tree.signed s (expr_of x));
+  at = p;
+  kind = x.kind;
+  known = known_by (static_sign s) x.known;
+  values = None;
+  variable = None;
+  is_name = false;
 }
 
 abbrev pub complement_of : Judged → Judged
 complement_of x = record {
-  form = complemented x.form; at = x.at; kind = x.kind; known = None; values = None; variable = None; is_name = false;
+  form = complemented x.form;
+  at = x.at;
+  kind = x.kind;
+  known = None;
+  values = None;
+  variable = None;
+  is_name = false;
 }
 
 abbrev pub unary_of : Pos → UnaryOperator → Judged → Option Judged
@@ -303,7 +320,13 @@ operator_of binary.Rem = remainder
 -- an operator and its two operands, of one integer type (RM 4.5.3, 4.5.5)
 abbrev pub operation_of : Pos → Operator → Judged → Judged → Kind → Judged
 operation_of p op x y k = record {
-  form = plain (tree.operation op (expr_of x) (expr_of y)); at = p; kind = k; known = known_of_both op x.known y.known; values = None; variable = None; is_name = false;
+  form = plain (tree.operation op (expr_of x) (expr_of y));
+  at = p;
+  kind = k;
+  known = known_of_both op x.known y.known;
+  values = None;
+  variable = None;
+  is_name = false;
 }
 
 abbrev pub binary_of : Pos → BinaryOperator → Judged → Judged → Option Judged
@@ -322,7 +345,7 @@ relation_of relational.GreaterOrEqual = at_least
 abbrev pub related : Pos → RelationalOperator → Judged → Judged → Option Judged
 related p op x y =
     option_and_then (λ k. if is_discrete k then Some (standing_at p (valued (tree.relation (relation_of op) (expr_of x) (expr_of y)) (kind_of boolean_type) None None)) else None)
-        (common x.kind y.kind)
+    (common x.kind y.kind)
 
 -- the short-circuit control forms, by the value of the left operand at which the right one counts (RM 4.5.1)
 abbrev pub neutral_of : LogicalOperator → Option Bool
@@ -334,7 +357,12 @@ neutral_of op = None
 abbrev pub circuit_of : Pos → Judged → Judged → Bool → Judged
 circuit_of p x y neutral = record {
   form = test_form (tree.operator neutral (test_of x.at x.form) (test_of y.at y.form));
-  at = p; kind = kind_of boolean_type; known = None; values = None; variable = None; is_name = false;
+  at = p;
+  kind = kind_of boolean_type;
+  known = None;
+  values = None;
+  variable = None;
+  is_name = false;
 }
 
 abbrev pub joined : Pos → LogicalOperator → Judged → Judged → Option Judged

@@ -1,16 +1,16 @@
 -- What names denote: entities and regions (Ada RM 2012, 8.1 to 8.3), the predefined names and those of Test_IO (A.1).
-use Rattle.std.specs.Prelude.{ℕ, zero, suc, nat_eq, ◌+◌, ℤ, pos, ◌-ℤ◌, Bool, true, false, not, ◌&&◌, ◌||◌, List, [], ◌∷◌, ◌++◌, codes, map, length, Option, Some, None, option_map, is_some, is_none, slice_get, unwrap_or, if◌then◌else◌}
+use Rattle.std.specs.Prelude.{ℕ, nat_eq, ℤ, pos, ◌-ℤ◌, Bool, false, List, [], ◌∷◌, codes, map, Option, Some, None, option_map, is_none, slice_get, if◌then◌else◌}
 use Rattle.std.specs.Cmp.Lexicographic.{pointwise}
 use Rattle.std.specs.Map.{lookup}
-use Rattle.std.specs.Option.{option_and_then, option_or}
+use Rattle.std.specs.Option.{option_or}
 use Rattle.std.specs.Str.{str_to_ascii_lowercase}
 use Rattle.ada_syntax.specs.declared.name.Identifier.{Identifier}
-use Rattle.ada_meaning.specs.Program.{Mode, in_mode, out_mode, in_out_mode}
+use Rattle.ada_meaning.specs.Program.{Mode, in_mode, out_mode}
 use Rattle.ada_meaning.specs.Resolved.{constraint_error, program_error, storage_error, end_error}
-use Rattle.ada_meaning.specs.Tree.{Object, library_object, local_object, Parts, whole, Callee, test_get, test_put, subprogram, formal_subprogram, ExceptionName, predefined, declared}
-use Rattle.ada_meaning.specs.Types.{Owner, here, of_instance, Static, static_number, static_formal, static_of, Range, range_of}
-use Rattle.ada_rules.specs.Types.{Identity, integer, natural, positive, boolean, declared_in, same_identity, AdaType, integer_type, enumeration, formal_type, array_type, record_type, AdaSubtype, of_type, Fields, no_field, and_field, type_in, range_in, same_type, numbers, integer_subtype, boolean_type, boolean_subtype}
-use Rattle.ada_rules.specs.Statics.{Owed, Known, Spans, within, formal_values, result_values, static_bounds}
+use Rattle.ada_meaning.specs.Tree.{Object, library_object, local_object, Parts, Callee, test_get, test_put, subprogram, ExceptionName, predefined, declared}
+use Rattle.ada_meaning.specs.Types.{Owner, here, of_instance, Static, static_of, range_of}
+use Rattle.ada_rules.specs.Types.{Identity, integer, natural, positive, boolean, declared_in, AdaType, integer_type, enumeration, formal_type, array_type, record_type, AdaSubtype, of_type, Fields, no_field, and_field, range_in, numbers, integer_subtype, boolean_type, boolean_subtype}
+use Rattle.ada_rules.specs.Statics.{Known, Spans, within, formal_values}
 
 -- identifiers are the same where they differ in case alone (RM 2.3): this is what they are compared by
 abbrev pub key : Identifier → List ℕ

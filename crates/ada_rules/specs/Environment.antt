@@ -1,15 +1,14 @@
 -- What a construct is looked at in: the step, the units of the program, the regions round it, and the counters of the walk.
-use Rattle.std.specs.Prelude.{ℕ, zero, suc, nat_eq, ◌+◌, Bool, true, false, not, ◌&&◌, ◌||◌, List, [], ◌∷◌, ◌++◌, map, length, Option, Some, None, option_map, is_some, slice_get, unwrap_or, if◌then◌else◌}
-use Rattle.std.specs.Option.{option_and_then, option_or}
+use Rattle.std.specs.Prelude.{ℕ, ◌+◌, Bool, true, false, List, [], ◌∷◌, ◌++◌, Option, Some, None, is_some, slice_get, unwrap_or, if◌then◌else◌}
 use Rattle.cov_base.specs.declared.position.Pos.{Pos}
 use Rattle.ada_syntax.specs.declared.name.Identifier.{Identifier}
 use Rattle.ada_meaning.specs.Tree.{Label}
 use Rattle.ada_meaning.specs.Program.{LibraryObject, ExceptionDeclaration, Instance, Subprogram}
-use Rattle.ada_meaning.specs.Types.{Owner, here, of_instance, Static, Subtype}
+use Rattle.ada_meaning.specs.Types.{Owner, here, of_instance, Subtype}
 use Rattle.ada_rules.specs.Plan.{Plan, Judgement, ◌>>=◌, rule, construct}
 use Rattle.ada_rules.specs.Types.{Identity, declared_in, AdaSubtype}
-use Rattle.ada_rules.specs.Statics.{Test, Demand, Asked, asked, instantiated, Facts}
-use Rattle.ada_rules.specs.Entities.{key, Entity, hidden, mark, routine, test_io, unit, Routine, Region, entity_of, is_new, redefined, Actual, seen, shown}
+use Rattle.ada_rules.specs.Statics.{Test, Asked, asked, Facts}
+use Rattle.ada_rules.specs.Entities.{key, Entity, hidden, routine, unit, Routine, Region, is_new, Actual}
 
 -- the two steps: the rules on names of all units come before those on types
 pub data Step : Type 0 where
@@ -87,9 +86,23 @@ pub record State : Type 0 where
 
 abbrev pub beginning_state : State
 beginning_state = record {
-  statements = 0; decisions = 0; objects = 0; library_objects = 0; exceptions = 0; types = 0;
-  demands = []; excesses = []; types_declared = []; words = []; subprogram_words = []; library_words = []; unit_words = [];
-  objects_declared = []; exceptions_declared = []; instances_declared = []; subprograms = [];
+  statements = 0;
+  decisions = 0;
+  objects = 0;
+  library_objects = 0;
+  exceptions = 0;
+  types = 0;
+  demands = [];
+  excesses = [];
+  types_declared = [];
+  words = [];
+  subprogram_words = [];
+  library_words = [];
+  unit_words = [];
+  objects_declared = [];
+  exceptions_declared = [];
+  instances_declared = [];
+  subprograms = [];
 }
 
 -- what a construct gives, and the state behind it

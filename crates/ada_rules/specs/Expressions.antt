@@ -1,21 +1,19 @@
 -- The cases of names and expressions (Ada RM 2012, 4.1, 4.4, 4.5, 4.9).
-use Rattle.std.specs.Prelude.{ℕ, nat_eq, nat_le, ◌+◌, pos, unwrap_or, Bool, true, false, not, ◌&&◌, List, [], ◌∷◌, ◌++◌, map, Option, Some, None, option_map, is_some, if◌then◌else◌}
+use Rattle.std.specs.Prelude.{ℕ, nat_eq, nat_le, pos, unwrap_or, Bool, false, not, List, [], ◌∷◌, ◌++◌, map, Option, Some, None, option_map, is_some, if◌then◌else◌}
 use Rattle.std.specs.Option.{option_and_then}
 use Rattle.cov_base.specs.declared.position.Pos.{Pos}
 use Rattle.ada_syntax.specs.Tree as source
 use Rattle.ada_syntax.specs.Tree.{expr_pos, name_pos}
 use Rattle.ada_syntax.specs.declared.expr.UnaryOperator.{UnaryOperator}
 use Rattle.ada_syntax.specs.declared.expr.UnaryOperator.TheVariants as unary
-use Rattle.ada_syntax.specs.declared.expr.LogicalOperator.{LogicalOperator}
-use Rattle.ada_syntax.specs.declared.name.Identifier.{Identifier}
 use Rattle.ada_meaning.specs.Tree as tree
 use Rattle.ada_meaning.specs.Types.{Static, static_number}
 use Rattle.ada_rules.specs.Plan.{Plan, Judgement, ◌>>=◌, rule, construct}
-use Rattle.ada_rules.specs.Types.{Identity, AdaType, AdaSubtype, type_in, range_in, integer_subtype, Kind, universal, is_scalar}
+use Rattle.ada_rules.specs.Types.{Identity, AdaSubtype, type_in, integer_subtype, Kind, universal, is_scalar}
 use Rattle.ada_rules.specs.Statics.{Known, Test, lies_in, value_in}
 use Rattle.ada_rules.specs.Entities.{key, Entity, component, Actual, Region, entity_of, visible, shown, seen, test_io_region}
-use Rattle.ada_rules.specs.Environment.{Step, naming, typing, typed_rule, Interface, no_interface, package_interface, generic_interface, instance_interface, subprogram_interface, World, interface_of, State, Given, given, Env, regions_of, decision_label, decided, demanded, all_demanded, exceeded}
-use Rattle.ada_rules.specs.Denoted.{Judged, any_judged, Denoted, a_mark, a_unit, the_test_io, a_thing, denoted_of, component_of, is_attribute, attribute_of, applied_to, value_of, standing_at, numeral_of, enclosed, unary_of, binary_of, related, neutral_of, joined, Form, plain, test_form, test_of, tested}
+use Rattle.ada_rules.specs.Environment.{Step, naming, typing, typed_rule, Interface, package_interface, generic_interface, instance_interface, World, interface_of, State, Given, given, Env, regions_of, decision_label, decided, all_demanded, exceeded}
+use Rattle.ada_rules.specs.Denoted.{Judged, any_judged, Denoted, a_mark, a_unit, the_test_io, a_thing, denoted_of, component_of, is_attribute, attribute_of, applied_to, value_of, standing_at, numeral_of, enclosed, unary_of, binary_of, related, neutral_of, joined, Form, plain, test_of, tested}
 
 -- an expression by itself, or an operand of the decision round it
 pub data Role : Type 0 where
@@ -133,7 +131,7 @@ abbrev mutual
   judged env r s (source.unary p op e) = construct p (do
     x ← judged env (role_under op) (entered (opens r (is_circuit_under op e)) s) e
     typed_rule env.step (given any_judged x.next)
-      (option_map (λ y. closed (opens r (is_circuit_under op e)) s p (given y x.next)) (unary_of p op x.value)))
+        (option_map (λ y. closed (opens r (is_circuit_under op e)) s p (given y x.next)) (unary_of p op x.value)))
   judged env r s (source.binary p a op b) = construct p (do
     x ← judged env itself s a
     y ← judged env itself x.next b
@@ -146,7 +144,7 @@ abbrev mutual
     x ← judged env operand (entered (opens r (is_some (neutral_of op))) s) a
     y ← judged env operand x.next b
     typed_rule env.step (given any_judged y.next)
-      (option_map (λ z. closed (opens r (is_some (neutral_of op))) s p (given z y.next)) (joined p op x.value y.value)))
+        (option_map (λ z. closed (opens r (is_some (neutral_of op))) s p (given z y.next)) (joined p op x.value y.value)))
 
   -- expressions, from the left; where there is none, this is where they would stand
   pub all_judged : Env → State → Pos → source.Exprs → Judgement (Given (List Judged))
@@ -161,7 +159,7 @@ abbrev pub decision : Env → State → source.Expr → Judgement (Given (tree.L
 decision env s e = construct (expr_pos e) (do
   x ← judged env operand (decided s) e
   typed_rule env.step (given (decision_label s (expr_pos e), test_of x.value.at x.value.form) x.next)
-    (option_map (λ t. given (decision_label s (expr_pos e), t) (measured (expr_pos e) t x.next)) (tested x.value)))
+      (option_map (λ t. given (decision_label s (expr_pos e), t) (measured (expr_pos e) t x.next)) (tested x.value)))
 
 -- a static value, and what it fits
 pub record Valued : Type 0 where
@@ -186,7 +184,7 @@ abbrev pub static_part : Env → State → (Kind → Bool) → (Static → Test)
 static_part env s accepts test e = construct (expr_pos e) (do
   x ← judged env itself s e
   typed_rule env.step (given any_valued x.next)
-    (option_and_then (accepted env x.next (expr_pos e) accepts test x.value) x.value.known))
+      (option_and_then (accepted env x.next (expr_pos e) accepts test x.value) x.value.known))
 
 -- the name of a type or subtype, and which it is (RM 3.2.2)
 pub record Marked : Type 0 where

@@ -1,5 +1,5 @@
 -- The cases of formals and of instances (Ada RM 2012, 12.1 to 12.6).
-use Rattle.std.specs.Prelude.{ℕ, zero, suc, nat_eq, ◌+◌, ℤ, pos, Bool, true, false, not, ◌&&◌, ◌||◌, List, [], ◌∷◌, ◌++◌, map, length, Option, Some, None, option_map, is_some, is_none, slice_get, unwrap_or, if◌then◌else◌}
+use Rattle.std.specs.Prelude.{ℕ, ◌+◌, ℤ, pos, Bool, true, false, ◌&&◌, List, [], ◌∷◌, ◌++◌, map, length, Option, Some, None, option_map, unwrap_or, if◌then◌else◌}
 use Rattle.std.specs.Option.{option_and_then}
 use Rattle.cov_base.specs.declared.position.Pos.{Pos}
 use Rattle.ada_syntax.specs.Tree as source
@@ -12,15 +12,15 @@ use Rattle.ada_syntax.specs.declared.unit.Instance.{Instance}
 use Rattle.ada_meaning.specs.Arithmetic.{base_range}
 use Rattle.ada_meaning.specs.Program as program
 use Rattle.ada_meaning.specs.Tree as tree
-use Rattle.ada_meaning.specs.Types.{Owner, here, of_instance, Static, static_formal, Range, formal_range}
+use Rattle.ada_meaning.specs.Types.{here, of_instance, Static, static_formal, Range, formal_range}
 use Rattle.ada_rules.specs.Plan.{Plan, Judgement, ◌>>=◌, rule, construct}
 use Rattle.ada_rules.specs.Types.{Identity, AdaType, formal_type, AdaSubtype, of_type, type_in, range_in, same_type, is_integer, is_scalar, integer_subtype, fits}
-use Rattle.ada_rules.specs.Statics.{Spans, Fact, number_fact, type_fact, result_fact, Facts, value_in, bounds_in, spans_in, result_values, within}
+use Rattle.ada_rules.specs.Statics.{Spans, Fact, number_fact, type_fact, result_fact, Facts, value_in, bounds_in, spans_in, result_values}
 use Rattle.ada_rules.specs.Entities.{key, Parameter, Routine, Entity, mark, formal_object, routine, unit, Region, redefined, Actual, object_actual, type_actual, routine_actual, subtype_seen, routine_seen, type_values, visible}
-use Rattle.ada_rules.specs.Environment.{Step, naming, typing, typed_rule, Interface, generic_interface, instance_interface, World, interface_of, State, Given, given, Env, regions_of, with_local, new_identity, one_type_more, hide}
+use Rattle.ada_rules.specs.Environment.{Step, naming, typing, typed_rule, Interface, generic_interface, World, interface_of, State, Given, given, Env, regions_of, with_local, new_identity, one_type_more, hide}
 use Rattle.ada_rules.specs.Denoted.{Denoted, a_mark, a_routine}
 use Rattle.ada_rules.specs.Expressions.{itself, denoted, judged, static_part, scalar_mark}
-use Rattle.ada_rules.specs.Declarations.{in_range, Declared}
+use Rattle.ada_rules.specs.Declarations.{in_range}
 use Rattle.ada_rules.specs.Subprograms.{Profile, same_mode, specified, declared_only}
 
 -- formal types are types of their own (RM 12.5); formals are numbered from 0
@@ -35,7 +35,11 @@ formal_type_declared env s i k integral = do
 -- a call of a formal subprogram is one of the actual (RM 12.6)
 abbrev pub formal_routine : ℕ → Profile → Entity
 formal_routine k q = routine (record {
-  callee = tree.formal_subprogram k; parameters = q.parameters; result = q.result; values = result_values k; awaits_body = false;
+  callee = tree.formal_subprogram k;
+  parameters = q.parameters;
+  result = q.result;
+  values = result_values k;
+  awaits_body = false;
 })
 
 abbrev pub formal_declared : Env → State → ℕ → FormalKind → Plan (Given Region)
@@ -184,7 +188,10 @@ generic_unit w (Some g) = g
 
 abbrev pub instance_made : World → Pos → Instance → Option ℕ → List Actual → program.Instance
 instance_made w p i g actuals = record {
-  name = key i.name; place = p; generic = generic_unit w g; actuals = map (typed_actual w.instances) actuals;
+  name = key i.name;
+  place = p;
+  generic = generic_unit w g;
+  actuals = map (typed_actual w.instances) actuals;
 }
 
 abbrev pub facts_made : World → Option ℕ → List Actual → Facts

@@ -1,7 +1,6 @@
 -- What a list of units comes to: a typed program, or the first of the rules' steps that refuses it, and where. The rules on names come
 -- first, then those on types, of which those on static values come last, then the counted limits.
-use Rattle.std.specs.Prelude.{ℕ, List, [], map, reverse, Option, Some, None, option_map, unwrap_or, Result, Ok, Err}
-use Rattle.std.specs.Option.{option_and_then}
+use Rattle.std.specs.Prelude.{ℕ, List, [], map, reverse, Option, Some, None, unwrap_or, Result, Ok, Err}
 use Rattle.cov_base.specs.declared.position.Pos.{Pos}
 use Rattle.cov_base.specs.TextOrder.{precedes}
 use Rattle.ada_syntax.specs.declared.unit.Unit.{Unit as LibraryUnit}

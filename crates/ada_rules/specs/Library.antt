@@ -1,21 +1,19 @@
 -- The library: the names of its units, what units name in `with`, and the order in which they depend on each other (Ada RM 2012, 10.1).
-use Rattle.std.specs.Prelude.{ℕ, zero, suc, nat_eq, ◌+◌, Bool, true, false, not, ◌&&◌, ◌||◌, List, [], ◌∷◌, ◌++◌, codes, map, length, Option, Some, None, option_map, is_some, is_none, slice_get, unwrap_or, if◌then◌else◌}
+use Rattle.std.specs.Prelude.{ℕ, zero, suc, nat_eq, ◌+◌, Bool, true, false, not, ◌&&◌, ◌||◌, List, [], ◌∷◌, ◌++◌, codes, map, length, Option, Some, None, option_map, slice_get, unwrap_or, if◌then◌else◌}
 use Rattle.std.specs.List.{list_all, list_any}
 use Rattle.std.specs.Map.{lookup}
 use Rattle.std.specs.Option.{option_and_then}
 use Rattle.ada_syntax.specs.declared.name.Identifier.{Identifier}
 use Rattle.ada_syntax.specs.declared.unit.BodyItem.{BodyItem}
 use Rattle.ada_syntax.specs.declared.unit.BodyItem.TheVariants as item
-use Rattle.ada_syntax.specs.declared.unit.Instance.{Instance}
 use Rattle.ada_syntax.specs.declared.unit.LibraryItem.{LibraryItem}
 use Rattle.ada_syntax.specs.declared.unit.LibraryItem.TheVariants as library
 use Rattle.ada_syntax.specs.declared.unit.PackageItem.{PackageItem}
 use Rattle.ada_syntax.specs.declared.unit.PackageItem.TheVariants as part
-use Rattle.ada_syntax.specs.declared.unit.SubprogramBody.{SubprogramBody}
 use Rattle.ada_syntax.specs.declared.unit.Unit.{Unit as LibraryUnit}
 use Rattle.ada_syntax.specs.declared.unit.WithClause.{WithClause}
-use Rattle.ada_rules.specs.Plan.{Plan, Judgement, ◌>>=◌, rule, construct}
-use Rattle.ada_rules.specs.Entities.{key, same_name, Entity, hidden, test_io, unit, Region}
+use Rattle.ada_rules.specs.Plan.{Judgement, ◌>>=◌, rule, construct}
+use Rattle.ada_rules.specs.Entities.{key, same_name, test_io, Region}
 use Rattle.ada_rules.specs.Environment.{BodyName, World, entity_of_unit}
 
 abbrev pub item_name : LibraryItem → Identifier
@@ -158,14 +156,17 @@ pub record Library : Type 0 where
 
 abbrev pub ordered_library : List LibraryUnit → List (List ℕ × ℕ) → List (List ℕ) → List ℕ → Library
 ordered_library units names graph order = record {
-  units = units; names = names; graph = graph; order = order;
+  units = units;
+  names = names;
+  graph = graph;
+  order = order;
   is_ordered = nat_eq (length order) (length (units_but_bodies 0 units));
 }
 
 abbrev pub library_of : List LibraryUnit → Library
 library_of units =
     ordered_library units (names_from 0 units) (graph_of (names_from 0 units) units)
-        (dependency_order (graph_of (names_from 0 units) units) (units_but_bodies 0 units))
+    (dependency_order (graph_of (names_from 0 units) units) (units_but_bodies 0 units))
 
 -- A name in a `with` clause of a unit denotes a unit of the library; among specifications, instances and library subprograms it does not
 -- lead back to the unit (RM 10.1.2, 10.2).

@@ -1,15 +1,12 @@
 -- The counted limits: conditions of a decision, parameters, and words of a type, of a subprogram and of the library level. A limit is
 -- passed at the first token of the smallest construct that takes the count past it.
-use Rattle.std.specs.Prelude.{ℕ, zero, suc, nat_eq, nat_le, ◌+◌, ◌*◌, Bool, true, false, List, [], ◌∷◌, ◌++◌, Option, Some, None, option_map, unwrap_or, if◌then◌else◌}
-use Rattle.std.specs.Option.{option_or}
+use Rattle.std.specs.Prelude.{ℕ, nat_eq, nat_le, ◌+◌, ◌*◌, Bool, List, [], ◌∷◌, Option, Some, None, if◌then◌else◌}
 use Rattle.cov_base.specs.TextOrder.{precedes}
 use Rattle.cov_base.specs.declared.position.Pos.{Pos}
-use Rattle.ada_syntax.specs.declared.unit.LibraryItem.{LibraryItem}
-use Rattle.ada_syntax.specs.declared.unit.LibraryItem.TheVariants as library
 use Rattle.ada_syntax.specs.declared.unit.Unit.{Unit as LibraryUnit}
 use Rattle.ada_meaning.specs.Arithmetic.{count_between}
 use Rattle.ada_meaning.specs.Program.{Bounds}
-use Rattle.ada_meaning.specs.Types.{Range, Subtype, scalar, array, fields, subtype_of, Components, no_component, and_component}
+use Rattle.ada_meaning.specs.Types.{Subtype, scalar, array, fields, subtype_of, Components, no_component, and_component}
 use Rattle.ada_rules.specs.Statics.{Facts, bounds_in, places_of}
 use Rattle.ada_rules.specs.Environment.{Interface, instance_interface, World, interface_of, Words, Declares, UnitWords, State}
 
@@ -104,4 +101,4 @@ first_unit w us n before (u ∷ rest) =
 abbrev pub first_excess : World → State → List LibraryUnit → Option Pos
 first_excess w s units =
     earlier_of (first_place s.excesses) (earlier_of (first_declared w.instances most_words_of_type s.types_declared)
-        (earlier_of (first_declared w.instances most_words_of_subprogram s.subprogram_words) (first_unit w s.unit_words 0 0 units)))
+    (earlier_of (first_declared w.instances most_words_of_subprogram s.subprogram_words) (first_unit w s.unit_words 0 0 units)))

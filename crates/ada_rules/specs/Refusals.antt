@@ -1,9 +1,9 @@
 -- What a refusal says: where it stands, and what is broken there.
-use Rattle.std.specs.Prelude.{◌≡◌, ℕ, Bool, false, List, [], ◌∷◌, reverse, Option, Some, None, Ok}
+use Rattle.std.specs.Prelude.{◌≡◌, ℕ, false, List, [], ◌∷◌, reverse, Ok}
 use Rattle.cov_base.specs.declared.position.Pos.{Pos}
 use Rattle.ada_syntax.specs.declared.unit.Unit.{Unit as LibraryUnit}
 use Rattle.ada_rules.specs.Plan.{Judgement, Offends}
-use Rattle.ada_rules.specs.Statics.{Demand, Asked, asked, Facts, holds, first_unmet}
+use Rattle.ada_rules.specs.Statics.{Demand, Asked, asked, Facts, holds}
 use Rattle.ada_rules.specs.Environment.{Step, naming, typing}
 use Rattle.ada_rules.specs.Library.{library_of}
 use Rattle.ada_rules.specs.Units.{Walked, judged_in}

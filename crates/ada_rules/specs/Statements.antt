@@ -1,5 +1,5 @@
 -- The cases of statements (Ada RM 2012, 5, 6.4, 6.5, 11.2, 11.3).
-use Rattle.std.specs.Prelude.{ℕ, nat_eq, ◌+◌, pos, Bool, true, false, not, ◌&&◌, ◌||◌, List, [], ◌∷◌, ◌++◌, length, Option, Some, None, option_map, is_some, is_none, unwrap_or, if◌then◌else◌}
+use Rattle.std.specs.Prelude.{ℕ, nat_eq, ◌+◌, pos, Bool, true, false, not, ◌&&◌, ◌||◌, List, [], ◌∷◌, ◌++◌, length, Option, Some, None, option_map, is_none, unwrap_or, if◌then◌else◌}
 use Rattle.std.specs.Option.{option_and_then}
 use Rattle.cov_base.specs.declared.position.Pos.{Pos}
 use Rattle.ada_syntax.specs.Tree as source
@@ -8,7 +8,6 @@ use Rattle.ada_syntax.specs.StatementTree as text
 use Rattle.ada_syntax.specs.declared.declaration.Declaration.{Declaration}
 use Rattle.ada_syntax.specs.declared.declaration.DiscreteRange.{DiscreteRange}
 use Rattle.ada_syntax.specs.declared.declaration.DiscreteRange.TheVariants as discrete
-use Rattle.ada_syntax.specs.declared.name.Identifier.{Identifier}
 use Rattle.ada_syntax.specs.declared.statement.Choice.{Choice}
 use Rattle.ada_syntax.specs.declared.statement.Choice.TheVariants as choice
 use Rattle.ada_syntax.specs.declared.statement.Direction.{Direction}
@@ -21,8 +20,8 @@ use Rattle.ada_meaning.specs.Types.{Static}
 use Rattle.ada_rules.specs.Plan.{Plan, Judgement, ◌>>=◌, rule, construct}
 use Rattle.ada_rules.specs.Types.{AdaType, AdaSubtype, of_type, type_in, range_in, base, integer_subtype, Kind, is_discrete, fits, common, settled, subtype_in_tree}
 use Rattle.ada_rules.specs.Statics.{Known, Spans, within, static_bounds, Test, chosen_in, in_order, covers}
-use Rattle.ada_rules.specs.Entities.{key, Variable, Parameter, Routine, Entity, object, Region, type_values}
-use Rattle.ada_rules.specs.Environment.{Step, typed_rule, Returning, no_result, result_of, State, Given, given, map_given, Env, with_local, opened, in_loop, in_handler, demanded, hide, statement_label, started}
+use Rattle.ada_rules.specs.Entities.{key, Variable, Routine, Entity, object, type_values}
+use Rattle.ada_rules.specs.Environment.{typed_rule, Returning, no_result, result_of, State, Given, given, Env, with_local, opened, in_loop, in_handler, demanded, hide, statement_label, started}
 use Rattle.ada_rules.specs.Denoted.{Judged, expr_of, Denoted, a_variable, a_routine, a_call, an_exception, called_bare}
 use Rattle.ada_rules.specs.Expressions.{itself, denoted, judged, decision, static_part, scalar_mark}
 use Rattle.ada_rules.specs.Declarations.{new_value, all_declared}
@@ -38,7 +37,13 @@ one x s = given (x ∷ []) s
 -- the target of an assignment: a variable (RM 5.2)
 abbrev pub any_variable : Variable
 any_variable = record {
-  object = tree.local_object 0; parts = tree.whole; subtype = integer_subtype; is_writable = true; is_indexed = false; known = None; values = within base;
+  object = tree.local_object 0;
+  parts = tree.whole;
+  subtype = integer_subtype;
+  is_writable = true;
+  is_indexed = false;
+  known = None;
+  values = within base;
 }
 
 abbrev pub writable : Denoted → Option Variable
@@ -101,7 +106,7 @@ chosen env s x (choice.Range b) = construct (expr_pos b.low) (do
   low ← static_part env s (fits x.type) (among x.values) b.low
   high ← static_part env low.next (fits x.type) (among x.values) b.high
   rule (Some (given (tree.range_choice low.value.value high.value.value)
-    (demanded env (expr_pos b.low) (in_order low.value.value high.value.value) high.next))))
+      (demanded env (expr_pos b.low) (in_order low.value.value high.value.value) high.next))))
 chosen env s x (choice.Others p) = construct p (rule (Some (given tree.other_values s)))
 
 abbrev pub all_chosen : Env → State → Selector → Pos → List Choice → Judgement (Given (List tree.Choice))
@@ -142,7 +147,7 @@ abbrev pub case_of : Env → State → Pos → Selector → Given (List Arm) →
 case_of env before p x arms =
     if ends_with_others arms.value
     then Some (one (tree.case_statement (statement_label before p) x.expr (alternatives_of arms.value))
-        (demanded env p (covers x.values (has_others (choices_in arms.value)) (choices_in arms.value)) arms.next))
+    (demanded env p (covers x.values (has_others (choices_in arms.value)) (choices_in arms.value)) arms.next))
     else None
 
 -- the range of a loop parameter, its subtype, and the values that a case on it names (RM 5.5)
@@ -176,11 +181,17 @@ turned env s (discrete.Bounds b) = construct (expr_pos b.low) (do
   x ← judged env itself s b.low
   y ← judged env itself x.next b.high
   typed_rule env.step (given any_turns y.next)
-    (option_map (λ t. given t y.next) (option_and_then (turns_between x.value y.value) (common x.value.kind y.value.kind))))
+      (option_map (λ t. given t y.next) (option_and_then (turns_between x.value y.value) (common x.value.kind y.value.kind))))
 
 abbrev pub loop_parameter : ℕ → Turns → Entity
 loop_parameter n t = object (record {
-  object = tree.local_object n; parts = tree.whole; subtype = t.subtype; is_writable = false; is_indexed = false; known = None; values = t.values;
+  object = tree.local_object n;
+  parts = tree.whole;
+  subtype = t.subtype;
+  is_writable = false;
+  is_indexed = false;
+  known = None;
+  values = t.values;
 })
 
 -- a loop parameter has one word
@@ -214,7 +225,7 @@ caught env s may_be_others (taken.Named n) = construct (name_pos n) (do
   d ← denoted env s n
   typed_rule env.step (given tree.other_exceptions d.next) (option_map (λ e. given (tree.named_exception e) d.next) (exception_of d.value)))
 caught env s may_be_others (taken.Others p) = construct p
-  (typed_rule env.step (given tree.other_exceptions s) (where_allowed may_be_others (given tree.other_exceptions s)))
+    (typed_rule env.step (given tree.other_exceptions s) (where_allowed may_be_others (given tree.other_exceptions s)))
 
 abbrev pub all_caught : Env → State → Bool → Pos → List ExceptionChoice → Judgement (Given (List tree.ExceptionChoice))
 all_caught env s may_be_others p [] = construct p (rule (Some (given [] s)))
@@ -264,7 +275,7 @@ abbrev mutual
     ys ← branched env xs.next p bs
     zs ← all_stated env ys.next p es
     rule (Some (one (tree.if_statement (statement_label s p)
-      (tree.branch t.value.0 t.value.1 (stmts_of xs.value) (branches_of ys.value zs.value))) zs.next)))
+        (tree.branch t.value.0 t.value.1 (stmts_of xs.value) (branches_of ys.value zs.value))) zs.next)))
   stated env s (text.case_of p e alternatives) = construct p (do
     x ← selector env (started s) e
     arms ← all_arms env x.next x.value p alternatives
@@ -283,17 +294,17 @@ abbrev mutual
         (one_object_more p t.value.subtype t.next) p ss
     rule (Some (one (tree.for_loop (statement_label s p) t.next.objects (is_reverse d) t.value.over (stmts_of xs.value)) xs.next)))
   stated env s (text.exit p None) = construct p
-    (typed_stmt env (statement_label s p) (started s) (where_allowed env.is_looping (tree.exit_statement (statement_label s p))))
+      (typed_stmt env (statement_label s p) (started s) (where_allowed env.is_looping (tree.exit_statement (statement_label s p))))
   stated env s (text.exit p (Some e)) = construct p (do
     t ← decision env (started s) e
     typed_stmt env (statement_label s p) t.next (where_allowed env.is_looping (tree.exit_when (statement_label s p) t.value.0 t.value.1)))
   stated env s (text.returns p None) = construct p
-    (typed_stmt env (statement_label s p) (started s) (returned (statement_label s p) env.returning))
+      (typed_stmt env (statement_label s p) (started s) (returned (statement_label s p) env.returning))
   stated env s (text.returns p (Some e)) = construct p (do
     x ← judged env itself (started s) e
     typed_stmt env (statement_label s p) x.next (returned_value (statement_label s p) x.value env.returning))
   stated env s (text.raise p None) = construct p
-    (typed_stmt env (statement_label s p) (started s) (where_allowed env.is_handling (tree.raise_again (statement_label s p))))
+      (typed_stmt env (statement_label s p) (started s) (where_allowed env.is_handling (tree.raise_again (statement_label s p))))
   stated env s (text.raise p (Some n)) = construct p (do
     d ← denoted env (started s) n
     typed_stmt env (statement_label s p) d.next (option_map (tree.raise_statement (statement_label s p)) (exception_of d.value)))

@@ -1,16 +1,14 @@
 -- Static expressions (Ada RM 2012, 4.9), and what the rules demand of their values: a demand is met in each instance of the generic in whose
 -- text it stands, or, where it stands in none, once.
-use Rattle.std.specs.Prelude.{ℕ, zero, suc, nat_eq, nat_le, ℤ, pos, negsuc, ◌+ℤ◌, ◌-ℤ◌, int_lt, int_le, ◌+◌, ◌*◌, Bool, true, false, not, ◌&&◌, ◌||◌, List, [], ◌∷◌, ◌++◌, map, Option, Some, None, option_map, is_none, is_some, slice_get, unwrap_or, if◌then◌else◌}
-use Rattle.std.specs.List.{list_all, list_any}
+use Rattle.std.specs.Prelude.{ℕ, zero, suc, nat_eq, ℤ, pos, ◌+ℤ◌, ◌-ℤ◌, int_lt, int_le, ◌+◌, Bool, false, ◌&&◌, ◌||◌, List, [], ◌∷◌, ◌++◌, Option, Some, None, option_map, slice_get, unwrap_or, if◌then◌else◌}
+use Rattle.std.specs.List.{list_all}
 use Rattle.std.specs.Option.{option_and_then, option_or}
 use Rattle.std.specs.Ordering.{int_eq}
-use Rattle.cov_base.specs.TextOrder.{precedes}
 use Rattle.cov_base.specs.declared.position.Pos.{Pos}
-use Rattle.ada_meaning.specs.Arithmetic.{is_within, base_range, sign_of, exact, divides, natural}
+use Rattle.ada_meaning.specs.Arithmetic.{is_within, base_range, sign_of, exact, divides}
 use Rattle.ada_meaning.specs.Program.{Bounds}
 use Rattle.ada_meaning.specs.Tree.{Choice, value_choice, range_choice, other_values}
-use Rattle.ada_meaning.specs.Types.{Operator, Static, static_number, static_formal, static_first, static_last, static_length, static_sign, static_operation, static_of, Range, between, formal_range, range_of, Subtype, scalar, array, fields, subtype_of, Components, no_component, and_component}
-use Rattle.ada_rules.specs.Types.{base}
+use Rattle.ada_meaning.specs.Types.{Operator, Static, static_number, static_formal, static_first, static_last, static_length, static_sign, static_operation, static_of, Range, between, formal_range, range_of}
 
 -- a static value has to lie in a range
 pub record Owed : Type 0 where

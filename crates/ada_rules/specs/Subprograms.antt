@@ -1,9 +1,8 @@
 -- The cases of subprogram specifications and bodies (Ada RM 2012, 6.1, 6.3, 6.3.1, 6.5).
-use Rattle.std.specs.Prelude.{ℕ, zero, suc, nat_eq, nat_le, ◌+◌, Bool, true, false, not, ◌&&◌, ◌||◌, List, [], ◌∷◌, ◌++◌, reverse, length, Option, Some, None, option_map, is_some, is_none, unwrap_or, if◌then◌else◌}
+use Rattle.std.specs.Prelude.{ℕ, nat_eq, ◌+◌, Bool, true, false, not, ◌&&◌, List, [], ◌∷◌, ◌++◌, reverse, Option, Some, None, option_map, unwrap_or, if◌then◌else◌}
 use Rattle.std.specs.List.{list_all}
-use Rattle.std.specs.Option.{option_and_then}
 use Rattle.cov_base.specs.declared.position.Pos.{Pos}
-use Rattle.ada_syntax.specs.Tree.{Name, name_pos}
+use Rattle.ada_syntax.specs.Tree.{Name}
 use Rattle.ada_syntax.specs.declared.name.Identifier.{Identifier}
 use Rattle.ada_syntax.specs.declared.unit.Mode.{Mode}
 use Rattle.ada_syntax.specs.declared.unit.Mode.TheVariants as written
@@ -16,11 +15,11 @@ use Rattle.ada_meaning.specs.Tree as tree
 use Rattle.ada_rules.specs.Plan.{Plan, Judgement, ◌>>=◌, rule, construct}
 use Rattle.ada_rules.specs.Types.{Identity, same_identity, AdaSubtype, type_in, range_in, base, is_scalar, subtype_in_tree}
 use Rattle.ada_rules.specs.Statics.{Spans, within}
-use Rattle.ada_rules.specs.Entities.{key, same_name, Variable, Parameter, Routine, Entity, hidden, object, routine, Region, entity_of, redefined}
-use Rattle.ada_rules.specs.Environment.{Step, typed_rule, World, BodyName, Words, Declares, State, Given, given, Returning, no_result, result_of, Env, with_local, opened, owner_of, exceeded, declare, with_name, hide, hide_all}
+use Rattle.ada_rules.specs.Entities.{key, same_name, Parameter, Routine, Entity, hidden, object, routine, Region, entity_of, redefined}
+use Rattle.ada_rules.specs.Environment.{typed_rule, World, BodyName, State, Given, given, Returning, no_result, result_of, Env, with_local, opened, owner_of, exceeded, with_name, hide, hide_all}
 use Rattle.ada_rules.specs.Expressions.{Marked, mark_part}
-use Rattle.ada_rules.specs.Declarations.{counted, with_objects, all_declared}
-use Rattle.ada_rules.specs.Statements.{Frame, block_of, all_handled, frame_returns}
+use Rattle.ada_rules.specs.Declarations.{with_objects, all_declared}
+use Rattle.ada_rules.specs.Statements.{block_of, all_handled, frame_returns}
 
 -- `in` may be left out (RM 6.1)
 abbrev pub mode_of : Mode → program.Mode
@@ -47,7 +46,12 @@ pub record Profile : Type 0 where
 -- parameters are the first objects of their subprogram; those that are `in` are not assigned
 abbrev pub parameter_entity : ℕ → program.Mode → AdaSubtype → Entity
 parameter_entity n m t = object (record {
-  object = tree.local_object n; parts = tree.whole; subtype = t; is_writable = not (is_in m); is_indexed = false; known = None;
+  object = tree.local_object n;
+  parts = tree.whole;
+  subtype = t;
+  is_writable = not (is_in m);
+  is_indexed = false;
+  known = None;
   values = within (range_in t);
 })
 
@@ -140,7 +144,7 @@ subprogram_declared env s x = construct x.pos (do
   region ← hide env.local x.name
   q ← specified (with_local env region) s x
   rule (option_map (λ n. given (redefined (key x.name) (routine (routine_of env (key x.name) true q.value)) region) (declared_only s q.next))
-    (body_number env.world env.unit_name (key x.name))))
+      (body_number env.world env.unit_name (key x.name))))
 
 -- a body in a package completes a declaration that has none yet, or declares a subprogram (RM 6.3)
 abbrev pub to_complete : Region → Identifier → Option Entity → Option Region
@@ -224,7 +228,7 @@ body_judged env before b region name q = construct b.specification.pos (do
   f ← all_handled (with_local (inside_body env region name q.value) x.region) x.next b.specification.pos b.statements
   end ← closed_by b.specification.pos b.specification.name b.end_name
   typed_rule env.step (body_made env before q.value (block_of x.made f.value) f.next)
-    (if may_end b q.value.result then Some (body_made env before q.value (block_of x.made f.value) f.next) else None))
+      (if may_end b q.value.result then Some (body_made env before q.value (block_of x.made f.value) f.next) else None))
 
 -- a body in a package, and the region behind it
 abbrev pub with_routine : Env → Region → Identifier → Profile → Region

@@ -1,6 +1,5 @@
 -- Types and subtypes (Ada RM 2012, 3.2, 3.5, 3.6, 3.8, 12.5), and what expressions fit.
-use Rattle.std.specs.Prelude.{ℕ, nat_eq, ℤ, pos, negsuc, Bool, true, false, ◌&&◌, List, [], ◌∷◌, Option, Some, None, if◌then◌else◌}
-use Rattle.std.specs.Option.{option_and_then}
+use Rattle.std.specs.Prelude.{ℕ, nat_eq, ℤ, pos, negsuc, Bool, true, false, ◌&&◌, List, Option, Some, None, if◌then◌else◌}
 use Rattle.ada_meaning.specs.Types.{Owner, here, of_instance, Static, static_number, Range, between, formal_range, range_of, Subtype, Components, no_component, and_component}
 use Rattle.ada_meaning.specs.Types as meaning
 

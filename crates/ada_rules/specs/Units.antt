@@ -1,6 +1,5 @@
 -- The cases of library units, and of the whole program (Ada RM 2012, 7.1, 7.2, 10.1, 12.1, 12.3).
-use Rattle.std.specs.Prelude.{ℕ, zero, suc, pred, nat_eq, ◌+◌, Bool, true, false, not, ◌&&◌, ◌||◌, List, [], ◌∷◌, ◌++◌, codes, map, reverse, length, set, Option, Some, None, option_map, is_some, is_none, slice_get, unwrap_or, Result, Ok, Err, if◌then◌else◌}
-use Rattle.std.specs.Option.{option_and_then}
+use Rattle.std.specs.Prelude.{ℕ, pred, nat_eq, ◌+◌, Bool, true, false, ◌&&◌, ◌||◌, List, [], ◌∷◌, map, length, set, Option, Some, None, is_none, slice_get, if◌then◌else◌}
 use Rattle.cov_base.specs.declared.position.Pos.{Pos}
 use Rattle.ada_syntax.specs.declared.name.Identifier.{Identifier}
 use Rattle.ada_syntax.specs.declared.unit.BodyItem.{BodyItem}
@@ -18,18 +17,30 @@ use Rattle.ada_syntax.specs.declared.unit.Unit.{Unit as LibraryUnit}
 use Rattle.ada_rules.specs.Plan.{Plan, Judgement, ◌>>=◌, rule, construct}
 use Rattle.ada_rules.specs.Statics.{Facts, Asked, instantiated}
 use Rattle.ada_rules.specs.Entities.{Actual, key, same_name, Entity, hidden, routine, unit, Region, predefined_region}
-use Rattle.ada_rules.specs.Environment.{Step, Interface, no_interface, package_interface, generic_interface, instance_interface, subprogram_interface, World, interface_of, State, beginning_state, Given, given, Returning, no_result, Env, with_local}
+use Rattle.ada_rules.specs.Environment.{Step, Interface, no_interface, package_interface, generic_interface, instance_interface, subprogram_interface, World, interface_of, State, beginning_state, Given, given, no_result, Env, with_local}
 use Rattle.ada_rules.specs.Denoted.{nowhere}
-use Rattle.ada_rules.specs.Declarations.{Declared, declared}
-use Rattle.ada_rules.specs.Subprograms.{specified, declared_only, routine_of, subprogram_declared, closed_by, body_judged, packaged_body, fresh}
+use Rattle.ada_rules.specs.Declarations.{declared}
+use Rattle.ada_rules.specs.Subprograms.{specified, declared_only, routine_of, subprogram_declared, closed_by, body_judged, packaged_body}
 use Rattle.ada_rules.specs.Instances.{formals_declared, generic_named, formals_of, actuals_judged, instance_made, facts_made}
-use Rattle.ada_rules.specs.Library.{Library, is_instance, library_of, heading, item_name, unit_named, clause_names, instance_number, count_instances, all_bodies, seen_more}
+use Rattle.ada_rules.specs.Library.{Library, is_instance, heading, item_name, unit_named, clause_names, instance_number, all_bodies, seen_more}
 
 -- where a unit stands that sees this of the library, besides the predefined names
 abbrev pub env_of : Step → World → ℕ → List ℕ → Region → Env
 env_of step w n name region = record {
-  step = step; world = w; unit_number = n; unit_name = name; subprogram_name = []; generic = None; own_package = None; own = []; local = [];
-  outer = region ∷ predefined_region ∷ []; is_library = true; is_looping = false; is_handling = false; returning = no_result;
+  step = step;
+  world = w;
+  unit_number = n;
+  unit_name = name;
+  subprogram_name = [];
+  generic = None;
+  own_package = None;
+  own = [];
+  local = [];
+  outer = region ∷ predefined_region ∷ [];
+  is_library = true;
+  is_looping = false;
+  is_handling = false;
+  returning = no_result;
 }
 
 -- the text of a package, by the number of its unit, in which these are declared already
