@@ -7,7 +7,7 @@ use Rattle.ada_rules.specs.Statics.{computed, value_in, named_once}
 use Rattle.ada_rules.specs.Environment.{package_interface, generic_interface}
 use Rattle.ada_rules.specs.Denoted.{converts}
 use Rattle.ada_rules.specs.Expressions.{part_of_generic, part_of_interface}
-use Rattle.ada_rules.specs.Entities.{component}
+use Rattle.ada_rules.specs.Entities.{component, whole_standard}
 use Rattle.ada_rules.specs.Library.{dependency_order, library_of}
 use Rattle.ada_rules.specs.Units.{world_before}
 
@@ -53,10 +53,10 @@ in_order : dependency_order ((2 ∷ []) ∷ (0 ∷ []) ∷ [] ∷ []) (0 ∷ 1 �
 in_order = refl
 
 -- a generic is no package from outside
-no_part : part_of_interface (world_before (library_of [])) (codes "x") (generic_interface [] ((codes "x", component) ∷ [])) ≡ None
+no_part : part_of_interface (world_before (library_of whole_standard [])) (codes "x") (generic_interface [] ((codes "x", component) ∷ [])) ≡ None
 no_part = refl
 
-a_part : part_of_interface (world_before (library_of [])) (codes "x") (package_interface ((codes "x", component) ∷ [])) ≡ Some component
+a_part : part_of_interface (world_before (library_of whole_standard [])) (codes "x") (package_interface ((codes "x", component) ∷ [])) ≡ Some component
 a_part = refl
 
 -- a formal is no part of an instance

@@ -30,14 +30,16 @@ failing_by instances i is d ds p false h later e = this_fails i (place_of e) h
 failing_fails : (instances : List Facts) (is : List ℕ) (d : Demand) (ds : List Demand) (p : Pos)
     → failing instances is d ≡ Some p → Fails instances p (d ∷ ds)
 failing_fails instances [] d ds p e = cc
-failing_fails instances (i ∷ is) d ds p e = failing_by instances i is d ds p (holds instances i d.test) refl (failing_fails instances is d ds p) e
+failing_fails instances (i ∷ is) d ds p e =
+    failing_by instances i is d ds p (holds instances i d.test) refl (failing_fails instances is d ds p) e
 
 failing_if : (instances : List Facts) (i : ℕ) (d : Demand) (ds : List Demand) (p : Pos) (b : Bool)
     → (if b then failing instances (i ∷ []) d else None) ≡ Some p → Fails instances p (d ∷ ds)
 failing_if instances i d ds p true e = failing_fails instances (i ∷ []) d ds p e
 failing_if instances i d ds p false e = cc
 
-failing_in_fails : (instances : List Facts) (g i : ℕ) (ds : List Demand) (p : Pos) → failing_in instances g i ds ≡ Some p → Fails instances p ds
+failing_in_fails : (instances : List Facts) (g i : ℕ) (ds : List Demand) (p : Pos)
+    → failing_in instances g i ds ≡ Some p → Fails instances p ds
 failing_in_fails instances g i [] p e = cc
 failing_in_fails instances g i (d ∷ ds) p e =
     elim (either (if stands_in (Some g) d.generic then failing instances (i ∷ []) d else None) (failing_in instances g i ds) p e) [
@@ -46,13 +48,15 @@ failing_in_fails instances g i (d ∷ ds) p e =
     ]
 
 -- a demand behind others
-among_both : {instances : List Facts} {p : Pos} (before : List Demand) (d : Demand) → Fails instances p (before ++ d ∷ [])
+among_both : {instances : List Facts} {p : Pos} (before : List Demand) (d : Demand)
+    → Fails instances p (before ++ d ∷ [])
     → Fails instances p before ⊎ Fails instances p (d ∷ [])
 among_both [] d f = inr f
 among_both (x ∷ xs) d (this_fails i h k) = inl (this_fails i h k)
 among_both (x ∷ xs) d (later_fails f) = elim (among_both xs d f) [ inl g ↦ inl (later_fails g) | inr g ↦ inr g ]
 
-with_more : {instances : List Facts} {p : Pos} (d : Demand) (ds : List Demand) → Fails instances p (d ∷ []) → Fails instances p (d ∷ ds)
+with_more : {instances : List Facts} {p : Pos} (d : Demand) (ds : List Demand)
+    → Fails instances p (d ∷ []) → Fails instances p (d ∷ ds)
 with_more d ds (this_fails i h k) = this_fails i h k
 with_more d ds (later_fails f) = elim f [ ]
 
@@ -79,5 +83,6 @@ unmet_fails instances before made (instantiated g i ∷ rest) p e =
 among_none : {A : Type 0} {instances : List Facts} {p : Pos} → Fails instances p [] → A
 among_none f = elim f [ ]
 
-pub first_unmet_fails : (instances : List Facts) (xs : List Asked) (p : Pos) → first_unmet instances xs ≡ Some p → Fails instances p (demands_of xs)
+pub first_unmet_fails : (instances : List Facts) (xs : List Asked) (p : Pos)
+    → first_unmet instances xs ≡ Some p → Fails instances p (demands_of xs)
 first_unmet_fails instances xs p e = elim (unmet_fails instances [] [] xs p e) [ inl f ↦ among_none f | inr f ↦ f ]

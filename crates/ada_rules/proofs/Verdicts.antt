@@ -1,14 +1,13 @@
 -- What a verdict says of units.
 use Rattle.std.proofs.Common.{◌≡◌, ℕ, List, reverse, Option, Some, None, Result, Ok, Err, ap, sym, ◌∙◌, refl}
 use Rattle.cov_base.specs.declared.position.Pos.{Pos}
-use Rattle.ada_syntax.specs.declared.unit.Unit.{Unit as LibraryUnit}
 use Rattle.ada_meaning.specs.Program.{Program}
 use Rattle.ada_rules.specs.Statics.{first_unmet}
 use Rattle.ada_rules.specs.Environment.{naming, typing}
-use Rattle.ada_rules.specs.Library.{Library, library_of}
+use Rattle.ada_rules.specs.Library.{Library}
 use Rattle.ada_rules.specs.Limits.{first_excess}
 use Rattle.ada_rules.specs.Units.{Walked}
-use Rattle.ada_rules.specs.Legal.{Checked, unnamed, mistyped, too_large, legal, program_of, refused_or, after_step, after_counts, after_values, after_names, checked}
+use Rattle.ada_rules.specs.Legal.{Checked, unnamed, mistyped, too_large, legal, program_of, refused_or, after_step, after_counts, after_values, after_names, checked_in}
 use Rattle.ada_rules.specs.Refusals.{BreaksNames, BreaksTypes, by_form, by_value, looked_at}
 use Rattle.ada_rules.proofs.Laws.{refusal_offends, first_unmet_fails}
 
@@ -40,7 +39,8 @@ values_named : (o : Option Pos) (c : Checked) → unnamed_at c ≡ None → unna
 values_named None c h = h
 values_named (Some p) c h = refl
 
-types_named : (l : Library) (main : List ℕ) (r : Result Walked Pos) → unnamed_at (after_step mistyped r (λ x. after_values l main x)) ≡ None
+types_named : (l : Library) (main : List ℕ) (r : Result Walked Pos)
+    → unnamed_at (after_step mistyped r (λ x. after_values l main x)) ≡ None
 types_named l main (Err p) = refl
 types_named l main (Ok x) =
     values_named (first_unmet x.world.instances (reverse x.next.demands)) (after_counts l main x)
@@ -51,34 +51,37 @@ names_refused : {A : Type 0} (r : Result A Pos) (c : Checked) (p : Pos) → unna
 names_refused (Err q) c p h e = ap (λ x. Err x) (same_place e)
 names_refused (Ok x) c p h e = absurd (none_is_some (sym h ∙ e))
 
-pub names_broken : (units : List LibraryUnit) (main : List ℕ) (p : Pos) → checked units main ≡ unnamed p → BreaksNames units main p
-names_broken units main p e =
-    refusal_offends (looked_at naming units main) p
-    (names_refused (looked_at naming units main).answer (after_names (library_of units) main) p
-    (types_named (library_of units) main (looked_at typing units main).answer) (ap unnamed_at e))
+pub names_broken : (l : Library) (main : List ℕ) (p : Pos) → checked_in l main ≡ unnamed p → BreaksNames l main p
+names_broken l main p e =
+    refusal_offends (looked_at naming l main) p
+    (names_refused (looked_at naming l main).answer (after_names l main) p
+    (types_named l main (looked_at typing l main).answer) (ap unnamed_at e))
 
 -- the rules on types
 counts_typed : (o : Option Pos) (x : Program) → mistyped_at (refused_or too_large o (λ u. legal x)) ≡ None
 counts_typed None x = refl
 counts_typed (Some p) x = refl
 
-values_typed : (o : Option Pos) (c : Checked) (p : Pos) → mistyped_at c ≡ None → mistyped_at (refused_or mistyped o (λ u. c)) ≡ Some p → o ≡ Some p
+values_typed : (o : Option Pos) (c : Checked) (p : Pos) → mistyped_at c ≡ None
+    → mistyped_at (refused_or mistyped o (λ u. c)) ≡ Some p → o ≡ Some p
 values_typed None c p h e = absurd (none_is_some (sym h ∙ e))
 values_typed (Some q) c p h e = e
 
-types_broken_by : (units : List LibraryUnit) (main : List ℕ) (p : Pos) (r : Result Walked Pos) → (looked_at typing units main).answer ≡ r
-    → mistyped_at (after_step mistyped r (λ x. after_values (library_of units) main x)) ≡ Some p → BreaksTypes units main p
-types_broken_by units main p (Err q) h e = by_form (refusal_offends (looked_at typing units main) p (h ∙ ap (λ x. Err x) (same_place e)))
-types_broken_by units main p (Ok x) h e =
+types_broken_by : (l : Library) (main : List ℕ) (p : Pos) (r : Result Walked Pos) → (looked_at typing l main).answer ≡ r
+    → mistyped_at (after_step mistyped r (λ x. after_values l main x)) ≡ Some p → BreaksTypes l main p
+types_broken_by l main p (Err q) h e =
+    by_form (refusal_offends (looked_at typing l main) p (h ∙ ap (λ x. Err x) (same_place e)))
+types_broken_by l main p (Ok x) h e =
     by_value x h (first_unmet_fails x.world.instances (reverse x.next.demands) p
-    (values_typed (first_unmet x.world.instances (reverse x.next.demands)) (after_counts (library_of units) main x) p
-    (counts_typed (first_excess x.world x.next (library_of units).units) (program_of x.world x.next main)) e))
+    (values_typed (first_unmet x.world.instances (reverse x.next.demands)) (after_counts l main x) p
+    (counts_typed (first_excess x.world x.next l.units) (program_of x.world x.next main)) e))
 
-behind_names : {A : Type 0} (r : Result A Pos) (c : Checked) (p : Pos) → mistyped_at (after_step unnamed r (λ x. c)) ≡ Some p → mistyped_at c ≡ Some p
+behind_names : {A : Type 0} (r : Result A Pos) (c : Checked) (p : Pos)
+    → mistyped_at (after_step unnamed r (λ x. c)) ≡ Some p → mistyped_at c ≡ Some p
 behind_names (Err q) c p e = absurd (none_is_some e)
 behind_names (Ok x) c p e = e
 
-pub types_broken : (units : List LibraryUnit) (main : List ℕ) (p : Pos) → checked units main ≡ mistyped p → BreaksTypes units main p
-types_broken units main p e =
-    types_broken_by units main p (looked_at typing units main).answer refl
-    (behind_names (looked_at naming units main).answer (after_names (library_of units) main) p (ap mistyped_at e))
+pub types_broken : (l : Library) (main : List ℕ) (p : Pos) → checked_in l main ≡ mistyped p → BreaksTypes l main p
+types_broken l main p e =
+    types_broken_by l main p (looked_at typing l main).answer refl
+    (behind_names (looked_at naming l main).answer (after_names l main) p (ap mistyped_at e))

@@ -1,4 +1,5 @@
--- The cases of declarations of types, subtypes, objects and exceptions (Ada RM 2012, 3.2.2 to 3.8, 11.1), and of what objects are set to.
+-- The cases of declarations of types, subtypes, objects and exceptions (Ada RM 2012, 3.2.2 to 3.8, 11.1), and of what
+-- objects are set to.
 use Rattle.std.specs.Prelude.{ℕ, nat_eq, ◌+◌, pos, ◌-ℤ◌, Bool, true, false, not, List, [], ◌∷◌, ◌++◌, codes, length, Option, Some, None, option_map, if◌then◌else◌}
 use Rattle.cov_base.specs.declared.position.Pos.{Pos}
 use Rattle.ada_syntax.specs.Tree.{expr_pos, name_pos}
@@ -42,7 +43,8 @@ bounded env s accepts r b = construct (expr_pos b.low) (do
 
 -- a subtype indication; a constraint makes a subtype of a scalar one (RM 3.2.2)
 abbrev pub constrained : Marked → Given Range → Option (Given AdaSubtype)
-constrained m r = if is_scalar (type_in m.subtype) then Some (given (of_type (type_in m.subtype) r.value) r.next) else None
+constrained m r =
+    if is_scalar (type_in m.subtype) then Some (given (of_type (type_in m.subtype) r.value) r.next) else None
 
 abbrev pub constraint_of : Env → Given Marked → Option Bounds → Plan (Given AdaSubtype)
 constraint_of env m None = rule (Some (given m.value.subtype m.next))
@@ -179,7 +181,8 @@ library_value env s t i = construct (initial_pos i) (do
   typed_rule env.step (given (record { initial = program.no_initial; known = None }) x.next)
       (option_map (λ v. given (record { initial = v; known = known_value i.others x.value }) x.next) (initial_for t i.others x.value)))
 
--- a declaration's result: the region behind it, the state, and of a subprogram or block the declarations of the typed program
+-- a declaration's result: the region behind it, the state, and of a subprogram or block the declarations of the typed
+-- program
 pub record Declared : Type 0 where
   pub region : Region
   pub next : State
@@ -227,7 +230,8 @@ word_of t i = record { place = i.pos; subtype = subtype_in_tree t }
 
 abbrev pub local_objects : Constancy → AdaSubtype → Option Known → ℕ → Region → List Identifier → Region
 local_objects c t k n region [] = region
-local_objects c t k n region (i ∷ is) = local_objects c t k (n + 1) (redefined (key i) (object_entity (tree.local_object n) c t k) region) is
+local_objects c t k n region (i ∷ is) =
+    local_objects c t k (n + 1) (redefined (key i) (object_entity (tree.local_object n) c t k) region) is
 
 abbrev pub counted : AdaSubtype → List Identifier → List Words → List Words
 counted t [] ws = ws
@@ -260,7 +264,8 @@ library_entities env c t k n region [] = region
 library_entities env c t k n region (i ∷ is) =
     library_entities env c t k (n + 1) (redefined (key i) (object_entity (tree.library_object (owner_of env) n) c t k) region) is
 
-abbrev pub library_objects : Env → AdaSubtype → program.Initial → ℕ → List Identifier → List program.LibraryObject → List program.LibraryObject
+abbrev pub library_objects : Env → AdaSubtype → program.Initial → ℕ → List Identifier
+    → List program.LibraryObject → List program.LibraryObject
 library_objects env t v n [] os = os
 library_objects env t v n (i ∷ is) os =
     library_objects env t v (n + 1) is (record { declaration = n; generic = env.generic; subtype = subtype_in_tree t; initial = v } ∷ os)
@@ -284,7 +289,8 @@ abbrev pub no_library_value : LibraryValue
 no_library_value = record { initial = program.no_initial; known = None }
 
 -- where objects of this subtype are set to this, or to nothing
-abbrev pub objects_declared : Env → Pos → Constancy → Region → List Identifier → Given AdaSubtype → Option Initial → Plan Declared
+abbrev pub objects_declared : Env → Pos → Constancy → Region → List Identifier → Given AdaSubtype
+    → Option Initial → Plan Declared
 objects_declared env p c region is t None =
     if env.is_library
     then typed_rule env.step (library_declared env c region is t.value no_library_value t.next)
@@ -305,11 +311,20 @@ exception_name env i = prefixed env.subprogram_name (key i) where
   prefixed [] name = name
   prefixed (c ∷ cs) name = (c ∷ cs) ++ (codes "." ++ name)
 
+abbrev pub exception_of : Env → Identifier → ℕ → program.ExceptionDeclaration
+exception_of env i n = record {
+  declaration = n;
+  place = i.pos;
+  generic = env.generic;
+  unit = env.unit_name;
+  name = exception_name env i;
+}
+
 abbrev pub exception_declared : Env → Identifier → State → State
 exception_declared env i s = record s {
   exceptions = s.exceptions + 1;
   exceptions_declared =
-      record { declaration = s.exceptions; place = i.pos; generic = env.generic; unit = env.unit_name; name = exception_name env i } ∷ s.exceptions_declared;
+      exception_of env i s.exceptions ∷ s.exceptions_declared;
 }
 
 abbrev pub exceptions_from : Env → State → Region → List Identifier → Declared
@@ -320,7 +335,8 @@ exceptions_from env s region (i ∷ is) =
 -- a type that may have many words is counted against its limit
 abbrev pub type_counted : Env → Pos → AdaSubtype → State → State
 type_counted env p t s = record s {
-  types_declared = record { generic = env.generic; words = record { place = p; subtype = subtype_in_tree t } ∷ [] } ∷ s.types_declared;
+  types_declared =
+      record { generic = env.generic; words = record { place = p; subtype = subtype_in_tree t } ∷ [] } ∷ s.types_declared;
 }
 
 abbrev pub type_declared : Env → Pos → Identifier → Identity → Given Defined → Declared

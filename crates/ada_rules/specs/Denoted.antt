@@ -26,9 +26,9 @@ pub data Form : Type 0 where
   plain : tree.Expr → Form
   test_form : tree.Test → Form
 
--- An expression: its form; the first token of the operand that is left without `not` and parentheses; what it fits; its static value; the
--- values that a case on it names, where it is an object, a call or a conversion; the object or part of one that it reads, and whether it is
--- just its name.
+-- An expression: its form; the first token of the operand that is left without `not` and parentheses; what it fits; its
+-- static value; the values that a case on it names, where it is an object, a call or a conversion; the object or part
+-- of one that it reads, and whether it is just its name.
 pub record Judged : Type 0 where
   pub form : Form
   pub at : Pos
@@ -68,7 +68,8 @@ any_judged = record {
 
 -- a value of a type
 abbrev pub valued : tree.Expr → Kind → Option Known → Option Spans → Judged
-valued e k known values = record { form = plain e; at = nowhere; kind = k; known = known; values = values; variable = None; is_name = false }
+valued e k known values =
+    record { form = plain e; at = nowhere; kind = k; known = known; values = values; variable = None; is_name = false }
 
 abbrev pub just : Static → Option Known
 just e = Some (record { value = e; owes = [] })
@@ -78,7 +79,8 @@ denoted_of hidden = a_thing
 denoted_of (mark i t) = a_mark i t
 denoted_of (literal t x) = a_value (valued (tree.literal x) (kind_of t) (just (static_number x)) None)
 denoted_of (object v) = a_variable v
-denoted_of (formal_object t e) = a_value (valued (tree.constant e) (kind_of (type_in t)) (just e) (Some (within (range_in t))))
+denoted_of (formal_object t e) =
+    a_value (valued (tree.constant e) (kind_of (type_in t)) (just e) (Some (within (range_in t))))
 denoted_of (routine r) = a_routine r
 denoted_of (raisable e) = an_exception e
 denoted_of component = a_thing
@@ -109,7 +111,8 @@ field_among name n no_field = None
 field_among name n (and_field other t fs) = if same_name name other then Some (n, t) else field_among name (n + 1) fs
 
 abbrev pub field_of : List ℕ → Variable → AdaType → Option Denoted
-field_of name v (record_type i fs) = option_map (λ f. a_variable (part_of v f.1 false (tree.component f.0 tree.whole))) (field_among name 0 fs)
+field_of name v (record_type i fs) =
+    option_map (λ f. a_variable (part_of v f.1 false (tree.component f.0 tree.whole))) (field_among name 0 fs)
 field_of name v t = None
 
 abbrev pub component_of : List ℕ → Denoted → Option Denoted
@@ -128,7 +131,10 @@ limit_of name t r =
     else None
 
 abbrev pub extent_of : List ℕ → AdaSubtype → Option (Static × Kind)
-extent_of name x = if same_name name (codes "length") then Some (static_length (range_in x), universal) else limit_of name (type_in x) (range_in x)
+extent_of name x =
+    if same_name name (codes "length")
+    then Some (static_length (range_in x), universal)
+    else limit_of name (type_in x) (range_in x)
 
 -- of a scalar subtype, or of an array type
 abbrev pub attribute_of_type : List ℕ → AdaType → Range → Option (Static × Kind)
@@ -145,15 +151,16 @@ abbrev pub static_attribute : Static × Kind → Denoted
 static_attribute a = a_value (valued (tree.constant a.0) a.1 (just a.0) None)
 
 abbrev pub object_attribute : Variable → Static × Kind → Denoted
-object_attribute v a = if v.is_indexed then a_value (valued (tree.attribute v.object v.parts a.0) a.1 None None) else static_attribute a
+object_attribute v a =
+    if v.is_indexed then a_value (valued (tree.attribute v.object v.parts a.0) a.1 None None) else static_attribute a
 
 abbrev pub attribute_of : List ℕ → Denoted → Option Denoted
 attribute_of name (a_mark i (of_type t r)) = option_map static_attribute (attribute_of_type name t r)
 attribute_of name (a_variable v) = option_map (object_attribute v) (attribute_of_object name (type_in v.subtype))
 attribute_of name d = None
 
--- an expression as a test: the one that it is a decision of, or a condition that begins at this place; `not` is taken off, and two in
--- succession cancel
+-- an expression as a test: the one that it is a decision of, or a condition that begins at this place; `not` is taken
+-- off, and two in succession cancel
 abbrev pub negated : tree.Test → tree.Test
 negated (tree.negation t) = t
 negated t = tree.negation t
@@ -187,15 +194,23 @@ conversion_of t x =
 -- an element of an array (RM 4.1.1)
 abbrev pub element_of : Variable → AdaType → Judged → Option Denoted
 element_of v (array_type i x c) e =
-    if fits (type_in x) e.kind then Some (a_variable (part_of v c true (tree.element (range_in x) (expr_of e) tree.whole))) else None
+    if fits (type_in x) e.kind
+    then Some (a_variable (part_of v c true (tree.element (range_in x) (expr_of e) tree.whole)))
+    else None
 element_of v t e = None
 
 -- a variable of a parameter's type, for a mode that writes it (RM 6.4.1)
 abbrev pub written : AdaType → Variable → tree.Actuals → tree.Actuals
-written t v rest = if is_scalar t then tree.by_variable v.object v.parts (range_in v.subtype) rest else tree.by_composite v.object v.parts rest
+written t v rest =
+    if is_scalar t
+    then tree.by_variable v.object v.parts (range_in v.subtype) rest
+    else tree.by_composite v.object v.parts rest
 
 abbrev pub by_name : Parameter → tree.Actuals → Variable → Option tree.Actuals
-by_name q rest v = if v.is_writable && same_type (type_in v.subtype) (type_in q.subtype) then Some (written (type_in q.subtype) v rest) else None
+by_name q rest v =
+    if v.is_writable && same_type (type_in v.subtype) (type_in q.subtype)
+    then Some (written (type_in q.subtype) v rest)
+    else None
 
 -- an expression of a parameter's type, for a mode that reads it
 abbrev pub by_value : Parameter → Judged → tree.Actuals → Option tree.Actuals
@@ -240,7 +255,8 @@ read_of v = record {
 -- the value of a call of a function (RM 6.4)
 abbrev pub called : Routine → tree.Actuals → Option Parameter → Option Judged
 called r actuals None = None
-called r actuals (Some q) = Some (valued (tree.call r.callee actuals) (kind_of (type_in q.subtype)) None (Some r.values))
+called r actuals (Some q) =
+    Some (valued (tree.call r.callee actuals) (kind_of (type_in q.subtype)) None (Some r.values))
 
 -- a subprogram that is named without actuals has no parameters
 abbrev pub called_bare : {A : Type 0} → Routine → Option A → Option A
@@ -259,7 +275,9 @@ standing_at p x = record x { at = p }
 
 abbrev pub numeral_of : Pos → ℕ → Option Judged
 numeral_of p n =
-    if nat_lt n 2147483648 then Some (standing_at p (valued (tree.literal (pos n)) universal (just (static_number (pos n))) None)) else None
+    if nat_lt n 2147483648
+    then Some (standing_at p (valued (tree.literal (pos n)) universal (just (static_number (pos n))) None))
+    else None
 
 -- in parentheses it is no name, and no object, call or conversion
 abbrev pub enclosed : Judged → Judged
@@ -342,9 +360,12 @@ relation_of relational.Greater = greater
 relation_of relational.GreaterOrEqual = at_least
 
 -- a relation of two operands, of one discrete type (RM 4.5.2)
+abbrev pub relation_with : Pos → Relation → Judged → Judged → Judged
+relation_with p r x y = standing_at p (valued (tree.relation r (expr_of x) (expr_of y)) (kind_of boolean_type) None None)
+
 abbrev pub related : Pos → RelationalOperator → Judged → Judged → Option Judged
 related p op x y =
-    option_and_then (λ k. if is_discrete k then Some (standing_at p (valued (tree.relation (relation_of op) (expr_of x) (expr_of y)) (kind_of boolean_type) None None)) else None)
+    option_and_then (λ k. if is_discrete k then Some (relation_with p (relation_of op) x y) else None)
     (common x.kind y.kind)
 
 -- the short-circuit control forms, by the value of the left operand at which the right one counts (RM 4.5.1)
@@ -353,7 +374,8 @@ neutral_of logical.AndThen = Some true
 neutral_of logical.OrElse = Some false
 neutral_of op = None
 
--- a short-circuit control form and its two operands, which are Boolean; `and`, `or` and `xor` are no part of this language
+-- a short-circuit control form and its two operands, which are Boolean; `and`, `or` and `xor` are no part of this
+-- language
 abbrev pub circuit_of : Pos → Judged → Judged → Bool → Judged
 circuit_of p x y neutral = record {
   form = test_form (tree.operator neutral (test_of x.at x.form) (test_of y.at y.form));

@@ -19,8 +19,8 @@ key i = str_to_ascii_lowercase i.text
 abbrev pub same_name : List ℕ → List ℕ → Bool
 same_name a b = pointwise nat_eq a b
 
--- an object, or a part of one: where it stands, whether it may be assigned, whether an index stands in its name, the static value of a
--- constant, and the values that a case on it names
+-- an object, or a part of one: where it stands, whether it may be assigned, whether an index stands in its name, the
+-- static value of a constant, and the values that a case on it names
 pub record Variable : Type 0 where
   pub object : Object
   pub parts : Parts
@@ -37,7 +37,8 @@ pub record Parameter : Type 0 where
   pub mark : Option Identity
   pub subtype : AdaSubtype
 
--- a subprogram: what calls name, its parameters, and of a function the result and the values that a case on a call names
+-- a subprogram: what calls name, its parameters, and of a function the result and the values that a case on a call
+-- names
 pub record Routine : Type 0 where
   pub callee : Callee
   pub parameters : List Parameter
@@ -72,7 +73,8 @@ entity_of name region = lookup (same_name name) region
 abbrev pub is_new : Region → Identifier → Bool
 is_new region i = is_none (entity_of (key i) region)
 
--- what a name denotes where these regions stand one in the other, the innermost first: an inner declaration hides an outer one (RM 8.3)
+-- what a name denotes where these regions stand one in the other, the innermost first: an inner declaration hides an
+-- outer one (RM 8.3)
 abbrev pub found : List ℕ → List Region → Option Entity
 found name [] = None
 found name (r ∷ rs) = option_or (entity_of name r) (found name rs)
@@ -120,6 +122,15 @@ predefined_region =
     ∷ (codes "program_error", raisable (predefined program_error))
     ∷ (codes "storage_error", raisable (predefined storage_error)) ∷ []
 
+-- The names that are there before any unit: those of Standard, and the declarations of Test_IO. While the language
+-- grows these may be fewer.
+pub record Standard : Type 0 where
+  pub predefined : Region
+  pub test_io_declarations : Region
+
+abbrev pub whole_standard : Standard
+whole_standard = record { predefined = predefined_region; test_io_declarations = test_io_region }
+
 -- what an instance has for a formal (RM 12.3)
 pub data Actual : Type 0 where
   object_actual : Static → Actual
@@ -131,8 +142,9 @@ abbrev pub given_type : AdaType → Option Actual → AdaType
 given_type t (Some (type_actual (of_type u r))) = u
 given_type t a = t
 
--- Entities of a generic's text as they are seen through an instance with this number and these actuals (RM 12.3): what is declared there
--- belongs to the instance, formal types are the actual ones, and static values are those of the instance.
+-- Entities of a generic's text as they are seen through an instance with this number and these actuals (RM 12.3): what
+-- is declared there belongs to the instance, formal types are the actual ones, and static values are those of the
+-- instance.
 module _ (inst : ℕ) (actuals : List Actual) where
   abbrev pub owner_seen : Owner → Owner
   owner_seen here = of_instance inst
@@ -177,7 +189,8 @@ module _ (inst : ℕ) (actuals : List Actual) where
   }
 
   abbrev pub parameter_seen : Parameter → Parameter
-  parameter_seen q = record { name = q.name; mode = q.mode; mark = option_map identity_seen q.mark; subtype = subtype_seen q.subtype }
+  parameter_seen q =
+      record { name = q.name; mode = q.mode; mark = option_map identity_seen q.mark; subtype = subtype_seen q.subtype }
 
   abbrev pub callee_seen : Callee → Callee
   callee_seen (subprogram o n) = subprogram (owner_seen o) n

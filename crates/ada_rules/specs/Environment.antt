@@ -1,4 +1,5 @@
--- What a construct is looked at in: the step, the units of the program, the regions round it, and the counters of the walk.
+-- What a construct is looked at in: the step, the units of the program, the regions round it, and the counters of the
+-- walk.
 use Rattle.std.specs.Prelude.{ℕ, ◌+◌, Bool, true, false, List, [], ◌∷◌, ◌++◌, Option, Some, None, is_some, slice_get, unwrap_or, if◌then◌else◌}
 use Rattle.cov_base.specs.declared.position.Pos.{Pos}
 use Rattle.ada_syntax.specs.declared.name.Identifier.{Identifier}
@@ -8,7 +9,7 @@ use Rattle.ada_meaning.specs.Types.{Owner, here, of_instance, Subtype}
 use Rattle.ada_rules.specs.Plan.{Plan, Judgement, ◌>>=◌, rule, construct}
 use Rattle.ada_rules.specs.Types.{Identity, declared_in, AdaSubtype}
 use Rattle.ada_rules.specs.Statics.{Test, Asked, asked, Facts}
-use Rattle.ada_rules.specs.Entities.{key, Entity, hidden, routine, unit, Routine, Region, is_new, Actual}
+use Rattle.ada_rules.specs.Entities.{Standard, key, Entity, hidden, routine, unit, Routine, Region, is_new, Actual}
 
 -- the two steps: the rules on names of all units come before those on types
 pub data Step : Type 0 where
@@ -37,9 +38,10 @@ pub record BodyName : Type 0 where
   pub package_name : List ℕ
   pub name : List ℕ
 
--- The units: the library's names and numbers of units, what is seen of each, by its number, what instances have for formals, and the
--- bodies in the order of the text
+-- What there is: the names before any unit, the library's names and numbers of units, what is seen of each, by its
+-- number, what instances have for formals, and the bodies in the order of the text
 pub record World : Type 0 where
+  pub standard : Standard
   pub names : List (List ℕ × ℕ)
   pub interfaces : List Interface
   pub instances : List Facts
@@ -55,16 +57,18 @@ pub record Declares : Type 0 where
   pub generic : Option ℕ
   pub words : List Words
 
--- the objects of the library level that a unit declares: its number, that of its package, and whether it is the text of a generic
+-- the objects of the library level that a unit declares: its number, that of its package, and whether it is the text of
+-- a generic
 pub record UnitWords : Type 0 where
   pub unit : ℕ
   pub package_unit : ℕ
   pub generic : Option ℕ
   pub words : List Subtype
 
--- The counters of the walk: the next numbers of statements, decisions, objects of the subprogram, objects of the library level, exceptions
--- and types of the unit. And what it has found, the latest first: demands; places where a limit is passed that counts no words; types;
--- the words of the subprogram, of all subprograms, and of the unit's library level; objects, exceptions, instances and subprograms.
+-- The counters of the walk: the next numbers of statements, decisions, objects of the subprogram, objects of the
+-- library level, exceptions and types of the unit. And what it has found, the latest first: demands; places where a
+-- limit is passed that counts no words; types; the words of the subprogram, of all subprograms, and of the unit's
+-- library level; objects, exceptions, instances and subprograms.
 pub record State : Type 0 where
   pub statements : ℕ
   pub decisions : ℕ
@@ -121,9 +125,10 @@ pub data Returning : Type 0 where
   no_result : Returning
   result_of : AdaSubtype → Returning
 
--- Where a construct stands: the step, the units; the number of its unit, the names of it and of the subprogram; the generic and the
--- package in whose text it is, by the numbers of their units, and what the package has declared so far; the innermost region and those
--- round it; whether it stands among declarations of the library level, in a loop, in a handler; and what `return` gives.
+-- Where a construct stands: the step, the units; the number of its unit, the names of it and of the subprogram; the
+-- generic and the package in whose text it is, by the numbers of their units, and what the package has declared so far;
+-- the innermost region and those round it; whether it stands among declarations of the library level, in a loop, in a
+-- handler; and what `return` gives.
 pub record Env : Type 0 where
   pub step : Step
   pub world : World
@@ -193,7 +198,8 @@ all_demanded env p (t ∷ ts) s = all_demanded env p ts (demanded env p t s)
 abbrev pub exceeded : Bool → Pos → State → State
 exceeded b p s = if b then record s { excesses = p ∷ s.excesses } else s
 
--- A new name in a region: it is hidden from the start of its declaration (RM 8.3). Two declarations of one name in a region are refused.
+-- A new name in a region: it is hidden from the start of its declaration (RM 8.3). Two declarations of one name in a
+-- region are refused.
 abbrev pub with_name : Region → Identifier → Entity → Option Region
 with_name region i x = if is_new region i then Some (region ++ (key i, x) ∷ []) else None
 

@@ -11,7 +11,7 @@ use Rattle.ada_meaning.specs.Types.{Static, static_number}
 use Rattle.ada_rules.specs.Plan.{Plan, Judgement, ◌>>=◌, rule, construct}
 use Rattle.ada_rules.specs.Types.{Identity, AdaSubtype, type_in, integer_subtype, Kind, universal, is_scalar}
 use Rattle.ada_rules.specs.Statics.{Known, Test, lies_in, value_in}
-use Rattle.ada_rules.specs.Entities.{key, Entity, component, Actual, Region, entity_of, visible, shown, seen, test_io_region}
+use Rattle.ada_rules.specs.Entities.{key, Entity, component, Actual, Region, entity_of, visible, shown, seen}
 use Rattle.ada_rules.specs.Environment.{Step, naming, typing, typed_rule, Interface, package_interface, generic_interface, instance_interface, World, interface_of, State, Given, given, Env, regions_of, decision_label, decided, all_demanded, exceeded}
 use Rattle.ada_rules.specs.Denoted.{Judged, any_judged, Denoted, a_mark, a_unit, the_test_io, a_thing, denoted_of, component_of, is_attribute, attribute_of, applied_to, value_of, standing_at, numeral_of, enclosed, unary_of, binary_of, related, neutral_of, joined, Form, plain, test_of, tested}
 
@@ -55,14 +55,17 @@ measured p t s = exceeded (not (nat_le (tree.conditions_of t) most_conditions)) 
 abbrev pub decision_form : tree.Label → Pos → Form → Form
 decision_form l at f = plain (tree.decision l (test_of at f))
 
+abbrev pub labelled : tree.Label → Judged → Judged
+labelled l x = record x { form = decision_form l x.at x.form }
+
 abbrev pub closed : Bool → State → Pos → Given Judged → Given Judged
 closed is_open before p g =
     if is_open
-    then given (record g.value { form = decision_form (decision_label before p) g.value.at g.value.form }) (measured p (test_of g.value.at g.value.form) g.next)
+    then given (labelled (decision_label before p) g.value) (measured p (test_of g.value.at g.value.form) g.next)
     else g
 
--- a part of an instance is one of its generic's declarations, with actuals for formals, but no formal itself; of what is no generic nothing
--- is known (RM 12.3)
+-- a part of an instance is one of its generic's declarations, with actuals for formals, but no formal itself; of what
+-- is no generic nothing is known (RM 12.3)
 abbrev pub unless_formal : Region → List ℕ → Option Entity → Option Entity
 unless_formal formals name x = if is_some (entity_of name formals) then None else x
 
@@ -84,7 +87,10 @@ is_own None n = false
 is_own (Some m) n = nat_eq m n
 
 abbrev pub part_of_unit : Env → ℕ → List ℕ → Option Entity
-part_of_unit env n name = if is_own env.own_package n then shown (entity_of name env.own) else part_of_interface env.world name (interface_of env.world n)
+part_of_unit env n name =
+    if is_own env.own_package n
+    then shown (entity_of name env.own)
+    else part_of_interface env.world name (interface_of env.world n)
 
 abbrev pub named : State → Option Entity → Plan (Given Denoted)
 named s o = rule (option_map (λ x. given (denoted_of x) s) o)
@@ -92,13 +98,15 @@ named s o = rule (option_map (λ x. given (denoted_of x) s) o)
 -- a part of a package, or a component of a record
 abbrev pub selection : Env → State → Denoted → List ℕ → Plan (Given Denoted)
 selection env s (a_unit n) name = named s (part_of_unit env n name)
-selection env s the_test_io name = named s (entity_of name test_io_region)
+selection env s the_test_io name = named s (entity_of name env.world.standard.test_io_declarations)
 selection env s d name = typed_rule env.step (given a_thing s) (option_map (λ x. given x s) (component_of name d))
 
 -- an attribute's name is a rule on names
 abbrev pub attribution : Env → State → Denoted → List ℕ → Plan (Given Denoted)
 attribution env s d name =
-    if is_attribute name then typed_rule env.step (given a_thing s) (option_map (λ x. given x s) (attribute_of name d)) else rule None
+    if is_attribute name
+    then typed_rule env.step (given a_thing s) (option_map (λ x. given x s) (attribute_of name d))
+    else rule None
 
 -- a rule on types that an expression has to pass
 abbrev pub typed_as : Env → State → Option Judged → Plan (Given Judged)
@@ -171,7 +179,8 @@ any_valued = record { value = static_number (pos 0); kind = universal }
 
 -- outside generics a static expression is its value, where it has one
 abbrev pub folded : Env → Static → Static
-folded env e = if is_some env.generic then e else unwrap_or (option_map static_number (value_in env.world.instances 0 e)) e
+folded env e =
+    if is_some env.generic then e else unwrap_or (option_map static_number (value_in env.world.instances 0 e)) e
 
 abbrev pub accepted : Env → State → Pos → (Kind → Bool) → (Static → Test) → Judged → Known → Option (Given Valued)
 accepted env s p accepts test x k =
@@ -215,4 +224,5 @@ scalar_only m = if is_scalar (type_in m.subtype) then Some m else None
 abbrev pub scalar_mark : Env → State → source.Name → Judgement (Given Marked)
 scalar_mark env s n = construct (name_pos n) (do
   d ← denoted env s n
-  typed_rule env.step (given (unwrap_or (marked d.value) any_mark) d.next) (option_map (λ m. given m d.next) (option_and_then scalar_only (marked d.value))))
+  typed_rule env.step (given (unwrap_or (marked d.value) any_mark) d.next)
+      (option_map (λ m. given m d.next) (option_and_then scalar_only (marked d.value))))

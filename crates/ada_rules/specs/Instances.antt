@@ -78,7 +78,8 @@ generic_or_any env None = only_naming env.step where
 generic_or_any env (Some n) = Some (Some n)
 
 abbrev pub generic_named : Env → Identifier → Judgement (Option ℕ)
-generic_named env i = construct i.pos (rule (option_and_then (λ x. generic_or_any env (generic_of env.world x)) (visible (key i) (regions_of env))))
+generic_named env i =
+    construct i.pos (rule (option_and_then (λ x. generic_or_any env (generic_of env.world x)) (visible (key i) (regions_of env))))
 
 abbrev pub formals_of_interface : Interface → Region
 formals_of_interface (generic_interface formals region) = formals
@@ -113,14 +114,17 @@ abbrev pub formal_is_integer : AdaSubtype → Bool
 formal_is_integer t = is_integer (type_in t)
 
 abbrev pub actual_for_name : ℕ → List Actual → Entity → Denoted → Option Actual
-actual_for_name n before (mark i t) (a_mark j u) = if matches_type (formal_is_integer t) (type_in u) then Some (type_actual u) else None
-actual_for_name n before (routine f) (a_routine r) = if same_profile (routine_seen n before f) r then Some (routine_actual r) else None
+actual_for_name n before (mark i t) (a_mark j u) =
+    if matches_type (formal_is_integer t) (type_in u) then Some (type_actual u) else None
+actual_for_name n before (routine f) (a_routine r) =
+    if same_profile (routine_seen n before f) r then Some (routine_actual r) else None
 actual_for_name n before x d = None
 
 abbrev pub any_actual : Actual
 any_actual = type_actual integer_subtype
 
--- An actual for a formal, seen with the actuals before it. For a formal object it is static (this language's profile), and for others a name.
+-- An actual for a formal, seen with the actuals before it. For a formal object it is static (this language's profile),
+-- and for others a name.
 abbrev pub actual_plan : Env → State → ℕ → List Actual → Entity → source.Expr → Plan (Given Actual)
 actual_plan env s n before (formal_object t e) x = do
   v ← static_part env s (fits (type_in (subtype_seen n before t))) (in_range (range_in (subtype_seen n before t))) x
@@ -142,7 +146,8 @@ any_plan env s x = do
   rule (Some (given any_actual y.next))
 
 -- actuals behind others, with as many formals as there are; there are as many of them (RM 12.3)
-abbrev pub actuals_judged : Env → State → Pos → ℕ → List Actual → Region → List source.Expr → Judgement (Given (List Actual))
+abbrev pub actuals_judged : Env → State → Pos → ℕ → List Actual → Region → List source.Expr
+    → Judgement (Given (List Actual))
 actuals_judged env s p n before [] [] = construct p (rule (Some (given before s)))
 actuals_judged env s p n before (f ∷ fs) [] = construct p (typed_rule env.step (given before s) None)
 actuals_judged env s p n before [] (x ∷ xs) = construct p (do

@@ -1,4 +1,5 @@
--- The library: the names of its units, what units name in `with`, and the order in which they depend on each other (Ada RM 2012, 10.1).
+-- The library: the names of its units, what units name in `with`, and the order in which they depend on each other (Ada
+-- RM 2012, 10.1).
 use Rattle.std.specs.Prelude.{ℕ, zero, suc, nat_eq, ◌+◌, Bool, true, false, not, ◌&&◌, ◌||◌, List, [], ◌∷◌, ◌++◌, codes, map, length, Option, Some, None, option_map, slice_get, unwrap_or, if◌then◌else◌}
 use Rattle.std.specs.List.{list_all, list_any}
 use Rattle.std.specs.Map.{lookup}
@@ -13,7 +14,7 @@ use Rattle.ada_syntax.specs.declared.unit.PackageItem.TheVariants as part
 use Rattle.ada_syntax.specs.declared.unit.Unit.{Unit as LibraryUnit}
 use Rattle.ada_syntax.specs.declared.unit.WithClause.{WithClause}
 use Rattle.ada_rules.specs.Plan.{Judgement, ◌>>=◌, rule, construct}
-use Rattle.ada_rules.specs.Entities.{key, same_name, test_io, Region}
+use Rattle.ada_rules.specs.Entities.{Standard, key, same_name, test_io, Region}
 use Rattle.ada_rules.specs.Environment.{BodyName, World, entity_of_unit}
 
 abbrev pub item_name : LibraryItem → Identifier
@@ -47,7 +48,8 @@ body_names package_name (item.Declared i ∷ rest) = body_names package_name res
 
 abbrev pub bodies_of_item : LibraryItem → List BodyName
 bodies_of_item (library.PackageBody b) = body_names (key b.name) b.items
-bodies_of_item (library.Subprogram b) = record { package_name = key b.specification.name; name = key b.specification.name } ∷ []
+bodies_of_item (library.Subprogram b) =
+    record { package_name = key b.specification.name; name = key b.specification.name } ∷ []
 bodies_of_item i = []
 
 abbrev pub all_bodies : List LibraryUnit → List BodyName
@@ -119,7 +121,8 @@ ordered_on done (Some p) later = later p
 
 abbrev pub ordered_from : List (List ℕ) → ℕ → List ℕ → List ℕ → List ℕ
 ordered_from graph zero done rest = done
-ordered_from graph (suc fuel) done rest = ordered_on done (picked graph done rest) (λ p. ordered_from graph fuel (done ++ p.first ∷ []) p.others)
+ordered_from graph (suc fuel) done rest =
+    ordered_on done (picked graph done rest) (λ p. ordered_from graph fuel (done ++ p.first ∷ []) p.others)
 
 abbrev pub dependency_order : List (List ℕ) → List ℕ → List ℕ
 dependency_order graph units = ordered_from graph (length units) [] units
@@ -144,18 +147,21 @@ leads_back false graph m n = is_among (reached graph (length graph) (m ∷ [])) 
 
 abbrev pub units_but_bodies : ℕ → List LibraryUnit → List ℕ
 units_but_bodies n [] = []
-units_but_bodies n (u ∷ us) = if is_package_body u.item then units_but_bodies (n + 1) us else n ∷ units_but_bodies (n + 1) us
+units_but_bodies n (u ∷ us) =
+    if is_package_body u.item then units_but_bodies (n + 1) us else n ∷ units_but_bodies (n + 1) us
 
 -- the library as far as names go
 pub record Library : Type 0 where
+  pub standard : Standard
   pub units : List LibraryUnit
   pub names : List (List ℕ × ℕ)
   pub graph : List (List ℕ)
   pub order : List ℕ
   pub is_ordered : Bool
 
-abbrev pub ordered_library : List LibraryUnit → List (List ℕ × ℕ) → List (List ℕ) → List ℕ → Library
-ordered_library units names graph order = record {
+abbrev pub ordered_library : Standard → List LibraryUnit → List (List ℕ × ℕ) → List (List ℕ) → List ℕ → Library
+ordered_library standard units names graph order = record {
+  standard = standard;
   units = units;
   names = names;
   graph = graph;
@@ -163,13 +169,13 @@ ordered_library units names graph order = record {
   is_ordered = nat_eq (length order) (length (units_but_bodies 0 units));
 }
 
-abbrev pub library_of : List LibraryUnit → Library
-library_of units =
-    ordered_library units (names_from 0 units) (graph_of (names_from 0 units) units)
+abbrev pub library_of : Standard → List LibraryUnit → Library
+library_of standard units =
+    ordered_library standard units (names_from 0 units) (graph_of (names_from 0 units) units)
     (dependency_order (graph_of (names_from 0 units) units) (units_but_bodies 0 units))
 
--- A name in a `with` clause of a unit denotes a unit of the library; among specifications, instances and library subprograms it does not
--- lead back to the unit (RM 10.1.2, 10.2).
+-- A name in a `with` clause of a unit denotes a unit of the library; among specifications, instances and library
+-- subprograms it does not lead back to the unit (RM 10.1.2, 10.2).
 abbrev pub may_name : Library → ℕ → LibraryItem → Option ℕ → Bool
 may_name l n i None = false
 may_name l n i (Some m) = is_package_body i || not (nat_eq m n || leads_back l.is_ordered l.graph m n)
@@ -178,7 +184,8 @@ abbrev pub is_test_io : Identifier → Bool
 is_test_io i = same_name (key i) (codes "test_io")
 
 abbrev pub named_in_with : Library → ℕ → LibraryItem → Identifier → Judgement Unit
-named_in_with l n item i = construct i.pos (rule (if is_test_io i || may_name l n item (unit_named l.names (key i)) then Some tt else None))
+named_in_with l n item i =
+    construct i.pos (rule (if is_test_io i || may_name l n item (unit_named l.names (key i)) then Some tt else None))
 
 abbrev pub all_named_in_with : Library → ℕ → LibraryUnit → List Identifier → Judgement Unit
 all_named_in_with l n u [] = construct u.pos (rule (Some tt))
@@ -187,7 +194,8 @@ all_named_in_with l n u (i ∷ is) = construct u.pos (do
   xs ← all_named_in_with l n u is
   rule (Some tt))
 
--- The name of a unit is new in the library. A package has one body, exactly where it declares subprograms (RM 7.2, 10.1.4).
+-- The name of a unit is new in the library. A package has one body, exactly where it declares subprograms (RM 7.2,
+-- 10.1.4).
 abbrev pub declares_subprogram : List PackageItem → Bool
 declares_subprogram [] = false
 declares_subprogram (part.Subprogram x ∷ rest) = true
@@ -207,7 +215,9 @@ is_first_name n (Some m) = nat_eq m n
 abbrev pub bodies_named : List ℕ → ℕ → List LibraryUnit → List ℕ
 bodies_named name n [] = []
 bodies_named name n (u ∷ us) =
-    if is_package_body u.item && same_name name (key (item_name u.item)) then n ∷ bodies_named name (n + 1) us else bodies_named name (n + 1) us
+    if is_package_body u.item && same_name name (key (item_name u.item))
+    then n ∷ bodies_named name (n + 1) us
+    else bodies_named name (n + 1) us
 
 abbrev pub first_number : List ℕ → Option ℕ
 first_number [] = None
@@ -227,8 +237,9 @@ heading l n u = construct u.pos (do
 -- What a unit sees of the library: itself, and what it names in `with` (RM 10.1.6). Naming a unit twice is good.
 abbrev pub seen_more : World → Library → List Identifier → Region → Region
 seen_more w l [] region = region
-seen_more w l (i ∷ is) region = seen_more w l is (with_seen w (is_test_io i) (unit_named l.names (key i)) (key i) region) where
-  with_seen : World → Bool → Option ℕ → List ℕ → Region → Region
-  with_seen w true o name region = region ++ (name, test_io) ∷ []
-  with_seen w false None name region = region
-  with_seen w false (Some n) name region = region ++ (name, entity_of_unit w n) ∷ []
+seen_more w l (i ∷ is) region =
+    seen_more w l is (with_seen w (is_test_io i) (unit_named l.names (key i)) (key i) region) where
+      with_seen : World → Bool → Option ℕ → List ℕ → Region → Region
+      with_seen w true o name region = region ++ (name, test_io) ∷ []
+      with_seen w false None name region = region
+      with_seen w false (Some n) name region = region ++ (name, entity_of_unit w n) ∷ []

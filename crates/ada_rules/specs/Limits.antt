@@ -1,5 +1,5 @@
--- The counted limits: conditions of a decision, parameters, and words of a type, of a subprogram and of the library level. A limit is
--- passed at the first token of the smallest construct that takes the count past it.
+-- The counted limits: conditions of a decision, parameters, and words of a type, of a subprogram and of the library
+-- level. A limit is passed at the first token of the smallest construct that takes the count past it.
 use Rattle.std.specs.Prelude.{ℕ, nat_eq, nat_le, ◌+◌, ◌*◌, Bool, List, [], ◌∷◌, Option, Some, None, if◌then◌else◌}
 use Rattle.cov_base.specs.TextOrder.{precedes}
 use Rattle.cov_base.specs.declared.position.Pos.{Pos}
@@ -40,7 +40,9 @@ module _ (instances : List Facts) where
   abbrev pub first_beyond : (most : ℕ) → ℕ → ℕ → List Words → Option Pos
   first_beyond most inst before [] = None
   first_beyond most inst before (w ∷ ws) =
-      if nat_le (before + words_in inst w.subtype) most then first_beyond most inst (before + words_in inst w.subtype) ws else Some w.place
+      if nat_le (before + words_in inst w.subtype) most
+      then first_beyond most inst (before + words_in inst w.subtype) ws
+      else Some w.place
 
   abbrev pub first_in_some : (most : ℕ) → List ℕ → List Words → Option Pos
   first_in_some most [] ws = None
@@ -63,7 +65,8 @@ module _ (instances : List Facts) where
 
   abbrev pub words_of_generic : ℕ → ℕ → List UnitWords → ℕ
   words_of_generic inst g [] = 0
-  words_of_generic inst g (u ∷ us) = if is_text_of g u then sum_in inst u.words + words_of_generic inst g us else words_of_generic inst g us
+  words_of_generic inst g (u ∷ us) =
+      if is_text_of g u then sum_in inst u.words + words_of_generic inst g us else words_of_generic inst g us
 
   abbrev pub own_words : Option ℕ → List Subtype → ℕ
   own_words None ts = sum_in 0 ts
@@ -71,7 +74,8 @@ module _ (instances : List Facts) where
 
   abbrev pub words_of_unit : ℕ → List UnitWords → ℕ
   words_of_unit n [] = 0
-  words_of_unit n (u ∷ us) = if nat_eq n u.unit then own_words u.generic u.words + words_of_unit n us else words_of_unit n us
+  words_of_unit n (u ∷ us) =
+      if nat_eq n u.unit then own_words u.generic u.words + words_of_unit n us else words_of_unit n us
 
   abbrev pub words_by : ℕ → Interface → List UnitWords → ℕ
   words_by n (instance_interface (Some g) inst actuals) us = words_of_generic inst g us

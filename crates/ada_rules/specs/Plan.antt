@@ -1,10 +1,12 @@
--- How a construct is judged: its parts first, in the order of the text, and then its own case of the rules. What was judged is kept as a
--- tree of reports, so that a refusal always stands at the first token of a construct that fails its case while its parts pass theirs.
+-- How a construct is judged: its parts first, in the order of the text, and then its own case of the rules. What was
+-- judged is kept as a tree of reports, so that a refusal always stands at the first token of a construct that fails its
+-- case while its parts pass theirs.
 use Rattle.std.specs.Prelude.{◌≡◌, Bool, true, false, ◌&&◌, Option, Some, None, Result, Ok, Err, refl}
 use Rattle.cov_base.specs.declared.position.Pos.{Pos}
 
 mutual
-  -- what was seen of a construct: the place of its first token, whether it passes its own case, and the constructs that stand directly in it
+  -- what was seen of a construct: the place of its first token, whether it passes its own case, and the constructs that
+  -- stand directly in it
   pub data Report : Type 0 where
     report : Pos → Bool → Reports → Report
 
@@ -25,7 +27,8 @@ pub data Among (r : Report) : Reports → Type 0 where
   here : {rs : Reports} → Among r (also r rs)
   behind : {s : Report} {rs : Reports} → Among r rs → Among r (also s rs)
 
--- A construct fails its case while its parts pass theirs, and this is the place of its first token: the construct itself, or one within it.
+-- A construct fails its case while its parts pass theirs, and this is the place of its first token: the construct
+-- itself, or one within it.
 pub data Offends : Report → Pos → Type 0 where
   itself : {p : Pos} {rs : Reports} → all_pass rs ≡ true → Offends (report p false rs) p
   within : {p q : Pos} {b : Bool} {r : Report} {rs : Reports} → Among r rs → Offends r q → Offends (report p b rs) q
@@ -34,7 +37,8 @@ pub data Offends : Report → Pos → Type 0 where
 pub data SomeOffends (rs : Reports) (p : Pos) : Type 0 where
   one_offends : {r : Report} → Among r rs → Offends r p → SomeOffends rs p
 
--- an answer is what the report says: a construct that passes has a value, and one that fails has the place of one that offends
+-- an answer is what the report says: a construct that passes has a value, and one that fails has the place of one that
+-- offends
 abbrev pub Agrees : {A : Type 0} → Result A Pos → Report → Type 0
 Agrees (Ok x) r = passes r ≡ true
 Agrees (Err p) r = (passes r ≡ false) × Offends r p
@@ -45,7 +49,8 @@ pub record Judgement (A : Type 0) : Type 0 where
   pub looked_at : Report
   pub law : Agrees answer looked_at
 
--- what the parts of a construct and its own rule come to: a part is refused, or the construct's own rule is broken, or all passes
+-- what the parts of a construct and its own rule come to: a part is refused, or the construct's own rule is broken, or
+-- all passes
 pub data Outcome (B : Type 0) : Type 0 where
   refused_in : Pos → Outcome B
   broken : Outcome B
@@ -56,8 +61,8 @@ Follows (refused_in p) rs = (all_pass rs ≡ false) × SomeOffends rs p
 Follows broken rs = all_pass rs ≡ true
 Follows (passed x) rs = all_pass rs ≡ true
 
--- the case of a construct: its parts, and last its own rule. There is no other way to put plans together, so a rule is never asked where a
--- part is refused.
+-- the case of a construct: its parts, and last its own rule. There is no other way to put plans together, so a rule is
+-- never asked where a part is refused.
 pub record Plan (B : Type 0) : Type 0 where
   pub outcome : Outcome B
   pub reports : Reports
@@ -87,7 +92,8 @@ behind_first : {r : Report} {rs : Reports} {p : Pos} → SomeOffends rs p → So
 behind_first (one_offends a o) = one_offends (behind a) o
 
 -- what follows a part that passes
-then_follows : {B : Type 0} (o : Outcome B) (r : Report) (rs : Reports) → passes r ≡ true → Follows o rs → Follows o (also r rs)
+then_follows : {B : Type 0} (o : Outcome B) (r : Report) (rs : Reports) → passes r ≡ true → Follows o rs
+    → Follows o (also r rs)
 then_follows (refused_in p) r rs h f = (others_fail (passes r) (all_pass rs) f.0, behind_first f.1)
 then_follows broken r rs h f = front_passes (passes r) (all_pass rs) h f
 then_follows (passed x) r rs h f = front_passes (passes r) (all_pass rs) h f
@@ -132,7 +138,8 @@ answer_at p (passed x) = Ok x
 within_some : {b : Bool} {rs : Reports} {q : Pos} (p : Pos) → SomeOffends rs q → Offends (report p b rs) q
 within_some p (one_offends a o) = within a o
 
-pub construct_agrees : {B : Type 0} (p : Pos) (o : Outcome B) (rs : Reports) → Follows o rs → Agrees (answer_at p o) (report p (is_passed o) rs)
+pub construct_agrees : {B : Type 0} (p : Pos) (o : Outcome B) (rs : Reports) → Follows o rs
+    → Agrees (answer_at p o) (report p (is_passed o) rs)
 construct_agrees p (refused_in q) rs f = (refl, within_some p f.1)
 construct_agrees p broken rs f = (refl, itself f)
 construct_agrees p (passed x) rs f = refl

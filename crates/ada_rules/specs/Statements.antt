@@ -74,7 +74,8 @@ abbrev pub branches_of : List Chosen → List tree.Stmt → tree.Branches
 branches_of [] other = tree.else_part (stmts_of other)
 branches_of (c ∷ cs) other = tree.branch c.label c.test (stmts_of c.statements) (branches_of cs other)
 
--- the selector of a case statement: its values are those of its subtype, where it is an object, a call or a conversion (RM 5.4)
+-- the selector of a case statement: its values are those of its subtype, where it is an object, a call or a conversion
+-- (RM 5.4)
 pub record Selector : Type 0 where
   pub expr : tree.Expr
   pub type : AdaType
@@ -173,10 +174,13 @@ turns_between x y k =
     })
     else None
 
+abbrev pub turns_over : AdaSubtype → Turns
+turns_over t = record { over = tree.over_subtype (range_in t); subtype = t; values = within (range_in t) }
+
 abbrev pub turned : Env → State → DiscreteRange → Judgement (Given Turns)
 turned env s (discrete.Mark n) = construct (name_pos n) (do
   m ← scalar_mark env s n
-  rule (Some (given (record { over = tree.over_subtype (range_in m.value.subtype); subtype = m.value.subtype; values = within (range_in m.value.subtype) }) m.next)))
+  rule (Some (given (turns_over m.value.subtype) m.next)))
 turned env s (discrete.Bounds b) = construct (expr_pos b.low) (do
   x ← judged env itself s b.low
   y ← judged env itself x.next b.high
@@ -196,7 +200,8 @@ loop_parameter n t = object (record {
 
 -- a loop parameter has one word
 abbrev pub one_object_more : Pos → AdaSubtype → State → State
-one_object_more p t s = record s { objects = s.objects + 1; words = record { place = p; subtype = subtype_in_tree t } ∷ s.words }
+one_object_more p t s =
+    record s { objects = s.objects + 1; words = record { place = p; subtype = subtype_in_tree t } ∷ s.words }
 
 abbrev pub is_reverse : Direction → Bool
 is_reverse direction.Forward = false
@@ -209,7 +214,8 @@ returned l (result_of t) = None
 
 abbrev pub returned_value : tree.Label → Judged → Returning → Option tree.Stmt
 returned_value l x no_result = None
-returned_value l x (result_of t) = if fits (type_in t) x.kind then Some (tree.return_value l (range_in t) (expr_of x)) else None
+returned_value l x (result_of t) =
+    if fits (type_in t) x.kind then Some (tree.return_value l (range_in t) (expr_of x)) else None
 
 -- an exception by name (RM 11.2, 11.3)
 abbrev pub exception_of : Denoted → Option tree.ExceptionName
@@ -249,9 +255,6 @@ pub record Frame : Type 0 where
 
 abbrev pub block_of : List tree.Declaration → Frame → tree.Block
 block_of ds f = tree.block ds (stmts_of f.statements) f.handlers
-
-abbrev pub any_stmt : tree.Stmt → State → Given (List tree.Stmt)
-any_stmt x s = one x s
 
 -- a rule on types that a statement has to pass
 abbrev pub typed_stmt : Env → tree.Label → State → Option tree.Stmt → Plan (Given (List tree.Stmt))

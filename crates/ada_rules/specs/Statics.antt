@@ -1,5 +1,5 @@
--- Static expressions (Ada RM 2012, 4.9), and what the rules demand of their values: a demand is met in each instance of the generic in whose
--- text it stands, or, where it stands in none, once.
+-- Static expressions (Ada RM 2012, 4.9), and what the rules demand of their values: a demand is met in each instance of
+-- the generic in whose text it stands, or, where it stands in none, once.
 use Rattle.std.specs.Prelude.{ℕ, zero, suc, nat_eq, ℤ, pos, ◌+ℤ◌, ◌-ℤ◌, int_lt, int_le, ◌+◌, Bool, false, ◌&&◌, ◌||◌, List, [], ◌∷◌, ◌++◌, Option, Some, None, option_map, slice_get, unwrap_or, if◌then◌else◌}
 use Rattle.std.specs.List.{list_all}
 use Rattle.std.specs.Option.{option_and_then, option_or}
@@ -15,8 +15,8 @@ pub record Owed : Type 0 where
   pub value : Static
   pub range : Range
 
--- A static expression, and what has to hold for it to have a value: a constant of a subprogram has one only where its initial value lies in
--- its subtype.
+-- A static expression, and what has to hold for it to have a value: a constant of a subprogram has one only where its
+-- initial value lies in its subtype.
 pub record Known : Type 0 where
   pub value : Static
   pub owes : List Owed
@@ -68,7 +68,8 @@ abbrev pub looked_in : List Made → Option ℕ → List ℕ
 looked_in made None = 0 ∷ []
 looked_in made (Some g) = made_of g made
 
--- what an instance has for a formal, in numbers: a value, the bounds of a subtype and of its type, or those of a function's result
+-- what an instance has for a formal, in numbers: a value, the bounds of a subtype and of its type, or those of a
+-- function's result
 pub data Fact : Type 0 where
   number_fact : ℤ → Fact
   type_fact : (subtype type : Bounds) → Fact
@@ -109,8 +110,8 @@ fact_in instances (suc n) k = option_and_then (λ i. slice_get i.formals k) (sli
 abbrev pub bounds_between : Option ℤ → Option ℤ → Option Bounds
 bounds_between x y = option_and_then (λ low. option_map (λ high. record { low = low; high = high }) y) x
 
--- Values in an instance, where these are all instances (0: in none). They are computed exactly; there is none where a part leaves the base
--- range, or has a divisor of 0.
+-- Values in an instance, where these are all instances (0: in none). They are computed exactly; there is none where a
+-- part leaves the base range, or has a divisor of 0.
 module _ (instances : List Facts) where
   abbrev mutual
     pub value_in : ℕ → Static → Option ℤ
@@ -120,7 +121,8 @@ module _ (instances : List Facts) where
     value_in inst (static_last r) = option_map (λ b. b.high) (bounds_in inst r)
     value_in inst (static_length r) = option_and_then (λ b. in_base (b.high -ℤ b.low +ℤ pos 1)) (bounds_in inst r)
     value_in inst (static_sign s e) = option_and_then (λ x. in_base (sign_of s x)) (value_in inst e)
-    value_in inst (static_operation o e f) = option_and_then (λ x. option_and_then (computed o x) (value_in inst f)) (value_in inst e)
+    value_in inst (static_operation o e f) =
+        option_and_then (λ x. option_and_then (computed o x) (value_in inst f)) (value_in inst e)
     value_in inst (static_of i e) = value_in i e
 
     pub bounds_in : ℕ → Range → Option Bounds
@@ -147,7 +149,8 @@ module _ (instances : List Facts) where
   spans_in inst (within r) = bounds_in inst r
   spans_in inst (formal_values k) = type_bounds_of_fact (fact_in instances inst k)
   spans_in inst (result_values k) = result_bounds_of_fact (fact_in instances inst k)
-  spans_in inst (static_bounds a b other) = bounds_or (bounds_between (known_in inst a) (known_in inst b)) (spans_in inst other)
+  spans_in inst (static_bounds a b other) =
+      bounds_or (bounds_between (known_in inst a) (known_in inst b)) (spans_in inst other)
 
   abbrev pub is_ordered : Option Bounds → Bool
   is_ordered None = false
@@ -155,8 +158,10 @@ module _ (instances : List Facts) where
 
   -- what a choice names
   abbrev pub named_by : ℕ → Choice → List Bounds → List Bounds
-  named_by inst (value_choice e) bs = unwrap_or (option_map (λ x. record { low = x; high = x } ∷ bs) (value_in inst e)) bs
-  named_by inst (range_choice e f) bs = unwrap_or (option_map (λ b. b ∷ bs) (bounds_between (value_in inst e) (value_in inst f))) bs
+  named_by inst (value_choice e) bs =
+      unwrap_or (option_map (λ x. record { low = x; high = x } ∷ bs) (value_in inst e)) bs
+  named_by inst (range_choice e f) bs =
+      unwrap_or (option_map (λ b. b ∷ bs) (bounds_between (value_in inst e) (value_in inst f))) bs
   named_by inst other_values bs = bs
 
   abbrev pub placed : Bounds → List Bounds → List Bounds
@@ -190,7 +195,8 @@ module _ (instances : List Facts) where
   -- the instances of a generic, numbered from n on
   abbrev pub instances_from : ℕ → ℕ → List Facts → List ℕ
   instances_from n g [] = []
-  instances_from n g (i ∷ is) = if nat_eq i.generic g then n ∷ instances_from (n + 1) g is else instances_from (n + 1) g is
+  instances_from n g (i ∷ is) =
+      if nat_eq i.generic g then n ∷ instances_from (n + 1) g is else instances_from (n + 1) g is
 
   -- the instances in which something that stands in this generic is looked at
   abbrev pub places_of : Option ℕ → List ℕ
@@ -205,15 +211,18 @@ module _ (instances : List Facts) where
   -- the first of these demands of a generic that fails in an instance
   abbrev pub failing_in : ℕ → ℕ → List Demand → Option Pos
   failing_in g i [] = None
-  failing_in g i (d ∷ ds) = option_or (if stands_in (Some g) d.generic then failing (i ∷ []) d else None) (failing_in g i ds)
+  failing_in g i (d ∷ ds) =
+      option_or (if stands_in (Some g) d.generic then failing (i ∷ []) d else None) (failing_in g i ds)
 
   -- the first demand that is not met, where these demands and these instances came before
   abbrev pub unmet_behind : List Demand → List Made → List Asked → Option Pos
   unmet_behind before made [] = None
-  unmet_behind before made (asked d ∷ rest) = option_or (failing (looked_in made d.generic) d) (unmet_behind (before ++ d ∷ []) made rest)
+  unmet_behind before made (asked d ∷ rest) =
+      option_or (failing (looked_in made d.generic) d) (unmet_behind (before ++ d ∷ []) made rest)
   unmet_behind before made (instantiated g i ∷ rest) =
       option_or (failing_in g i before) (unmet_behind before (record { generic = g; instance = i } ∷ made) rest)
 
--- The first demand that is not met. A demand of a generic's text is asked in each instance after the demands on its actuals.
+-- The first demand that is not met. A demand of a generic's text is asked in each instance after the demands on its
+-- actuals.
 abbrev pub first_unmet : List Facts → List Asked → Option Pos
 first_unmet instances xs = unmet_behind instances [] [] xs

@@ -57,11 +57,13 @@ parameter_entity n m t = object (record {
 
 abbrev pub parameters_for : program.Mode → Marked → List Identifier → List Parameter
 parameters_for m t [] = []
-parameters_for m t (i ∷ is) = record { name = key i; mode = m; mark = t.identity; subtype = t.subtype } ∷ parameters_for m t is
+parameters_for m t (i ∷ is) =
+    record { name = key i; mode = m; mark = t.identity; subtype = t.subtype } ∷ parameters_for m t is
 
 abbrev pub parameter_objects : program.Mode → AdaSubtype → ℕ → Region → List Identifier → Region
 parameter_objects m t n region [] = region
-parameter_objects m t n region (i ∷ is) = parameter_objects m t (n + 1) (redefined (key i) (parameter_entity n m t) region) is
+parameter_objects m t n region (i ∷ is) =
+    parameter_objects m t (n + 1) (redefined (key i) (parameter_entity n m t) region) is
 
 -- the first parameter beyond the limit
 abbrev pub most_parameters : ℕ
@@ -73,7 +75,8 @@ limited n (i ∷ is) s = limited (n + 1) is (exceeded (nat_eq n most_parameters)
 
 -- parameters that are declared together, of which each hides its names (RM 6.1)
 abbrev pub parameters_judged : Env → State → Pos → List SourceParameter → Judgement (Given Profile)
-parameters_judged env s p [] = construct p (rule (Some (given (record { parameters = []; result = None; region = env.local }) s)))
+parameters_judged env s p [] =
+    construct p (rule (Some (given (record { parameters = []; result = None; region = env.local }) s)))
 parameters_judged env s p (q ∷ qs) = construct p (do
   names ← hide_all p env.local q.names
   t ← mark_part (with_local env names) s q.mark
@@ -93,7 +96,8 @@ abbrev pub is_function_profile : List Parameter → Marked → Bool
 is_function_profile qs t = list_all (λ q. is_in q.mode) qs && is_scalar (type_in t.subtype)
 
 abbrev pub with_result : Given Profile → Given Marked → Given Profile
-with_result q t = given (record { parameters = q.value.parameters; result = Some (as_result t.value); region = q.value.region }) t.next
+with_result q t =
+    given (record { parameters = q.value.parameters; result = Some (as_result t.value); region = q.value.region }) t.next
 
 abbrev pub result_judged : Env → Given Profile → Option Name → Plan (Given Profile)
 result_judged env q None = rule (Some q)
@@ -155,8 +159,8 @@ to_complete region i (Some x) = None
 abbrev pub completed : Region → Identifier → Judgement Region
 completed region i = construct i.pos (rule (to_complete region i (entity_of (key i) region)))
 
--- A body conforms to its declaration: the names of the parameters in order, their modes, and which subtypes they and the result have
--- (RM 6.3.1). What is no subtype is left to the rules on types.
+-- A body conforms to its declaration: the names of the parameters in order, their modes, and which subtypes they and
+-- the result have (RM 6.3.1). What is no subtype is left to the rules on types.
 abbrev pub same_mark : Option Identity → Option Identity → Bool
 same_mark None b = true
 same_mark (Some a) None = true
@@ -211,7 +215,8 @@ body_made env before q b s = record s {
   subprograms = record { parameters = typed_parameters 0 q.parameters; body = b } ∷ s.subprograms;
 }
 
--- where the declarations and the statements of a body stand, in the region of its parameters, whose subprogram is visible from its `is` on
+-- where the declarations and the statements of a body stand, in the region of its parameters, whose subprogram is
+-- visible from its `is` on
 abbrev pub inside_body : Env → Region → List ℕ → Profile → Env
 inside_body env region name q = record (opened (with_local env region)) {
   local = q.region;

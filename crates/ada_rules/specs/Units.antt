@@ -16,11 +16,11 @@ use Rattle.ada_syntax.specs.declared.unit.SubprogramBody.{SubprogramBody}
 use Rattle.ada_syntax.specs.declared.unit.Unit.{Unit as LibraryUnit}
 use Rattle.ada_rules.specs.Plan.{Plan, Judgement, ◌>>=◌, rule, construct}
 use Rattle.ada_rules.specs.Statics.{Facts, Asked, instantiated}
-use Rattle.ada_rules.specs.Entities.{Actual, key, same_name, Entity, hidden, routine, unit, Region, predefined_region}
+use Rattle.ada_rules.specs.Entities.{Actual, key, same_name, Entity, hidden, routine, unit, Region}
 use Rattle.ada_rules.specs.Environment.{Step, Interface, no_interface, package_interface, generic_interface, instance_interface, subprogram_interface, World, interface_of, State, beginning_state, Given, given, no_result, Env, with_local}
 use Rattle.ada_rules.specs.Denoted.{nowhere}
 use Rattle.ada_rules.specs.Declarations.{declared}
-use Rattle.ada_rules.specs.Subprograms.{specified, declared_only, routine_of, subprogram_declared, closed_by, body_judged, packaged_body}
+use Rattle.ada_rules.specs.Subprograms.{Profile, specified, declared_only, routine_of, subprogram_declared, closed_by, body_judged, packaged_body}
 use Rattle.ada_rules.specs.Instances.{formals_declared, generic_named, formals_of, actuals_judged, instance_made, facts_made}
 use Rattle.ada_rules.specs.Library.{Library, is_instance, heading, item_name, unit_named, clause_names, instance_number, all_bodies, seen_more}
 
@@ -36,7 +36,7 @@ env_of step w n name region = record {
   own_package = None;
   own = [];
   local = [];
-  outer = region ∷ predefined_region ∷ [];
+  outer = region ∷ w.standard.predefined ∷ [];
   is_library = true;
   is_looping = false;
   is_handling = false;
@@ -101,25 +101,37 @@ at_unit s = record s { types = 0; library_words = [] }
 abbrev pub behind_unit : Env → (package_unit : ℕ) → State → State
 behind_unit env n s = record s {
   library_words = [];
-  unit_words = record { unit = env.unit_number; package_unit = n; generic = env.generic; words = s.library_words } ∷ s.unit_words;
+  unit_words =
+      record { unit = env.unit_number; package_unit = n; generic = env.generic; words = s.library_words } ∷ s.unit_words;
 }
 
 abbrev pub formals_in : Option (List Formal) → List Formal
 formals_in None = []
 formals_in (Some fs) = fs
 
+-- the text of a package specification, where its formals are declared
+abbrev pub in_specification : Env → ℕ → PackageSpecification → Region → Env
+in_specification env n x formals = in_package env (generic_at x.formals n) n formals
+
+abbrev pub with_package : Env → ℕ → PackageSpecification → Region → Given Region → Walked
+with_package env n x formals region = record {
+  world = with_interface env.world n (interface_with x.formals formals region.value);
+  next = behind_unit (in_specification env n x []) n region.next;
+}
+
 abbrev pub package_judged : Env → State → Pos → ℕ → PackageSpecification → Judgement Walked
 package_judged env s p n x = construct p (do
-  formals ← formals_declared (in_package env (generic_at x.formals n) n []) (at_unit s) p 0 (formals_in x.formals)
-  region ← package_items (in_package env (generic_at x.formals n) n formals.value) formals.next p x.items
+  formals ← formals_declared (in_specification env n x []) (at_unit s) p 0 (formals_in x.formals)
+  region ← package_items (in_specification env n x formals.value) formals.next p x.items
   end ← closed_by p x.name x.end_name
-  rule (Some (record { world = with_interface env.world n (interface_with x.formals formals.value region.value); next = behind_unit (in_package env (generic_at x.formals n) n []) n region.next })))
+  rule (Some (with_package env n x formals.value region)))
 
--- an instance: a package of its own, whose name is not visible in it (RM 12.3)
+-- behind an instance, where it is one of a generic
 abbrev pub instantiated_by : Option ℕ → ℕ → List Asked → List Asked
 instantiated_by None k ds = ds
 instantiated_by (Some g) k ds = instantiated g k ∷ ds
 
+-- an instance: a package of its own, whose name is not visible in it (RM 12.3)
 abbrev pub with_instance : World → Pos → ℕ → ℕ → Instance → Option ℕ → List Actual → State → Walked
 with_instance w p n k i g actuals s = record {
   world = record w {
@@ -142,10 +154,13 @@ instance_judged env s p n k i = construct p (do
 abbrev pub with_subprogram : World → ℕ → Interface → State → Walked
 with_subprogram w n i s = record { world = with_interface w n i; next = s }
 
+abbrev pub library_routine : Env → SubprogramBody → Profile → Interface
+library_routine env b q = subprogram_interface (routine_of env (key b.specification.name) false q)
+
 abbrev pub library_subprogram : Env → State → ℕ → SubprogramBody → Judgement Walked
 library_subprogram env s n b = construct b.specification.pos (do
   q ← specified env (at_unit s) b.specification
-  rule (Some (with_subprogram env.world n (subprogram_interface (routine_of env (key b.specification.name) false q.value)) (declared_only s q.next))))
+  rule (Some (with_subprogram env.world n (library_routine env b q.value) (declared_only s q.next))))
 
 abbrev pub seen_in : World → Library → LibraryUnit → Entity → Region
 seen_in w l u x = seen_more w l (clause_names u.withs) ((key (item_name u.item), x) ∷ [])
@@ -174,7 +189,8 @@ all_interfaces step l x (n ∷ ns) = construct nowhere (do
   rest ← all_interfaces step l y ns
   rule (Some rest))
 
--- the bodies of a unit, in the order of the text; a body of a package also sees what the package's specification names in `with`
+-- the bodies of a unit, in the order of the text; a body of a package also sees what the package's specification names
+-- in `with`
 abbrev pub region_of : Interface → Region
 region_of (package_interface region) = region
 region_of (generic_interface formals region) = region
@@ -191,11 +207,15 @@ withs_of (Some u) = clause_names u.withs
 abbrev pub seen_in_body : World → Library → ℕ → LibraryUnit → Region
 seen_in_body w l n u = seen_more w l (withs_of (slice_get l.units n)) (seen_in w l u (unit n))
 
+-- the text of a package's body: what its specification declares is declared already
+abbrev pub in_body : Env → ℕ → Interface → Region → Env
+in_body env n i region = in_package env (is_generic_interface i n) n region
+
 abbrev pub package_body : Env → State → Pos → ℕ → PackageBody → Judgement State
 package_body env s p n b = construct p (do
-  region ← body_items (in_package env (is_generic_interface (interface_of env.world n) n) n (region_of (interface_of env.world n))) (at_unit s) p b.items
+  region ← body_items (in_body env n (interface_of env.world n) (region_of (interface_of env.world n))) (at_unit s) p b.items
   end ← closed_by p b.name b.end_name
-  rule (Some (behind_unit (in_package env (is_generic_interface (interface_of env.world n) n) n []) n region.next)))
+  rule (Some (behind_unit (in_body env n (interface_of env.world n) []) n region.next)))
 
 -- a body of a package, which is looked at in the text of the package with this number
 abbrev pub package_body_of : Step → Library → World → State → ℕ → LibraryUnit → PackageBody → Option ℕ → Judgement State
@@ -217,7 +237,8 @@ routine_entity (subprogram_interface r) = routine r
 routine_entity i = hidden
 
 abbrev pub bodies_judged : Step → Library → World → State → ℕ → LibraryUnit → LibraryItem → Judgement State
-bodies_judged step l w s n u (library.PackageBody b) = package_body_of step l w s n u b (unit_named l.names (key b.name))
+bodies_judged step l w s n u (library.PackageBody b) =
+    package_body_of step l w s n u b (unit_named l.names (key b.name))
 bodies_judged step l w s n u (library.Subprogram b) =
     library_body (env_of step w n (key b.specification.name) (seen_in w l u (routine_entity (interface_of w n)))) s b
 bodies_judged step l w s n u i = construct u.pos (rule (Some s))
@@ -248,6 +269,7 @@ facts_before count (u ∷ us) = no_facts count u (facts_before count us)
 
 abbrev pub world_before : Library → World
 world_before l = record {
+  standard = l.standard;
   names = l.names;
   interfaces = map (λ u. no_interface) l.units;
   instances = facts_before (length l.units) l.units;

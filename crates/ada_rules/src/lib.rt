@@ -21,23 +21,23 @@
 
 ghost use Rattle.std.specs.Prelude.{◌≡◌, ℕ, List, Err};
 ghost use Rattle.cov_base.specs.declared.position.Pos.{Pos};
-ghost use Rattle.ada_syntax.specs.declared.unit.Unit.{Unit as LibraryUnit};
 ghost use Rattle.ada_rules.specs.Environment.{Step};
-ghost use Rattle.ada_rules.specs.Legal.{checked, mistyped, unnamed};
+ghost use Rattle.ada_rules.specs.Library.{Library};
+ghost use Rattle.ada_rules.specs.Legal.{checked_in, mistyped, unnamed};
 ghost use Rattle.ada_rules.specs.Plan.{Offends};
 ghost use Rattle.ada_rules.specs.Refusals.{BreaksNames, BreaksTypes, looked_at};
 
 /// Where a step refuses a program, a construct stands in it that fails its case while its parts pass
 /// theirs, and the refusal stands at the first token of that construct.
 pub fn a_refusal_offends()
-    ensures { (step : Step) (units : List LibraryUnit) (main : List ℕ) (p : Pos)
-        → (looked_at step units main).answer ≡ Err p → Offends (looked_at step units main).looked_at p }
+    ensures { (step : Step) (l : Library) (main : List ℕ) (p : Pos)
+        → (looked_at step l main).answer ≡ Err p → Offends (looked_at step l main).looked_at p }
 {}
 
 /// A verdict on names or on types has a reason at its place: a construct that fails its case while
 /// its parts pass theirs, or a demand on static values that fails in some instance.
 #[tactic(auto, using(crate::proofs::Verdicts::names_broken))]
 pub fn a_refusal_has_a_reason()
-    ensures names { (units : List LibraryUnit) (main : List ℕ) (p : Pos) → checked units main ≡ unnamed p → BreaksNames units main p }
-    ensures types { (units : List LibraryUnit) (main : List ℕ) (p : Pos) → checked units main ≡ mistyped p → BreaksTypes units main p }
+    ensures names { (l : Library) (main : List ℕ) (p : Pos) → checked_in l main ≡ unnamed p → BreaksNames l main p }
+    ensures types { (l : Library) (main : List ℕ) (p : Pos) → checked_in l main ≡ mistyped p → BreaksTypes l main p }
 {}

@@ -3,4 +3,4 @@ use Rattle.ada_rules.proofs.Laws.{refusal_offends}
 use Rattle.ada_rules.proofs.a_refusal_offends.Goals as goal
 
 pub returns : goal.returns
-returns c step units main p h = refusal_offends (looked_at step units main) p h
+returns c step l main p h = refusal_offends (looked_at step l main) p h
