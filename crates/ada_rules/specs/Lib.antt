@@ -1,0 +1,16 @@
+pub mod Plan
+pub mod Types
+pub mod Statics
+pub mod Entities
+pub mod Environment
+pub mod Denoted
+pub mod Expressions
+pub mod Declarations
+pub mod Statements
+pub mod Subprograms
+pub mod Instances
+pub mod Library
+pub mod Units
+pub mod Limits
+pub mod Legal
+pub mod Refusals

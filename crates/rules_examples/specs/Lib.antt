@@ -1,0 +1,10 @@
+pub mod Cases
+pub mod Bases
+pub mod Objects
+pub mod Conditions
+pub mod Scalars
+pub mod Composites
+pub mod Packages
+pub mod Exceptions
+pub mod Generics
+pub mod Whole
