@@ -1,5 +1,5 @@
 -- What taking the words at the end of a statement answers.
-use Rattle.std.specs.Prelude.{◌≡◌, ℕ, ◌<◌, length, Result, Ok, Err, ⊤}
+use Rattle.std.specs.Prelude.{◌≡◌, ◌<◌, length, Result, Ok, Err, ⊤}
 use Rattle.std.specs.Borrow.{Bor}
 use Rattle.ada_syntax.specs.StatementTree.{Statement}
 use Rattle.expression_parser.specs.declared.fault.Fault.{Fault}
@@ -16,6 +16,14 @@ pub record Closed (s : Symbol) (ts rest : Tokens) : Type 0 where
 -- they do not stand there
 pub record NotClosed (s : Symbol) (ts rest : Tokens) : Type 0 where
   pub by : (a : Statement) → closing s a ts ≡ Stuck rest
+
+-- a part was read, and END, a word and a semicolon are taken behind it
+abbrev pub EndsBy : {A : Type 0} → Symbol → Result (A × Bor Tokens) Fault → Result (A × Bor Tokens) Fault → Type 0
+EndsBy s (Ok x) (Ok y) = (y.0 ≡ x.0) × Closed s x.1.now y.1.now
+EndsBy s (Ok x) (Err (Syntax rest)) = NotClosed s x.1.now rest.now
+EndsBy s (Ok x) (Err Memory) = ⊤
+EndsBy s (Err f) (Ok y) = ⊥
+EndsBy s (Err f) (Err g) = g ≡ f
 
 abbrev pub TakesClosing : Symbol → Tokens → Result (Bor Tokens) Fault → Type 0
 TakesClosing s ts (Ok rest) = Closed s ts rest.now

@@ -1,9 +1,9 @@
 -- The readers of units at a depth, and what the functions for files answer.
 use Rattle.std.specs.Prelude.{ℕ, List, [], Option, Result, Ok, Err, ⊤}
-use Rattle.std.specs.Borrow.{Bor}
 use Rattle.std.specs.declared.vec.Vec.{Vec}
 use Rattle.std.specs.declared.alloc.Global.{Global}
 use Rattle.cov_base.specs.declared.position.Pos.{Pos}
+use Rattle.ada_syntax.specs.StatementTree.{Handled}
 use Rattle.ada_syntax.specs.declared.name.Identifier.{Identifier}
 use Rattle.ada_syntax.specs.declared.unit.Specification.{Specification}
 use Rattle.ada_syntax.specs.declared.unit.SubprogramBody.{SubprogramBody}
@@ -15,8 +15,9 @@ use Rattle.ada_syntax.specs.declared.unit.Unit.{Unit as LibraryUnit}
 use Rattle.expression_parser.specs.declared.extent.Extent.{Extent}
 use Rattle.expression_parser.specs.declared.fault.Fault.{Fault}
 use Rattle.expression_parser.specs.declared.fault.Fault.TheVariants.{Syntax, Memory}
-use Rattle.expression_parser.specs.Reading.{Tokens, Reader, Got, Stuck}
+use Rattle.expression_parser.specs.Reading.{Tokens, Reader, Got, Stuck, got, ◌>>=◌}
 use Rattle.expression_parser.specs.Shows.{Reads}
+use Rattle.ada_parser.specs.StatementDepth.{at_handled}
 use Rattle.ada_parser.specs.UnitReading as read
 
 abbrev pub at_end_name : ℕ → Reader (Option Identifier)
@@ -24,6 +25,10 @@ at_end_name m = read.end_name_by
 
 abbrev pub at_end : ℕ → Reader (Option Identifier)
 at_end m = read.end_by
+
+-- stmts [handlers] END [id] ;
+abbrev pub at_statements_to_end : Extent → ℕ → Reader (Handled × Option Identifier)
+at_statements_to_end x m = at_handled x m >>= λ h. read.end_by >>= λ n. got (h, n)
 
 abbrev pub at_body_rest : Extent → Specification → ℕ → Reader SubprogramBody
 at_body_rest x s m = read.body_rest x m s

@@ -8,13 +8,26 @@ ghost use Rattle.ada_parser.specs.UnitDepth as at;
 use crate::contexts::end;
 use crate::statements::handled_statements;
 use ada_lexer::Token;
-use ada_syntax::{Specification, SubprogramBody};
+use ada_syntax::{HandledStatements, Identifier, Specification, SubprogramBody};
 use cov_base::Seq;
-use declaration_parser::{local_declarations, specification};
-use expression_parser::{Parsed, Parser, Symbol, word};
+use declaration_parser::{closed_by, local_declarations, specification};
+use expression_parser::{Parsed, Parser, Symbol};
+
+/// `stmts [handlers] END [id] ;` behind `BEGIN`
+#[tactic(auto, using(crate::proofs::BodyCode::to_end_rules))]
+fn statements_to_end<'a>(
+    parser: Parser,
+    tokens: &'a [Token],
+) -> Parsed<'a, (HandledStatements, Option<Identifier>)>
+    ensures reads { Shows (Reads (at.at_statements_to_end parser.extent) tokens.now) result }
+    ensures shorter { IfOk result (λ x. length x.1.now < length tokens.now) }
+{
+    let (statements, rest) = handled_statements(parser, tokens)?;
+    let (end_name, rest) = end(parser, rest)?;
+    Ok(((statements, end_name), rest))
+}
 
 /// `{ldecl} BEGIN stmts [handlers] END [id] ;` behind a specification and `IS`
-#[tactic(auto, using(crate::proofs::BodyCode::body_rest_rules))]
 pub fn body_rest<'a>(
     parser: Parser,
     specification: Specification,
@@ -23,10 +36,8 @@ pub fn body_rest<'a>(
     ensures reads { Shows (Reads (at.at_body_rest parser.extent specification) tokens.now) result }
     ensures shorter { IfOk result (λ x. length x.1.now < length tokens.now) }
 {
-    let (declarations, rest) = local_declarations(parser, tokens)?;
-    let rest = word(Symbol::Begin, rest)?;
-    let (statements, rest) = handled_statements(parser, rest)?;
-    let (end_name, rest) = end(parser, rest)?;
+    let (declarations, rest) = closed_by(Symbol::Begin, local_declarations(parser, tokens))?;
+    let ((statements, end_name), rest) = statements_to_end(parser, rest)?;
     let body = SubprogramBody {
         specification,
         declarations: Seq::from(declarations),
@@ -37,12 +48,10 @@ pub fn body_rest<'a>(
 }
 
 /// `spec IS {ldecl} BEGIN stmts [handlers] END [id] ;`
-#[tactic(auto, using(crate::proofs::BodyCode::body_rules))]
 pub fn body<'a>(parser: Parser, tokens: &'a [Token]) -> Parsed<'a, SubprogramBody>
     ensures reads { Shows (Reads (read.body_by parser.extent) tokens.now) result }
     ensures shorter { IfOk result (λ x. length x.1.now < length tokens.now) }
 {
-    let (specification, rest) = specification(parser, tokens)?;
-    let rest = word(Symbol::Is, rest)?;
+    let (specification, rest) = closed_by(Symbol::Is, specification(parser, tokens))?;
     body_rest(parser, specification, rest)
 }

@@ -9,11 +9,11 @@ ghost use Rattle.ada_parser.specs.Parts.{branch_parts};
 use crate::arms::alternatives;
 use crate::simple::direction;
 use crate::statements::{handled, nested};
-use crate::words::{closing, end};
+use crate::words::{end, ended_by};
 use ada_lexer::Token;
 use ada_syntax::{Branch, Declaration, LoopScheme, Statement, StatementKind};
 use cov_base::{Pos, Seq};
-use declaration_parser::{local_declarations, range};
+use declaration_parser::{closed_by, local_declarations, range};
 use expression_parser::{Extent, Fault, Parsed, Parser, Symbol, behind, symbol_in, word};
 
 /// `expr THEN stmts`
@@ -23,8 +23,7 @@ fn branch<'a>(parser: Parser, depth: u32, tokens: &'a [Token]) -> Parsed<'a, Bra
     ensures reads { ShowsAs branch_parts (Reads (at.at_branch parser.extent) tokens.now) result }
     ensures shorter { IfOk result (λ x. length x.1.now < length tokens.now) }
 {
-    let (condition, rest) = parser.expr(tokens)?;
-    let rest = word(Symbol::Then, rest)?;
+    let (condition, rest) = closed_by(Symbol::Then, parser.expr(tokens))?;
     let (statements, rest) = nested(parser, depth, rest)?;
     let branch = Branch {
         condition,
@@ -77,8 +76,7 @@ fn if_statement<'a>(
 {
     let (first, rest) = branch(parser, depth, tokens)?;
     let (others, rest) = branches(parser, depth, rest)?;
-    let (otherwise, rest) = else_part(parser, depth, rest)?;
-    let rest = closing(Symbol::If, rest)?;
+    let (otherwise, rest) = ended_by(Symbol::If, else_part(parser, depth, rest))?;
     let kind = StatementKind::If(first, others, otherwise);
     Ok((Statement { pos, kind }, rest))
 }
@@ -95,10 +93,8 @@ fn case_statement<'a>(
     ensures reads { Shows (Reads (at.at_case parser.extent pos) tokens.now) result }
     ensures shorter { IfOk result (λ x. length x.1.now < length tokens.now) }
 {
-    let (selector, rest) = parser.expr(tokens)?;
-    let rest = word(Symbol::Is, rest)?;
-    let (alternatives, rest) = alternatives(parser, depth, rest)?;
-    let rest = closing(Symbol::Case, rest)?;
+    let (selector, rest) = closed_by(Symbol::Is, parser.expr(tokens))?;
+    let (alternatives, rest) = ended_by(Symbol::Case, alternatives(parser, depth, rest))?;
     let kind = StatementKind::Case(selector, alternatives);
     Ok((Statement { pos, kind }, rest))
 }
@@ -116,9 +112,8 @@ fn loop_rest<'a>(
     ensures reads { Shows (Reads (at.at_loop parser.extent pos scheme) tokens.now) result }
     ensures shorter { IfOk result (λ x. length x.1.now < length tokens.now) }
 {
-    let rest = word(Symbol::Loop, tokens)?;
-    let (statements, rest) = nested(parser, depth, rest)?;
-    let rest = closing(Symbol::Loop, rest)?;
+    let (scheme, rest) = closed_by(Symbol::Loop, Ok((scheme, tokens)))?;
+    let (statements, rest) = ended_by(Symbol::Loop, nested(parser, depth, rest))?;
     let kind = StatementKind::Loop(scheme, statements);
     Ok((Statement { pos, kind }, rest))
 }

@@ -9,7 +9,7 @@ ghost use Rattle.ada_parser.specs.StatementDepth as at;
 use ada_lexer::Token;
 use ada_syntax::{Direction, Expr, Name, Statement, StatementKind};
 use cov_base::Pos;
-use declaration_parser::{exemption_pragma, initial};
+use declaration_parser::{closed_by, exemption_pragma, initial};
 use expression_parser::{Extent, Fault, Parsed, Parser, Symbol, behind, symbol_in, word};
 
 /// `:= init ; | ;` behind a name, which stands at this place. Assignments come with
@@ -25,8 +25,7 @@ fn name_rest<'a>(parser: Parser, pos: Pos, name: Name, tokens: &'a [Token]) -> P
     match symbol_in(token.lexeme) {
         Symbol::Becomes => {
             parser.needs(Extent::Objects, tokens)?;
-            let (value, rest) = initial(parser, rest)?;
-            let rest = word(Symbol::Semicolon, rest)?;
+            let (value, rest) = closed_by(Symbol::Semicolon, initial(parser, rest))?;
             let kind = StatementKind::Assignment(name, value);
             Ok((Statement { pos, kind }, rest))
         }

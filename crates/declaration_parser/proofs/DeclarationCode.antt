@@ -1,5 +1,5 @@
 -- Local declarations, as the code reads them.
-use Rattle.std.proofs.Common.{◌≡◌, ℕ, suc, ◌<◌, ◌≤◌, Bool, true, false, cond, List, [], ◌∷◌, ◌++◌, length, Option, Some, None, refl, ap, sym, ◌∙◌, arith}
+use Rattle.std.proofs.Common.{◌≡◌, ℕ, suc, ◌<◌, Bool, true, false, cond, List, [], ◌∷◌, ◌++◌, length, Option, Some, None, refl, ap, sym, ◌∙◌, arith}
 use Rattle.std.proofs.lemmas.Bool.{false≢true}
 use Rattle.ada_lexer.specs.declared.token.Token.{Token}
 use Rattle.ada_syntax.specs.declared.name.Identifier.{Identifier}
@@ -19,15 +19,21 @@ use Rattle.expression_parser.specs.declared.extent.Extent.TheVariants.{Objects, 
 use Rattle.expression_parser.specs.Symbols.{symbol_of, Is, same}
 use Rattle.expression_parser.specs.Extents.{opens}
 use Rattle.expression_parser.specs.Reading.{Tokens, Reading, Reader, Got, Stuck, Refuse, Leave, Take, Look, got, goes_on, ◌>>=◌, turned, provided, expect, skip}
-use Rattle.expression_parser.specs.Shows.{after, Reads, More, Skipped, Identified, next_is}
+use Rattle.expression_parser.specs.Shows.{Shows, ShowsAs, TakesIdentifier, after, Reads, More, Skipped, next_is}
 use Rattle.declaration_parser.specs.Identifiers.{identifiers_by}
 use Rattle.declaration_parser.specs.SubtypeReading.{initial_by, indication_by, definition_by}
 use Rattle.declaration_parser.specs.Declarations.{declared}
 use Rattle.declaration_parser.specs.DeclarationReading as read
 use Rattle.expression_parser.proofs.Comes.{got_bind, got_then, on_symbol}
 use Rattle.expression_parser.proofs.Loops.{more_end, more_leave, more_look, more_look_stuck}
-use Rattle.declaration_parser.specs.DeclarationReading.{spelled_by, skip_word}
-use Rattle.declaration_parser.proofs.Steps.{then_reads, then_stuck, then_got_reads, skip_reads, skip_stuck, named_reads, named_stuck, got_reads, turn_taken, turn_left}
+use Rattle.std.specs.Prelude.{Result}
+use Rattle.std.specs.Borrow.{Bor}
+use Rattle.expression_parser.specs.declared.fault.Fault.{Fault}
+use Rattle.expression_parser.specs.declared.fault.Fault.TheVariants.{Syntax, Memory}
+use Rattle.expression_parser.proofs.Faults.{failed}
+use Rattle.declaration_parser.specs.Closing.{Closes}
+use Rattle.declaration_parser.proofs.Closings.{read_so, Within, Below, within_below, leads, closes, stops, goes, named_leads, read_then, name_then, closed}
+use Rattle.declaration_parser.proofs.Steps.{then_stuck, then_got_reads, got_reads, turn_taken, turn_left}
 
 module _ (x : Extent) where
   no_initial_turn : (m : ℕ) (s : Symbol) (t : Token) → same s symbol.Becomes ≡ false → read.initial_part_turn x m s t ≡ Leave None
@@ -48,29 +54,57 @@ module _ (x : Extent) where
       turn_taken (Leave None) (read.initial_part_turn x) symbol.Becomes ts us (λ m. initial_by x m >>= λ z. got (Some z)) (Stuck rest) a (λ m t. refl)
       (then_stuck (initial_by x) (λ m z. got (Some z)) us rest h)
 
-  pub object_read : (is : List Identifier) (k : Constancy) (ts us vs rest : Tokens) (s : SubtypeIndication) (i : Option Initial) → Reads (indication_by x) ts (Got s us)
-      → length us < length ts → Reads (read.initial_part_by x) us (Got i vs) → length vs ≤ length us → Skipped symbol.Semicolon vs rest
-      → Reads (read.object_at x is k) ts (Got (declares.Object is k s i) rest)
-  object_read is k ts us vs rest s i h1 h2 h3 h4 h5 =
-      then_reads (indication_by x) (λ m s. read.initial_part_by x m >>= λ i. skip symbol.Semicolon (got (declares.Object is k s i))) ts us s (Got (declares.Object is k s i) rest) h1 (omega (arith, h2))
-      (then_reads (read.initial_part_by x) (λ m i. skip symbol.Semicolon (got (declares.Object is k s i))) us vs i (Got (declares.Object is k s i) rest) h3 h4
-      (skip_reads symbol.Semicolon (λ m. got (declares.Object is k s i)) vs rest (Got (declares.Object is k s i) rest) h5 (got_reads (declares.Object is k s i) rest)))
+  pub object_type_fails_first : (ts : Tokens) (f : Fault)
+      → Shows (Reads (indication_by x) ts) (failed f)
+      → Shows (Reads (read.object_type_by x) ts) (failed f)
+  object_type_fails_first ts f h1 =
+      stops (λ z. z) (read_then (indication_by x)) (λ m z0. (read.initial_part_by x m >>= λ z1. skip symbol.Semicolon (got (z0, z1)))) ts f (leads (SubtypeIndication × Option Initial) (λ z. z) (indication_by x) ts (failed f) h1 tt)
 
-  pub object_fails_first : (is : List Identifier) (k : Constancy) (ts rest : Tokens) → Reads (indication_by x) ts (Stuck rest) → Reads (read.object_at x is k) ts (Stuck rest)
-  object_fails_first is k ts rest h1 = then_stuck (indication_by x) (λ m s. read.initial_part_by x m >>= λ i. skip symbol.Semicolon (got (declares.Object is k s i))) ts rest h1
+  pub object_type_fails_second : (ts : Tokens) (v0 : SubtypeIndication) (u0 : Bor Tokens) (p1 : Result (Option Initial × Bor Tokens) Fault) (f : Fault)
+      → Shows (Reads (indication_by x) ts) (read_so v0 u0) → Below ts (read_so v0 u0) → Shows (Reads (read.initial_part_by x) u0.now) p1 → Within u0.now p1 → Closes symbol.Semicolon p1 (failed f)
+      → Shows (Reads (read.object_type_by x) ts) (failed f)
+  object_type_fails_second ts v0 u0 p1 f h1 h2 h3 h4 h5 =
+      goes (λ z. z) (read_then (indication_by x)) (λ m z0. (read.initial_part_by x m >>= λ z1. skip symbol.Semicolon (got (z0, z1)))) ts v0 u0 (failed f) (leads (SubtypeIndication × Option Initial) (λ z. z) (indication_by x) ts (read_so v0 u0) h1 (within_below ts (read_so v0 u0) h2)) (
+      stops (λ z. z) (closed symbol.Semicolon (read_then (read.initial_part_by x))) (λ m z1. got (v0, z1)) u0.now f (closes (λ z. z) (read_then (read.initial_part_by x)) symbol.Semicolon u0.now p1 (failed f) (leads (SubtypeIndication × Option Initial) (λ z. z) (read.initial_part_by x) u0.now p1 h3 h4) h5))
 
-  pub object_fails_second : (is : List Identifier) (k : Constancy) (ts us rest : Tokens) (s : SubtypeIndication) → Reads (indication_by x) ts (Got s us) → length us < length ts
-      → Reads (read.initial_part_by x) us (Stuck rest) → Reads (read.object_at x is k) ts (Stuck rest)
-  object_fails_second is k ts us rest s h1 h2 h3 =
-      then_reads (indication_by x) (λ m s. read.initial_part_by x m >>= λ i. skip symbol.Semicolon (got (declares.Object is k s i))) ts us s (Stuck rest) h1 (omega (arith, h2))
-      (then_stuck (read.initial_part_by x) (λ m i. skip symbol.Semicolon (got (declares.Object is k s i))) us rest h3)
+  pub object_type_read : (ts : Tokens) (v0 : SubtypeIndication) (u0 : Bor Tokens) (p1 : Result (Option Initial × Bor Tokens) Fault) (v1 : Option Initial) (u1 : Bor Tokens)
+      → Shows (Reads (indication_by x) ts) (read_so v0 u0) → Below ts (read_so v0 u0) → Shows (Reads (read.initial_part_by x) u0.now) p1 → Within u0.now p1 → Closes symbol.Semicolon p1 (read_so v1 u1)
+      → Reads (read.object_type_by x) ts (Got (v0, v1) u1.now)
+  object_type_read ts v0 u0 p1 v1 u1 h1 h2 h3 h4 h5 =
+      goes (λ z. z) (read_then (indication_by x)) (λ m z0. (read.initial_part_by x m >>= λ z1. skip symbol.Semicolon (got (z0, z1)))) ts v0 u0 (read_so (v0, v1) u1) (leads (SubtypeIndication × Option Initial) (λ z. z) (indication_by x) ts (read_so v0 u0) h1 (within_below ts (read_so v0 u0) h2)) (
+      goes (λ z. z) (closed symbol.Semicolon (read_then (read.initial_part_by x))) (λ m z1. got (v0, z1)) u0.now v1 u1 (read_so (v0, v1) u1) (closes (λ z. z) (read_then (read.initial_part_by x)) symbol.Semicolon u0.now p1 (read_so v1 u1) (leads (SubtypeIndication × Option Initial) (λ z. z) (read.initial_part_by x) u0.now p1 h3 h4) h5) (
+      got_reads (v0, v1) u1.now))
 
-  pub object_fails_third : (is : List Identifier) (k : Constancy) (ts us vs rest : Tokens) (s : SubtypeIndication) (i : Option Initial) → Reads (indication_by x) ts (Got s us)
-      → length us < length ts → Reads (read.initial_part_by x) us (Got i vs) → length vs ≤ length us → expect symbol.Semicolon vs ≡ Stuck rest → Reads (read.object_at x is k) ts (Stuck rest)
-  object_fails_third is k ts us vs rest s i h1 h2 h3 h4 h5 =
-      then_reads (indication_by x) (λ m s. read.initial_part_by x m >>= λ i. skip symbol.Semicolon (got (declares.Object is k s i))) ts us s (Stuck rest) h1 (omega (arith, h2))
-      (then_reads (read.initial_part_by x) (λ m i. skip symbol.Semicolon (got (declares.Object is k s i))) us vs i (Stuck rest) h3 h4
-      (skip_stuck symbol.Semicolon (λ m. got (declares.Object is k s i)) vs rest h5))
+  -- what is read in two steps is read in one
+  module _ (is : List Identifier) (k : Constancy) where
+    abbrev of_type : (SubtypeIndication × Option Initial) → Reader DeclarationKind
+    of_type y = got (declares.Object is k y.0 y.1)
+
+    ended : (s : SubtypeIndication) (i : Option Initial) (q : Reading Token) → goes_on (λ _. got (declares.Object is k s i)) q ≡ goes_on of_type (goes_on (λ _. got (s, i)) q)
+    ended s i (Got t us) = refl
+    ended s i (Stuck us) = refl
+
+    valued : (s : SubtypeIndication) (q : Reading (Option Initial))
+        → goes_on (λ i. skip symbol.Semicolon (got (declares.Object is k s i))) q ≡ goes_on of_type (goes_on (λ i. skip symbol.Semicolon (got (s, i))) q)
+    valued s (Got i us) = ended s i (expect symbol.Semicolon us)
+    valued s (Stuck us) = refl
+
+    typed : (m : ℕ) (q : Reading SubtypeIndication)
+        → goes_on (λ s. read.initial_part_by x m >>= λ i. skip symbol.Semicolon (got (declares.Object is k s i))) q
+        ≡ goes_on of_type (goes_on (λ s. read.initial_part_by x m >>= λ i. skip symbol.Semicolon (got (s, i))) q)
+    typed m (Got s us) = valued s (read.initial_part_by x m us)
+    typed m (Stuck us) = refl
+
+    pub object_read : (ts : Tokens) (s : SubtypeIndication) (i : Option Initial) (us : Tokens) (js : List Identifier) → Reads (read.object_type_by x) ts (Got (s, i) us) → js ≡ is
+        → Reads (read.object_at x is k) ts (Got (declares.Object js k s i) us)
+    object_read ts s i us js h e = record { by = λ m n. typed m (indication_by x m ts) ∙ (ap (goes_on of_type) (h.by m n) ∙ ap (λ z. Got (declares.Object z k s i) us) (sym e)) }
+
+    object_stuck : (ts rest : Tokens) → Reads (read.object_type_by x) ts (Stuck rest) → Reads (read.object_at x is k) ts (Stuck rest)
+    object_stuck ts rest h = record { by = λ m n. typed m (indication_by x m ts) ∙ ap (goes_on of_type) (h.by m n) }
+
+    pub object_fails : (ts : Tokens) (f : Fault) → Shows (Reads (read.object_type_by x) ts) (failed f) → Shows (Reads (read.object_at x is k) ts) (failed f)
+    object_fails ts (Syntax rest) h = object_stuck ts rest.now h
+    object_fails ts Memory h = tt
 
   pub named_rest_none : (is : List Identifier) → Reads (read.named_rest_at x is) [] (Stuck [])
   named_rest_none is = record { by = λ m h. refl }
@@ -106,82 +140,60 @@ module _ (x : Extent) where
       → Reads (read.named_rest_at x is) (t ∷ us) q
   variable_read is t us q a b h = record { by = λ m n. ap (λ z. turned z t us) (variable_on is m (symbol_of t.lexeme) t a b) ∙ h.by m n }
 
-  pub named_read : (ts us vs : Tokens) (is : List Identifier) (q : Reading (DeclarationKind)) → Reads (identifiers_by) ts (Got is us) → length us < length ts → Skipped symbol.Colon us vs
-      → Reads (read.named_rest_at x is) vs q → Reads (read.named_by x) ts q
-  named_read ts us vs is q h1 h2 h3 h4 =
-      then_reads (identifiers_by) (λ m is. skip symbol.Colon (read.named_rest_at x is m)) ts us is q h1 (omega (arith, h2))
-      (skip_reads symbol.Colon (λ m. read.named_rest_at x is m) us vs q h3 (h4))
+  pub named_fails_first : (ts : Tokens) {C0 : Type 0} (p0 : Result (C0 × Bor Tokens) Fault) (f : Fault) (view0 : C0 → List Identifier)
+      → ShowsAs view0 (Reads identifiers_by ts) p0 → Below ts p0 → Closes symbol.Colon p0 (failed f)
+      → Shows (Reads (read.named_by x) ts) (failed f)
+  named_fails_first ts p0 f view0 h1 h2 h3 =
+      stops view0 (closed symbol.Colon (read_then identifiers_by)) (λ m z0. read.named_rest x m z0) ts f (closes view0 (read_then identifiers_by) symbol.Colon ts p0 (failed f) (leads (DeclarationKind) view0 identifiers_by ts p0 h1 (within_below ts p0 h2)) h3)
 
-  pub named_fails_first : (ts rest : Tokens) → Reads (identifiers_by) ts (Stuck rest) → Reads (read.named_by x) ts (Stuck rest)
-  named_fails_first ts rest h1 = then_stuck (identifiers_by) (λ m is. skip symbol.Colon (read.named_rest_at x is m)) ts rest h1
+  pub named_read : (ts : Tokens) {C0 : Type 0} (p0 : Result (C0 × Bor Tokens) Fault) (v0 : C0) (u0 : Bor Tokens) (view0 : C0 → List Identifier) (q : Result (DeclarationKind × Bor Tokens) Fault)
+      → ShowsAs view0 (Reads identifiers_by ts) p0 → Below ts p0 → Closes symbol.Colon p0 (read_so v0 u0) → Shows (Reads (λ m. read.named_rest x m (view0 v0)) u0.now) q
+      → Shows (Reads (read.named_by x) ts) q
+  named_read ts p0 v0 u0 view0 q h1 h2 h3 h4 =
+      goes view0 (closed symbol.Colon (read_then identifiers_by)) (λ m z0. read.named_rest x m z0) ts v0 u0 q (closes view0 (read_then identifiers_by) symbol.Colon ts p0 (read_so v0 u0) (leads (DeclarationKind) view0 identifiers_by ts p0 h1 (within_below ts p0 h2)) h3) (
+      h4)
 
-  pub named_fails_second : (ts us rest : Tokens) (is : List Identifier) → Reads (identifiers_by) ts (Got is us) → length us < length ts → expect symbol.Colon us ≡ Stuck rest
-      → Reads (read.named_by x) ts (Stuck rest)
-  named_fails_second ts us rest is h1 h2 h3 =
-      then_reads (identifiers_by) (λ m is. skip symbol.Colon (read.named_rest_at x is m)) ts us is (Stuck rest) h1 (omega (arith, h2))
-      (skip_stuck symbol.Colon (λ m. read.named_rest_at x is m) us rest h3)
+  pub type_fails_first : (ts : Tokens) (p0 : Result (Identifier × Bor Tokens) Fault) (f : Fault)
+      → TakesIdentifier ts p0 → Closes symbol.Is p0 (failed f)
+      → Shows (Reads (read.type_by x) ts) (failed f)
+  type_fails_first ts p0 f h1 h2 =
+      stops (λ z. z) (closed symbol.Is name_then) (λ m z0. (definition_by x m >>= λ z1. skip symbol.Semicolon (got (declares.Type z0 z1)))) ts f (closes (λ z. z) name_then symbol.Is ts p0 (failed f) (named_leads (DeclarationKind) ts p0 h1) h2)
 
-  pub type_read : (ts us vs ws rest : Tokens) (i : Identifier) (d : TypeDefinition) → Identified ts us i → Skipped symbol.Is us vs → Reads (definition_by x) vs (Got d ws)
-      → length ws < length vs → Skipped symbol.Semicolon ws rest → Reads (read.type_by x) ts (Got (declares.Type i d) rest)
-  type_read ts us vs ws rest i d h1 h2 h3 h4 h5 =
-      named_reads (λ m i. skip symbol.Is (definition_by x m >>= λ d. skip symbol.Semicolon (got (declares.Type i d)))) ts us i (Got (declares.Type i d) rest) h1
-      (skip_reads symbol.Is (λ m. definition_by x m >>= λ d. skip symbol.Semicolon (got (declares.Type i d))) us vs (Got (declares.Type i d) rest) h2
-      (then_reads (definition_by x) (λ m d. skip symbol.Semicolon (got (declares.Type i d))) vs ws d (Got (declares.Type i d) rest) h3 (omega (arith, h4))
-      (skip_reads symbol.Semicolon (λ m. got (declares.Type i d)) ws rest (Got (declares.Type i d) rest) h5 (got_reads (declares.Type i d) rest))))
+  pub type_fails_second : (ts : Tokens) (p0 : Result (Identifier × Bor Tokens) Fault) (v0 : Identifier) (u0 : Bor Tokens) (p1 : Result (TypeDefinition × Bor Tokens) Fault) (f : Fault)
+      → TakesIdentifier ts p0 → Closes symbol.Is p0 (read_so v0 u0) → Shows (Reads (definition_by x) u0.now) p1 → Below u0.now p1 → Closes symbol.Semicolon p1 (failed f)
+      → Shows (Reads (read.type_by x) ts) (failed f)
+  type_fails_second ts p0 v0 u0 p1 f h1 h2 h3 h4 h5 =
+      goes (λ z. z) (closed symbol.Is name_then) (λ m z0. (definition_by x m >>= λ z1. skip symbol.Semicolon (got (declares.Type z0 z1)))) ts v0 u0 (failed f) (closes (λ z. z) name_then symbol.Is ts p0 (read_so v0 u0) (named_leads (DeclarationKind) ts p0 h1) h2) (
+      stops (λ z. z) (closed symbol.Semicolon (read_then (definition_by x))) (λ m z1. got (declares.Type v0 z1)) u0.now f (closes (λ z. z) (read_then (definition_by x)) symbol.Semicolon u0.now p1 (failed f) (leads (DeclarationKind) (λ z. z) (definition_by x) u0.now p1 h3 (within_below u0.now p1 h4)) h5))
 
-  pub type_fails_first : (ts rest : Tokens) → expect symbol.Identifier ts ≡ Stuck rest → Reads (read.type_by x) ts (Stuck rest)
-  type_fails_first ts rest h1 = named_stuck (λ m i. skip symbol.Is (definition_by x m >>= λ d. skip symbol.Semicolon (got (declares.Type i d)))) ts rest h1
+  pub type_read : (ts : Tokens) (p0 : Result (Identifier × Bor Tokens) Fault) (v0 : Identifier) (u0 : Bor Tokens) (p1 : Result (TypeDefinition × Bor Tokens) Fault) (v1 : TypeDefinition) (u1 : Bor Tokens)
+      → TakesIdentifier ts p0 → Closes symbol.Is p0 (read_so v0 u0) → Shows (Reads (definition_by x) u0.now) p1 → Below u0.now p1 → Closes symbol.Semicolon p1 (read_so v1 u1)
+      → Reads (read.type_by x) ts (Got (declares.Type v0 v1) u1.now)
+  type_read ts p0 v0 u0 p1 v1 u1 h1 h2 h3 h4 h5 =
+      goes (λ z. z) (closed symbol.Is name_then) (λ m z0. (definition_by x m >>= λ z1. skip symbol.Semicolon (got (declares.Type z0 z1)))) ts v0 u0 (read_so (declares.Type v0 v1) u1) (closes (λ z. z) name_then symbol.Is ts p0 (read_so v0 u0) (named_leads (DeclarationKind) ts p0 h1) h2) (
+      goes (λ z. z) (closed symbol.Semicolon (read_then (definition_by x))) (λ m z1. got (declares.Type v0 z1)) u0.now v1 u1 (read_so (declares.Type v0 v1) u1) (closes (λ z. z) (read_then (definition_by x)) symbol.Semicolon u0.now p1 (read_so v1 u1) (leads (DeclarationKind) (λ z. z) (definition_by x) u0.now p1 h3 (within_below u0.now p1 h4)) h5) (
+      got_reads (declares.Type v0 v1) u1.now))
 
-  pub type_fails_second : (ts us rest : Tokens) (i : Identifier) → Identified ts us i → expect symbol.Is us ≡ Stuck rest → Reads (read.type_by x) ts (Stuck rest)
-  type_fails_second ts us rest i h1 h2 =
-      named_reads (λ m i. skip symbol.Is (definition_by x m >>= λ d. skip symbol.Semicolon (got (declares.Type i d)))) ts us i (Stuck rest) h1
-      (skip_stuck symbol.Is (λ m. definition_by x m >>= λ d. skip symbol.Semicolon (got (declares.Type i d))) us rest h2)
+  pub subtype_fails_first : (ts : Tokens) (p0 : Result (Identifier × Bor Tokens) Fault) (f : Fault)
+      → TakesIdentifier ts p0 → Closes symbol.Is p0 (failed f)
+      → Shows (Reads (read.subtype_by x) ts) (failed f)
+  subtype_fails_first ts p0 f h1 h2 =
+      stops (λ z. z) (closed symbol.Is name_then) (λ m z0. (indication_by x m >>= λ z1. skip symbol.Semicolon (got (declares.Subtype z0 z1)))) ts f (closes (λ z. z) name_then symbol.Is ts p0 (failed f) (named_leads (DeclarationKind) ts p0 h1) h2)
 
-  pub type_fails_third : (ts us vs rest : Tokens) (i : Identifier) → Identified ts us i → Skipped symbol.Is us vs → Reads (definition_by x) vs (Stuck rest)
-      → Reads (read.type_by x) ts (Stuck rest)
-  type_fails_third ts us vs rest i h1 h2 h3 =
-      named_reads (λ m i. skip symbol.Is (definition_by x m >>= λ d. skip symbol.Semicolon (got (declares.Type i d)))) ts us i (Stuck rest) h1
-      (skip_reads symbol.Is (λ m. definition_by x m >>= λ d. skip symbol.Semicolon (got (declares.Type i d))) us vs (Stuck rest) h2
-      (then_stuck (definition_by x) (λ m d. skip symbol.Semicolon (got (declares.Type i d))) vs rest h3))
+  pub subtype_fails_second : (ts : Tokens) (p0 : Result (Identifier × Bor Tokens) Fault) (v0 : Identifier) (u0 : Bor Tokens) (p1 : Result (SubtypeIndication × Bor Tokens) Fault) (f : Fault)
+      → TakesIdentifier ts p0 → Closes symbol.Is p0 (read_so v0 u0) → Shows (Reads (indication_by x) u0.now) p1 → Below u0.now p1 → Closes symbol.Semicolon p1 (failed f)
+      → Shows (Reads (read.subtype_by x) ts) (failed f)
+  subtype_fails_second ts p0 v0 u0 p1 f h1 h2 h3 h4 h5 =
+      goes (λ z. z) (closed symbol.Is name_then) (λ m z0. (indication_by x m >>= λ z1. skip symbol.Semicolon (got (declares.Subtype z0 z1)))) ts v0 u0 (failed f) (closes (λ z. z) name_then symbol.Is ts p0 (read_so v0 u0) (named_leads (DeclarationKind) ts p0 h1) h2) (
+      stops (λ z. z) (closed symbol.Semicolon (read_then (indication_by x))) (λ m z1. got (declares.Subtype v0 z1)) u0.now f (closes (λ z. z) (read_then (indication_by x)) symbol.Semicolon u0.now p1 (failed f) (leads (DeclarationKind) (λ z. z) (indication_by x) u0.now p1 h3 (within_below u0.now p1 h4)) h5))
 
-  pub type_fails_fourth : (ts us vs ws rest : Tokens) (i : Identifier) (d : TypeDefinition) → Identified ts us i → Skipped symbol.Is us vs → Reads (definition_by x) vs (Got d ws)
-      → length ws < length vs → expect symbol.Semicolon ws ≡ Stuck rest → Reads (read.type_by x) ts (Stuck rest)
-  type_fails_fourth ts us vs ws rest i d h1 h2 h3 h4 h5 =
-      named_reads (λ m i. skip symbol.Is (definition_by x m >>= λ d. skip symbol.Semicolon (got (declares.Type i d)))) ts us i (Stuck rest) h1
-      (skip_reads symbol.Is (λ m. definition_by x m >>= λ d. skip symbol.Semicolon (got (declares.Type i d))) us vs (Stuck rest) h2
-      (then_reads (definition_by x) (λ m d. skip symbol.Semicolon (got (declares.Type i d))) vs ws d (Stuck rest) h3 (omega (arith, h4))
-      (skip_stuck symbol.Semicolon (λ m. got (declares.Type i d)) ws rest h5)))
-
-  pub subtype_read : (ts us vs ws rest : Tokens) (i : Identifier) (s : SubtypeIndication) → Identified ts us i → Skipped symbol.Is us vs → Reads (indication_by x) vs (Got s ws)
-      → length ws < length vs → Skipped symbol.Semicolon ws rest → Reads (read.subtype_by x) ts (Got (declares.Subtype i s) rest)
-  subtype_read ts us vs ws rest i s h1 h2 h3 h4 h5 =
-      named_reads (λ m i. skip symbol.Is (indication_by x m >>= λ s. skip symbol.Semicolon (got (declares.Subtype i s)))) ts us i (Got (declares.Subtype i s) rest) h1
-      (skip_reads symbol.Is (λ m. indication_by x m >>= λ s. skip symbol.Semicolon (got (declares.Subtype i s))) us vs (Got (declares.Subtype i s) rest) h2
-      (then_reads (indication_by x) (λ m s. skip symbol.Semicolon (got (declares.Subtype i s))) vs ws s (Got (declares.Subtype i s) rest) h3 (omega (arith, h4))
-      (skip_reads symbol.Semicolon (λ m. got (declares.Subtype i s)) ws rest (Got (declares.Subtype i s) rest) h5 (got_reads (declares.Subtype i s) rest))))
-
-  pub subtype_fails_first : (ts rest : Tokens) → expect symbol.Identifier ts ≡ Stuck rest → Reads (read.subtype_by x) ts (Stuck rest)
-  subtype_fails_first ts rest h1 = named_stuck (λ m i. skip symbol.Is (indication_by x m >>= λ s. skip symbol.Semicolon (got (declares.Subtype i s)))) ts rest h1
-
-  pub subtype_fails_second : (ts us rest : Tokens) (i : Identifier) → Identified ts us i → expect symbol.Is us ≡ Stuck rest → Reads (read.subtype_by x) ts (Stuck rest)
-  subtype_fails_second ts us rest i h1 h2 =
-      named_reads (λ m i. skip symbol.Is (indication_by x m >>= λ s. skip symbol.Semicolon (got (declares.Subtype i s)))) ts us i (Stuck rest) h1
-      (skip_stuck symbol.Is (λ m. indication_by x m >>= λ s. skip symbol.Semicolon (got (declares.Subtype i s))) us rest h2)
-
-  pub subtype_fails_third : (ts us vs rest : Tokens) (i : Identifier) → Identified ts us i → Skipped symbol.Is us vs → Reads (indication_by x) vs (Stuck rest)
-      → Reads (read.subtype_by x) ts (Stuck rest)
-  subtype_fails_third ts us vs rest i h1 h2 h3 =
-      named_reads (λ m i. skip symbol.Is (indication_by x m >>= λ s. skip symbol.Semicolon (got (declares.Subtype i s)))) ts us i (Stuck rest) h1
-      (skip_reads symbol.Is (λ m. indication_by x m >>= λ s. skip symbol.Semicolon (got (declares.Subtype i s))) us vs (Stuck rest) h2
-      (then_stuck (indication_by x) (λ m s. skip symbol.Semicolon (got (declares.Subtype i s))) vs rest h3))
-
-  pub subtype_fails_fourth : (ts us vs ws rest : Tokens) (i : Identifier) (s : SubtypeIndication) → Identified ts us i → Skipped symbol.Is us vs → Reads (indication_by x) vs (Got s ws)
-      → length ws < length vs → expect symbol.Semicolon ws ≡ Stuck rest → Reads (read.subtype_by x) ts (Stuck rest)
-  subtype_fails_fourth ts us vs ws rest i s h1 h2 h3 h4 h5 =
-      named_reads (λ m i. skip symbol.Is (indication_by x m >>= λ s. skip symbol.Semicolon (got (declares.Subtype i s)))) ts us i (Stuck rest) h1
-      (skip_reads symbol.Is (λ m. indication_by x m >>= λ s. skip symbol.Semicolon (got (declares.Subtype i s))) us vs (Stuck rest) h2
-      (then_reads (indication_by x) (λ m s. skip symbol.Semicolon (got (declares.Subtype i s))) vs ws s (Stuck rest) h3 (omega (arith, h4))
-      (skip_stuck symbol.Semicolon (λ m. got (declares.Subtype i s)) ws rest h5)))
+  pub subtype_read : (ts : Tokens) (p0 : Result (Identifier × Bor Tokens) Fault) (v0 : Identifier) (u0 : Bor Tokens) (p1 : Result (SubtypeIndication × Bor Tokens) Fault) (v1 : SubtypeIndication) (u1 : Bor Tokens)
+      → TakesIdentifier ts p0 → Closes symbol.Is p0 (read_so v0 u0) → Shows (Reads (indication_by x) u0.now) p1 → Below u0.now p1 → Closes symbol.Semicolon p1 (read_so v1 u1)
+      → Reads (read.subtype_by x) ts (Got (declares.Subtype v0 v1) u1.now)
+  subtype_read ts p0 v0 u0 p1 v1 u1 h1 h2 h3 h4 h5 =
+      goes (λ z. z) (closed symbol.Is name_then) (λ m z0. (indication_by x m >>= λ z1. skip symbol.Semicolon (got (declares.Subtype z0 z1)))) ts v0 u0 (read_so (declares.Subtype v0 v1) u1) (closes (λ z. z) name_then symbol.Is ts p0 (read_so v0 u0) (named_leads (DeclarationKind) ts p0 h1) h2) (
+      goes (λ z. z) (closed symbol.Semicolon (read_then (indication_by x))) (λ m z1. got (declares.Subtype v0 z1)) u0.now v1 u1 (read_so (declares.Subtype v0 v1) u1) (closes (λ z. z) (read_then (indication_by x)) symbol.Semicolon u0.now p1 (read_so v1 u1) (leads (DeclarationKind) (λ z. z) (indication_by x) u0.now p1 h3 (within_below u0.now p1 h4)) h5) (
+      got_reads (declares.Subtype v0 v1) u1.now))
 
   pub kind_none : Reads (read.kind_by x) [] (Stuck [])
   kind_none = record { by = λ m h. refl }
@@ -269,15 +281,7 @@ module _ (x : Extent) where
 
 pub ruleset initial_part_rules = (initial_part_none, initial_part_read, initial_part_fails)
 
-pub ruleset object_rules = (object_read, object_fails_first, object_fails_second, object_fails_third)
-
 pub ruleset named_rest_rules = (named_rest_none, exception_closed, exception_read, exception_fails, constant_read, variable_read)
-
-pub ruleset named_rules = (named_read, named_fails_first, named_fails_second)
-
-pub ruleset type_rules = (type_read, type_fails_first, type_fails_second, type_fails_third, type_fails_fourth)
-
-pub ruleset subtype_rules = (subtype_read, subtype_fails_first, subtype_fails_second, subtype_fails_third, subtype_fails_fourth)
 
 pub ruleset kind_rules = (kind_none, kind_type_closed, kind_type, kind_subtype_closed, kind_subtype, kind_named_closed, kind_named, kind_pragma, kind_pragma_fails, kind_other)
 

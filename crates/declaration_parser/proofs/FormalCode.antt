@@ -16,8 +16,8 @@ use Rattle.expression_parser.specs.declared.extent.Extent.{Extent}
 use Rattle.expression_parser.specs.declared.extent.Extent.TheVariants.{Generics}
 use Rattle.expression_parser.specs.Symbols.{symbol_of, Is, same}
 use Rattle.expression_parser.specs.Extents.{opens}
-use Rattle.expression_parser.specs.Reading.{Tokens, Reading, Reader, Got, Stuck, Refuse, Leave, Look, got, goes_on, ◌>>=◌, turned, accept, expect, skip}
-use Rattle.expression_parser.specs.Shows.{after, Reads, More, Skipped, Identified, next_is}
+use Rattle.expression_parser.specs.Reading.{Tokens, Reading, Reader, Got, Stuck, Refuse, Leave, Look, got, goes_on, ◌>>=◌, turned, accept, skip}
+use Rattle.expression_parser.specs.Shows.{Shows, TakesIdentifier, after, Reads, More, next_is}
 use Rattle.expression_parser.specs.Depth.{at_name}
 use Rattle.declaration_parser.specs.Formals.{formed}
 use Rattle.declaration_parser.specs.DeclarationReading.{specification_by}
@@ -25,8 +25,15 @@ use Rattle.declaration_parser.specs.FormalReading as read
 use Rattle.expression_parser.proofs.Comes.{got_then, on_symbol}
 use Rattle.expression_parser.proofs.Loops.{more_end, more_leave, more_look, more_look_stuck}
 use Rattle.expression_parser.proofs.NameCode.{after_some, after_none}
+use Rattle.std.specs.Prelude.{Result}
+use Rattle.std.specs.Borrow.{Bor}
+use Rattle.expression_parser.specs.declared.fault.Fault.{Fault}
+use Rattle.expression_parser.specs.declared.fault.Fault.TheVariants.{Syntax, Memory}
+use Rattle.expression_parser.proofs.Faults.{failed}
+use Rattle.declaration_parser.specs.Closing.{Closes}
+use Rattle.declaration_parser.proofs.Closings.{read_so, Below, within_below, Leads, leads, closes, stops, goes, named_leads, given_leads, now_goes, read_then, name_then, closed, given}
 use Rattle.declaration_parser.proofs.ExpressionParts.{gated_open, gated_closed}
-use Rattle.declaration_parser.proofs.Steps.{then_reads, then_stuck, now_reads, skip_reads, skip_stuck, named_reads, named_stuck, got_reads, turn_taken}
+use Rattle.declaration_parser.proofs.Steps.{got_reads, turn_taken}
 
 -- modes
 pub after_shorter : (s : Symbol) (ts us : Tokens) → after s ts ≡ Some us → length us ≤ length ts
@@ -50,167 +57,106 @@ integer_end i = skip symbol.Box (skip symbol.Semicolon (got (formal.IntegerType 
 abbrev discrete_end : Identifier → Reader FormalKind
 discrete_end i = skip symbol.Box (skip symbol.RightParenthesis (skip symbol.Semicolon (got (formal.DiscreteType i))))
 
-integer_read : (i : Identifier) (ts us rest : Tokens) → Skipped symbol.Box ts us → Skipped symbol.Semicolon us rest → Reads (λ m. integer_end i) ts (Got (formal.IntegerType i) rest)
-integer_read i ts us rest h1 h2 =
-    skip_reads symbol.Box (λ m. skip symbol.Semicolon (got (formal.IntegerType i))) ts us (Got (formal.IntegerType i) rest) h1
-    (skip_reads symbol.Semicolon (λ m. got (formal.IntegerType i)) us rest (Got (formal.IntegerType i) rest) h2 (got_reads (formal.IntegerType i) rest))
-
-integer_fails_first : (i : Identifier) (ts rest : Tokens) → expect symbol.Box ts ≡ Stuck rest → Reads (λ m. integer_end i) ts (Stuck rest)
-integer_fails_first i ts rest h1 = skip_stuck symbol.Box (λ m. skip symbol.Semicolon (got (formal.IntegerType i))) ts rest h1
-
-integer_fails_second : (i : Identifier) (ts us rest : Tokens) → Skipped symbol.Box ts us → expect symbol.Semicolon us ≡ Stuck rest → Reads (λ m. integer_end i) ts (Stuck rest)
-integer_fails_second i ts us rest h1 h2 =
-    skip_reads symbol.Box (λ m. skip symbol.Semicolon (got (formal.IntegerType i))) ts us (Stuck rest) h1 (skip_stuck symbol.Semicolon (λ m. got (formal.IntegerType i)) us rest h2)
-
-discrete_read : (i : Identifier) (ts us vs rest : Tokens) → Skipped symbol.Box ts us → Skipped symbol.RightParenthesis us vs → Skipped symbol.Semicolon vs rest
-    → Reads (λ m. discrete_end i) ts (Got (formal.DiscreteType i) rest)
-discrete_read i ts us vs rest h1 h2 h3 =
-    skip_reads symbol.Box (λ m. skip symbol.RightParenthesis (skip symbol.Semicolon (got (formal.DiscreteType i)))) ts us (Got (formal.DiscreteType i) rest) h1
-    (skip_reads symbol.RightParenthesis (λ m. skip symbol.Semicolon (got (formal.DiscreteType i))) us vs (Got (formal.DiscreteType i) rest) h2
-    (skip_reads symbol.Semicolon (λ m. got (formal.DiscreteType i)) vs rest (Got (formal.DiscreteType i) rest) h3 (got_reads (formal.DiscreteType i) rest)))
-
-discrete_fails_first : (i : Identifier) (ts rest : Tokens) → expect symbol.Box ts ≡ Stuck rest → Reads (λ m. discrete_end i) ts (Stuck rest)
-discrete_fails_first i ts rest h1 = skip_stuck symbol.Box (λ m. skip symbol.RightParenthesis (skip symbol.Semicolon (got (formal.DiscreteType i)))) ts rest h1
-
-discrete_fails_second : (i : Identifier) (ts us rest : Tokens) → Skipped symbol.Box ts us → expect symbol.RightParenthesis us ≡ Stuck rest → Reads (λ m. discrete_end i) ts (Stuck rest)
-discrete_fails_second i ts us rest h1 h2 =
-    skip_reads symbol.Box (λ m. skip symbol.RightParenthesis (skip symbol.Semicolon (got (formal.DiscreteType i)))) ts us (Stuck rest) h1
-    (skip_stuck symbol.RightParenthesis (λ m. skip symbol.Semicolon (got (formal.DiscreteType i))) us rest h2)
-
-discrete_fails_third : (i : Identifier) (ts us vs rest : Tokens) → Skipped symbol.Box ts us → Skipped symbol.RightParenthesis us vs → expect symbol.Semicolon vs ≡ Stuck rest
-    → Reads (λ m. discrete_end i) ts (Stuck rest)
-discrete_fails_third i ts us vs rest h1 h2 h3 =
-    skip_reads symbol.Box (λ m. skip symbol.RightParenthesis (skip symbol.Semicolon (got (formal.DiscreteType i)))) ts us (Stuck rest) h1
-    (skip_reads symbol.RightParenthesis (λ m. skip symbol.Semicolon (got (formal.DiscreteType i))) us vs (Stuck rest) h2
-    (skip_stuck symbol.Semicolon (λ m. got (formal.DiscreteType i)) vs rest h3))
-
--- a word that was taken stood next, and one that was not did not
-after_of : (s : Symbol) (ts us : Tokens) → Skipped s ts us → after s ts ≡ Some us
-after_of s ts us k = at ts (k.t) k.here
-  where
-    decided : (b : Bool) (t u : Token) (ws : Tokens) → turned (accept b u) u ws ≡ Got t us → cond b (Some ws) None ≡ Some us
-    decided true t u ws e = cc
-    decided false t u ws e = cc
-
-    at : (ts : Tokens) (t : Token) → expect s ts ≡ Got t us → after s ts ≡ Some us
-    at [] t e = cc
-    at (u ∷ ws) t e = decided (same (symbol_of u.lexeme) s) t u ws e
-
-not_after : (s : Symbol) (ts rest : Tokens) → expect s ts ≡ Stuck rest → (after s ts ≡ None) × (rest ≡ ts)
-not_after s [] rest e = (refl, cc)
-not_after s (u ∷ ws) rest e = decided (same (symbol_of u.lexeme) s) e
-  where
-    decided : (b : Bool) → turned (accept b u) u ws ≡ Stuck rest → (cond b (Some ws) None ≡ None) × (rest ≡ u ∷ ws)
-    decided true e = cc
-    decided false e = (refl, cc)
+integer_leads : (i : Identifier) (us : Bor Tokens) (p r : Result (Identifier × Bor Tokens) Fault) → Closes symbol.Box (read_so i us) p → Closes symbol.Semicolon p r
+    → Leads {B = FormalKind} (λ z. z) (closed symbol.Semicolon (closed symbol.Box (given i))) us.now r
+integer_leads i us p r b c = closes (λ z. z) (closed symbol.Box (given i)) symbol.Semicolon us.now p r (closes (λ z. z) (given i) symbol.Box us.now (read_so i us) p (given_leads FormalKind i us) b) c
 
 in_range : (i : Identifier) (ts us : Tokens) (q : Reading FormalKind) → after symbol.Range ts ≡ Some us → Reads (λ m. integer_end i) us q → Reads (λ m. read.formal_type_rest i) ts q
 in_range i ts us q a h = turn_taken Refuse (λ m. read.formal_type_turn i) symbol.Range ts us (λ m. integer_end i) q a (λ m t. refl) h
 
-in_parentheses : (i : Identifier) (ts us : Tokens) (q : Reading FormalKind) → Skipped symbol.LeftParenthesis ts us → Reads (λ m. discrete_end i) us q
-    → Reads (λ m. read.formal_type_rest i) ts q
-in_parentheses i ts us q k h = turn_taken Refuse (λ m. read.formal_type_turn i) symbol.LeftParenthesis ts us (λ m. discrete_end i) q (after_of symbol.LeftParenthesis ts us k) (λ m t. refl) h
+pub type_range : (i : Identifier) (ts : Tokens) (us : Bor Tokens) (p : Result (Identifier × Bor Tokens) Fault) (j : Identifier) (vs : Bor Tokens) → after symbol.Range ts ≡ Some us.now
+    → Closes symbol.Box (read_so i us) p → Closes symbol.Semicolon p (read_so j vs) → Reads (λ m. read.formal_type_rest i) ts (Got (formal.IntegerType j) vs.now)
+type_range i ts us p j vs a b c = in_range i ts us.now (Got (formal.IntegerType j) vs.now) a ((integer_leads i us p (read_so j vs) b c).0 (λ m z. got (formal.IntegerType z)) (Got (formal.IntegerType j) vs.now) (got_reads (formal.IntegerType j) vs.now))
 
-pub type_range : (i : Identifier) (ts us vs rest : Tokens) → after symbol.Range ts ≡ Some us → Skipped symbol.Box us vs → Skipped symbol.Semicolon vs rest
-    → Reads (λ m. read.formal_type_rest i) ts (Got (formal.IntegerType i) rest)
-type_range i ts us vs rest a b c = in_range i ts us (Got (formal.IntegerType i) rest) a (integer_read i us vs rest b c)
+pub type_range_fails : (i : Identifier) (ts : Tokens) (us : Bor Tokens) (p : Result (Identifier × Bor Tokens) Fault) (f : Fault) → after symbol.Range ts ≡ Some us.now
+    → Closes symbol.Box (read_so i us) p → Closes symbol.Semicolon p (failed f) → Shows (Reads (λ m. read.formal_type_rest i) ts) (failed f)
+type_range_fails i ts us p (Syntax rest) a b c = in_range i ts us.now (Stuck rest.now) a (integer_leads i us p (failed (Syntax rest)) b c (λ m z. got (formal.IntegerType z)))
+type_range_fails i ts us p Memory a b c = tt
 
-pub type_range_fails_first : (i : Identifier) (ts us rest : Tokens) → after symbol.Range ts ≡ Some us → expect symbol.Box us ≡ Stuck rest
-    → Reads (λ m. read.formal_type_rest i) ts (Stuck rest)
-type_range_fails_first i ts us rest a b = in_range i ts us (Stuck rest) a (integer_fails_first i us rest b)
+-- where no range stands next, the parenthesis has to
+in_parentheses : (i : Identifier) (s : Symbol) (t : Token) (us : Tokens) → same s symbol.Range ≡ false
+    → turned (read.formal_type_turn i s t) t us ≡ goes_on (λ _. discrete_end i) (turned (accept (same s symbol.LeftParenthesis) t) t us)
+in_parentheses i symbol.Range t us h = cc
+in_parentheses i symbol.LeftParenthesis t us h = refl
+in_parentheses i _ t us h = refl
 
-pub type_range_fails_second : (i : Identifier) (ts us vs rest : Tokens) → after symbol.Range ts ≡ Some us → Skipped symbol.Box us vs → expect symbol.Semicolon vs ≡ Stuck rest
-    → Reads (λ m. read.formal_type_rest i) ts (Stuck rest)
-type_range_fails_second i ts us vs rest a b c = in_range i ts us (Stuck rest) a (integer_fails_second i us vs rest b c)
+discrete_next : (i : Identifier) (ts : Tokens) → after symbol.Range ts ≡ None → read.formal_type_rest i ts ≡ skip symbol.LeftParenthesis (discrete_end i) ts
+discrete_next i [] a = refl
+discrete_next i (t ∷ us) a = in_parentheses i (symbol_of t.lexeme) t us (after_none symbol.Range t us a).is_not
 
-no_type_turn : (i : Identifier) (s : Symbol) (t : Token) → same s symbol.Range ≡ false → same s symbol.LeftParenthesis ≡ false → read.formal_type_turn i s t ≡ Refuse
-no_type_turn i symbol.Range t h k = cc
-no_type_turn i symbol.LeftParenthesis t h k = cc
-no_type_turn i _ t h k = refl
+module _ (i : Identifier) (ts : Bor Tokens) (p1 p2 p3 : Result (Identifier × Bor Tokens) Fault) where
+  discrete_leads : (r : Result (Identifier × Bor Tokens) Fault) → Closes symbol.LeftParenthesis (read_so i ts) p1 → Closes symbol.Box p1 p2 → Closes symbol.RightParenthesis p2 p3 → Closes symbol.Semicolon p3 r
+      → Leads {B = FormalKind} (λ z. z) (closed symbol.Semicolon (closed symbol.RightParenthesis (closed symbol.Box (closed symbol.LeftParenthesis (given i))))) ts.now r
+  discrete_leads r a b c d =
+      closes (λ z. z) (closed symbol.RightParenthesis (closed symbol.Box (closed symbol.LeftParenthesis (given i)))) symbol.Semicolon ts.now p3 r
+      (closes (λ z. z) (closed symbol.Box (closed symbol.LeftParenthesis (given i))) symbol.RightParenthesis ts.now p2 p3
+      (closes (λ z. z) (closed symbol.LeftParenthesis (given i)) symbol.Box ts.now p1 p2
+      (closes (λ z. z) (given i) symbol.LeftParenthesis ts.now (read_so i ts) p1 (given_leads FormalKind i ts) a) b) c) d
 
-refused_at : (i : Identifier) (ts rest : Tokens) → after symbol.Range ts ≡ None → after symbol.LeftParenthesis ts ≡ None → rest ≡ ts → read.formal_type_rest i ts ≡ Stuck rest
-refused_at i [] rest a b e = ap Stuck (sym e)
-refused_at i (t ∷ us) rest a b e = ap (λ z. turned z t us) (no_type_turn i (symbol_of t.lexeme) t (after_none symbol.Range t us a).is_not (after_none symbol.LeftParenthesis t us b).is_not) ∙ ap Stuck (sym e)
+  pub type_discrete : (j : Identifier) (us : Bor Tokens) → after symbol.Range ts.now ≡ None → Closes symbol.LeftParenthesis (read_so i ts) p1 → Closes symbol.Box p1 p2
+      → Closes symbol.RightParenthesis p2 p3 → Closes symbol.Semicolon p3 (read_so j us)
+      → Reads (λ m. read.formal_type_rest i) ts.now (Got (formal.DiscreteType j) us.now)
+  type_discrete j us n a b c d =
+      let h = (discrete_leads (read_so j us) a b c d).0 (λ m z. got (formal.DiscreteType z)) (Got (formal.DiscreteType j) us.now) (got_reads (formal.DiscreteType j) us.now) in
+      record { by = λ m l. discrete_next i ts.now n ∙ h.by m l }
 
-pub type_neither : (i : Identifier) (ts rest : Tokens) → after symbol.Range ts ≡ None → expect symbol.LeftParenthesis ts ≡ Stuck rest → Reads (λ m. read.formal_type_rest i) ts (Stuck rest)
-type_neither i ts rest a b = let p = not_after symbol.LeftParenthesis ts rest b in record { by = λ m h. refused_at i ts rest a p.0 p.1 }
+  pub type_discrete_fails : (f : Fault) → after symbol.Range ts.now ≡ None → Closes symbol.LeftParenthesis (read_so i ts) p1 → Closes symbol.Box p1 p2
+      → Closes symbol.RightParenthesis p2 p3 → Closes symbol.Semicolon p3 (failed f)
+      → Shows (Reads (λ m. read.formal_type_rest i) ts.now) (failed f)
+  type_discrete_fails (Syntax rest) n a b c d =
+      let h = discrete_leads (failed (Syntax rest)) a b c d (λ m z. got (formal.DiscreteType z)) in
+      record { by = λ m l. discrete_next i ts.now n ∙ h.by m l }
+  type_discrete_fails Memory n a b c d = tt
 
-pub type_discrete : (i : Identifier) (ts us vs ws rest : Tokens) → Skipped symbol.LeftParenthesis ts us → Skipped symbol.Box us vs → Skipped symbol.RightParenthesis vs ws
-    → Skipped symbol.Semicolon ws rest → Reads (λ m. read.formal_type_rest i) ts (Got (formal.DiscreteType i) rest)
-type_discrete i ts us vs ws rest a b c d = in_parentheses i ts us (Got (formal.DiscreteType i) rest) a (discrete_read i us vs ws rest b c d)
+pub type_fails_first : (ts : Tokens) (p0 : Result (Identifier × Bor Tokens) Fault) (f : Fault)
+    → TakesIdentifier ts p0 → Closes symbol.Is p0 (failed f)
+    → Shows (Reads (read.formal_type_by) ts) (failed f)
+type_fails_first ts p0 f h1 h2 =
+    stops (λ z. z) (closed symbol.Is name_then) (λ m z0. read.formal_type_rest z0) ts f (closes (λ z. z) name_then symbol.Is ts p0 (failed f) (named_leads (FormalKind) ts p0 h1) h2)
 
-pub type_discrete_fails_first : (i : Identifier) (ts us rest : Tokens) → Skipped symbol.LeftParenthesis ts us → expect symbol.Box us ≡ Stuck rest
-    → Reads (λ m. read.formal_type_rest i) ts (Stuck rest)
-type_discrete_fails_first i ts us rest a b = in_parentheses i ts us (Stuck rest) a (discrete_fails_first i us rest b)
-
-pub type_discrete_fails_second : (i : Identifier) (ts us vs rest : Tokens) → Skipped symbol.LeftParenthesis ts us → Skipped symbol.Box us vs → expect symbol.RightParenthesis vs ≡ Stuck rest
-    → Reads (λ m. read.formal_type_rest i) ts (Stuck rest)
-type_discrete_fails_second i ts us vs rest a b c = in_parentheses i ts us (Stuck rest) a (discrete_fails_second i us vs rest b c)
-
-pub type_discrete_fails_third : (i : Identifier) (ts us vs ws rest : Tokens) → Skipped symbol.LeftParenthesis ts us → Skipped symbol.Box us vs → Skipped symbol.RightParenthesis vs ws
-    → expect symbol.Semicolon ws ≡ Stuck rest → Reads (λ m. read.formal_type_rest i) ts (Stuck rest)
-type_discrete_fails_third i ts us vs ws rest a b c d = in_parentheses i ts us (Stuck rest) a (discrete_fails_third i us vs ws rest b c d)
-
-pub type_read : (ts us vs : Tokens) (i : Identifier) (q : Reading (FormalKind)) → Identified ts us i → Skipped symbol.Is us vs → Reads (λ m. read.formal_type_rest i) vs q
-    → Reads (read.formal_type_by) ts q
-type_read ts us vs i q h1 h2 h3 = named_reads (λ m i. skip symbol.Is (read.formal_type_rest i)) ts us i q h1 (skip_reads symbol.Is (λ m. read.formal_type_rest i) us vs q h2 (h3))
-
-pub type_fails_first : (ts rest : Tokens) → expect symbol.Identifier ts ≡ Stuck rest → Reads (read.formal_type_by) ts (Stuck rest)
-type_fails_first ts rest h1 = named_stuck (λ m i. skip symbol.Is (read.formal_type_rest i)) ts rest h1
-
-pub type_fails_second : (ts us rest : Tokens) (i : Identifier) → Identified ts us i → expect symbol.Is us ≡ Stuck rest → Reads (read.formal_type_by) ts (Stuck rest)
-type_fails_second ts us rest i h1 h2 = named_reads (λ m i. skip symbol.Is (read.formal_type_rest i)) ts us i (Stuck rest) h1 (skip_stuck symbol.Is (λ m. read.formal_type_rest i) us rest h2)
+pub type_read : (ts : Tokens) (p0 : Result (Identifier × Bor Tokens) Fault) (v0 : Identifier) (u0 : Bor Tokens) (q : Result (FormalKind × Bor Tokens) Fault)
+    → TakesIdentifier ts p0 → Closes symbol.Is p0 (read_so v0 u0) → Shows (Reads (λ m. read.formal_type_rest v0) u0.now) q
+    → Shows (Reads (read.formal_type_by) ts) q
+type_read ts p0 v0 u0 q h1 h2 h3 =
+    goes (λ z. z) (closed symbol.Is name_then) (λ m z0. read.formal_type_rest z0) ts v0 u0 q (closes (λ z. z) name_then symbol.Is ts p0 (read_so v0 u0) (named_leads (FormalKind) ts p0 h1) h2) (
+    h3)
 
 module _ (x : Extent) where
-  pub object_read : (ts us vs ws ys rest : Tokens) (i : Identifier) (k : Mode) (n : Name) → Identified ts us i → Skipped symbol.Colon us vs → read.formal_mode_by vs ≡ Got k ws
-      → length ws ≤ length vs → Reads (at_name x) ws (Got n ys) → length ys < length ws → Skipped symbol.Semicolon ys rest
-      → Reads (read.formal_object_by x) ts (Got (formal.Object i k n) rest)
-  object_read ts us vs ws ys rest i k n h1 h2 h3 h4 h5 h6 h7 =
-      named_reads (λ m i. skip symbol.Colon (read.formal_mode_by >>= λ k. at_name x m >>= λ n. skip symbol.Semicolon (got (formal.Object i k n)))) ts us i (Got (formal.Object i k n) rest) h1
-      (skip_reads symbol.Colon (λ m. read.formal_mode_by >>= λ k. at_name x m >>= λ n. skip symbol.Semicolon (got (formal.Object i k n))) us vs (Got (formal.Object i k n) rest) h2
-      (now_reads (read.formal_mode_by) (λ m k. at_name x m >>= λ n. skip symbol.Semicolon (got (formal.Object i k n))) vs ws k (Got (formal.Object i k n) rest) h3 h4
-      (then_reads (at_name x) (λ m n. skip symbol.Semicolon (got (formal.Object i k n))) ws ys n (Got (formal.Object i k n) rest) h5 (omega (arith, h6))
-      (skip_reads symbol.Semicolon (λ m. got (formal.Object i k n)) ys rest (Got (formal.Object i k n) rest) h7 (got_reads (formal.Object i k n) rest)))))
+  pub object_fails_first : (ts : Tokens) (p0 : Result (Identifier × Bor Tokens) Fault) (f : Fault)
+      → TakesIdentifier ts p0 → Closes symbol.Colon p0 (failed f)
+      → Shows (Reads (read.formal_object_by x) ts) (failed f)
+  object_fails_first ts p0 f h1 h2 =
+      stops (λ z. z) (closed symbol.Colon name_then) (λ m z0. (read.formal_mode_by >>= λ z1. (at_name x m >>= λ z2. skip symbol.Semicolon (got (formal.Object z0 z1 z2))))) ts f (closes (λ z. z) name_then symbol.Colon ts p0 (failed f) (named_leads (FormalKind) ts p0 h1) h2)
 
-  pub object_fails_first : (ts rest : Tokens) → expect symbol.Identifier ts ≡ Stuck rest → Reads (read.formal_object_by x) ts (Stuck rest)
-  object_fails_first ts rest h1 = named_stuck (λ m i. skip symbol.Colon (read.formal_mode_by >>= λ k. at_name x m >>= λ n. skip symbol.Semicolon (got (formal.Object i k n)))) ts rest h1
+  pub object_fails_second : (ts : Tokens) (p0 : Result (Identifier × Bor Tokens) Fault) (v0 : Identifier) (u0 : Bor Tokens) (v1 : Mode) (u1 : Tokens) (p2 : Result (Name × Bor Tokens) Fault) (f : Fault)
+      → TakesIdentifier ts p0 → Closes symbol.Colon p0 (read_so v0 u0) → read.formal_mode_by u0.now ≡ Got v1 u1 → length u1 ≤ length u0.now → Shows (Reads (at_name x) u1) p2 → Below u1 p2 → Closes symbol.Semicolon p2 (failed f)
+      → Shows (Reads (read.formal_object_by x) ts) (failed f)
+  object_fails_second ts p0 v0 u0 v1 u1 p2 f h1 h2 h3 h4 h5 h6 h7 =
+      goes (λ z. z) (closed symbol.Colon name_then) (λ m z0. (read.formal_mode_by >>= λ z1. (at_name x m >>= λ z2. skip symbol.Semicolon (got (formal.Object z0 z1 z2))))) ts v0 u0 (failed f) (closes (λ z. z) name_then symbol.Colon ts p0 (read_so v0 u0) (named_leads (FormalKind) ts p0 h1) h2) (
+      now_goes (read.formal_mode_by) (λ m z1. (at_name x m >>= λ z2. skip symbol.Semicolon (got (formal.Object v0 z1 z2)))) u0.now u1 v1 (failed f) h3 h4 (
+      stops (λ z. z) (closed symbol.Semicolon (read_then (at_name x))) (λ m z2. got (formal.Object v0 v1 z2)) u1 f (closes (λ z. z) (read_then (at_name x)) symbol.Semicolon u1 p2 (failed f) (leads (FormalKind) (λ z. z) (at_name x) u1 p2 h5 (within_below u1 p2 h6)) h7)))
 
-  pub object_fails_second : (ts us rest : Tokens) (i : Identifier) → Identified ts us i → expect symbol.Colon us ≡ Stuck rest → Reads (read.formal_object_by x) ts (Stuck rest)
-  object_fails_second ts us rest i h1 h2 =
-      named_reads (λ m i. skip symbol.Colon (read.formal_mode_by >>= λ k. at_name x m >>= λ n. skip symbol.Semicolon (got (formal.Object i k n)))) ts us i (Stuck rest) h1
-      (skip_stuck symbol.Colon (λ m. read.formal_mode_by >>= λ k. at_name x m >>= λ n. skip symbol.Semicolon (got (formal.Object i k n))) us rest h2)
+  pub object_read : (ts : Tokens) (p0 : Result (Identifier × Bor Tokens) Fault) (v0 : Identifier) (u0 : Bor Tokens) (v1 : Mode) (u1 : Tokens) (p2 : Result (Name × Bor Tokens) Fault) (v2 : Name) (u2 : Bor Tokens)
+      → TakesIdentifier ts p0 → Closes symbol.Colon p0 (read_so v0 u0) → read.formal_mode_by u0.now ≡ Got v1 u1 → length u1 ≤ length u0.now → Shows (Reads (at_name x) u1) p2 → Below u1 p2 → Closes symbol.Semicolon p2 (read_so v2 u2)
+      → Reads (read.formal_object_by x) ts (Got (formal.Object v0 v1 v2) u2.now)
+  object_read ts p0 v0 u0 v1 u1 p2 v2 u2 h1 h2 h3 h4 h5 h6 h7 =
+      goes (λ z. z) (closed symbol.Colon name_then) (λ m z0. (read.formal_mode_by >>= λ z1. (at_name x m >>= λ z2. skip symbol.Semicolon (got (formal.Object z0 z1 z2))))) ts v0 u0 (read_so (formal.Object v0 v1 v2) u2) (closes (λ z. z) name_then symbol.Colon ts p0 (read_so v0 u0) (named_leads (FormalKind) ts p0 h1) h2) (
+      now_goes (read.formal_mode_by) (λ m z1. (at_name x m >>= λ z2. skip symbol.Semicolon (got (formal.Object v0 z1 z2)))) u0.now u1 v1 (read_so (formal.Object v0 v1 v2) u2) h3 h4 (
+      goes (λ z. z) (closed symbol.Semicolon (read_then (at_name x))) (λ m z2. got (formal.Object v0 v1 z2)) u1 v2 u2 (read_so (formal.Object v0 v1 v2) u2) (closes (λ z. z) (read_then (at_name x)) symbol.Semicolon u1 p2 (read_so v2 u2) (leads (FormalKind) (λ z. z) (at_name x) u1 p2 h5 (within_below u1 p2 h6)) h7) (
+      got_reads (formal.Object v0 v1 v2) u2.now)))
 
-  pub object_fails_fourth : (ts us vs ws rest : Tokens) (i : Identifier) (k : Mode) → Identified ts us i → Skipped symbol.Colon us vs → read.formal_mode_by vs ≡ Got k ws
-      → length ws ≤ length vs → Reads (at_name x) ws (Stuck rest) → Reads (read.formal_object_by x) ts (Stuck rest)
-  object_fails_fourth ts us vs ws rest i k h1 h2 h3 h4 h5 =
-      named_reads (λ m i. skip symbol.Colon (read.formal_mode_by >>= λ k. at_name x m >>= λ n. skip symbol.Semicolon (got (formal.Object i k n)))) ts us i (Stuck rest) h1
-      (skip_reads symbol.Colon (λ m. read.formal_mode_by >>= λ k. at_name x m >>= λ n. skip symbol.Semicolon (got (formal.Object i k n))) us vs (Stuck rest) h2
-      (now_reads (read.formal_mode_by) (λ m k. at_name x m >>= λ n. skip symbol.Semicolon (got (formal.Object i k n))) vs ws k (Stuck rest) h3 h4
-      (then_stuck (at_name x) (λ m n. skip symbol.Semicolon (got (formal.Object i k n))) ws rest h5)))
+  pub subprogram_fails_first : (ts : Tokens) (p0 : Result (Specification × Bor Tokens) Fault) (f : Fault)
+      → Shows (Reads (specification_by x) ts) p0 → Below ts p0 → Closes symbol.Semicolon p0 (failed f)
+      → Shows (Reads (read.formal_subprogram_by x) ts) (failed f)
+  subprogram_fails_first ts p0 f h1 h2 h3 =
+      stops (λ z. z) (closed symbol.Semicolon (read_then (specification_by x))) (λ m z0. got (formal.Subprogram z0)) ts f (closes (λ z. z) (read_then (specification_by x)) symbol.Semicolon ts p0 (failed f) (leads (FormalKind) (λ z. z) (specification_by x) ts p0 h1 (within_below ts p0 h2)) h3)
 
-  pub object_fails_fifth : (ts us vs ws ys rest : Tokens) (i : Identifier) (k : Mode) (n : Name) → Identified ts us i → Skipped symbol.Colon us vs → read.formal_mode_by vs ≡ Got k ws
-      → length ws ≤ length vs → Reads (at_name x) ws (Got n ys) → length ys < length ws → expect symbol.Semicolon ys ≡ Stuck rest → Reads (read.formal_object_by x) ts (Stuck rest)
-  object_fails_fifth ts us vs ws ys rest i k n h1 h2 h3 h4 h5 h6 h7 =
-      named_reads (λ m i. skip symbol.Colon (read.formal_mode_by >>= λ k. at_name x m >>= λ n. skip symbol.Semicolon (got (formal.Object i k n)))) ts us i (Stuck rest) h1
-      (skip_reads symbol.Colon (λ m. read.formal_mode_by >>= λ k. at_name x m >>= λ n. skip symbol.Semicolon (got (formal.Object i k n))) us vs (Stuck rest) h2
-      (now_reads (read.formal_mode_by) (λ m k. at_name x m >>= λ n. skip symbol.Semicolon (got (formal.Object i k n))) vs ws k (Stuck rest) h3 h4
-      (then_reads (at_name x) (λ m n. skip symbol.Semicolon (got (formal.Object i k n))) ws ys n (Stuck rest) h5 (omega (arith, h6))
-      (skip_stuck symbol.Semicolon (λ m. got (formal.Object i k n)) ys rest h7))))
-
-  pub subprogram_read : (ts us rest : Tokens) (s : Specification) → Reads (specification_by x) ts (Got s us) → length us < length ts → Skipped symbol.Semicolon us rest
-      → Reads (read.formal_subprogram_by x) ts (Got (formal.Subprogram s) rest)
-  subprogram_read ts us rest s h1 h2 h3 =
-      then_reads (specification_by x) (λ m s. skip symbol.Semicolon (got (formal.Subprogram s))) ts us s (Got (formal.Subprogram s) rest) h1 (omega (arith, h2))
-      (skip_reads symbol.Semicolon (λ m. got (formal.Subprogram s)) us rest (Got (formal.Subprogram s) rest) h3 (got_reads (formal.Subprogram s) rest))
-
-  pub subprogram_fails_first : (ts rest : Tokens) → Reads (specification_by x) ts (Stuck rest) → Reads (read.formal_subprogram_by x) ts (Stuck rest)
-  subprogram_fails_first ts rest h1 = then_stuck (specification_by x) (λ m s. skip symbol.Semicolon (got (formal.Subprogram s))) ts rest h1
-
-  pub subprogram_fails_second : (ts us rest : Tokens) (s : Specification) → Reads (specification_by x) ts (Got s us) → length us < length ts → expect symbol.Semicolon us ≡ Stuck rest
-      → Reads (read.formal_subprogram_by x) ts (Stuck rest)
-  subprogram_fails_second ts us rest s h1 h2 h3 =
-      then_reads (specification_by x) (λ m s. skip symbol.Semicolon (got (formal.Subprogram s))) ts us s (Stuck rest) h1 (omega (arith, h2))
-      (skip_stuck symbol.Semicolon (λ m. got (formal.Subprogram s)) us rest h3)
+  pub subprogram_read : (ts : Tokens) (p0 : Result (Specification × Bor Tokens) Fault) (v0 : Specification) (u0 : Bor Tokens)
+      → Shows (Reads (specification_by x) ts) p0 → Below ts p0 → Closes symbol.Semicolon p0 (read_so v0 u0)
+      → Reads (read.formal_subprogram_by x) ts (Got (formal.Subprogram v0) u0.now)
+  subprogram_read ts p0 v0 u0 h1 h2 h3 =
+      goes (λ z. z) (closed symbol.Semicolon (read_then (specification_by x))) (λ m z0. got (formal.Subprogram z0)) ts v0 u0 (read_so (formal.Subprogram v0) u0) (closes (λ z. z) (read_then (specification_by x)) symbol.Semicolon ts p0 (read_so v0 u0) (leads (FormalKind) (λ z. z) (specification_by x) ts p0 h1 (within_below ts p0 h2)) h3) (
+      got_reads (formal.Subprogram v0) u0.now)
 
   pub form_none : Reads (read.formal_form x) [] (Stuck [])
   form_none = record { by = λ m n. refl }
@@ -274,14 +220,6 @@ module _ (x : Extent) where
   formals_end (t ∷ us) fs b = more_leave (read.formals_turn x) fs t us (λ m. formal_on m (read.begins_formal (symbol_of t.lexeme)) false fs b)
 
 pub ruleset mode_rules = (after_shorter, formal_in, formal_default)
-
-pub ruleset type_rest_rules = (type_range, type_range_fails_first, type_range_fails_second, type_neither, type_discrete, type_discrete_fails_first, type_discrete_fails_second, type_discrete_fails_third)
-
-pub ruleset type_rules = (type_read, type_fails_first, type_fails_second)
-
-pub ruleset object_rules = (object_read, object_fails_first, object_fails_second, object_fails_fourth, object_fails_fifth)
-
-pub ruleset subprogram_rules = (subprogram_read, subprogram_fails_first, subprogram_fails_second)
 
 pub ruleset form_rules = (form_none, form_type, form_object, form_subprogram, form_other)
 

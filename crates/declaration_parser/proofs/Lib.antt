@@ -10,6 +10,7 @@ pub mod FormalLaws
 pub mod ExpressionNodes
 pub mod NodeLaws
 pub mod Steps
+pub mod Closings
 pub mod SubtypeCode
 pub mod WordCode
 pub mod ValueCode

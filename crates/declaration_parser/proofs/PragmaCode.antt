@@ -10,44 +10,41 @@ use Rattle.expression_parser.specs.declared.extent.Extent.TheVariants.{Whole}
 use Rattle.expression_parser.specs.Symbols.{symbol_of, same}
 use Rattle.expression_parser.specs.Extents.{opens}
 use Rattle.expression_parser.specs.Reading.{Tokens, Reading, Got, Stuck, Refuse, Take, got, ◌>>=◌, turned, provided, expect, skip}
-use Rattle.expression_parser.specs.Shows.{after, Reads, Skipped}
+use Rattle.expression_parser.specs.Shows.{Shows, TakesWord, after, Reads, Skipped}
 use Rattle.declaration_parser.specs.Spelling.{annotate, xcov, exempt_on, exempt_off, is_spelled}
 use Rattle.declaration_parser.specs.DeclarationReading as read
 use Rattle.expression_parser.proofs.Comes.{on_symbol}
 use Rattle.expression_parser.proofs.NameCode.{after_none}
 use Rattle.declaration_parser.specs.DeclarationReading.{spelled_by, skip_word}
-use Rattle.declaration_parser.specs.Answers.{Spelled, Quoted}
-use Rattle.declaration_parser.proofs.Steps.{skip_reads, skip_stuck, word_reads, word_stuck, quoted_reads, quoted_stuck, got_reads, turn_taken, turn_refused}
+use Rattle.declaration_parser.specs.Answers.{Spelled, TakesText}
+use Rattle.std.specs.Prelude.{Result}
+use Rattle.std.specs.Borrow.{Bor}
+use Rattle.expression_parser.specs.declared.fault.Fault.{Fault}
+use Rattle.expression_parser.proofs.Faults.{failed}
+use Rattle.declaration_parser.specs.Closing.{Closes}
+use Rattle.declaration_parser.proofs.Closings.{read_so, closes, stops, goes, text_leads, word_stops, word_goes, text_then, closed}
+use Rattle.declaration_parser.proofs.Steps.{skip_reads, skip_stuck, word_reads, word_stuck, got_reads, turn_taken, turn_refused}
 
-pub on_read : (ts us vs ws rest : Tokens) (text : List ℕ) → Skipped symbol.Comma ts us → Quoted us vs text → Skipped symbol.RightParenthesis vs ws → Skipped symbol.Semicolon ws rest
-    → Reads (λ m. read.on_by) ts (Got (ExemptOn text) rest)
-on_read ts us vs ws rest text h1 h2 h3 h4 =
-    skip_reads symbol.Comma (λ m. expect symbol.Text >>= λ t. skip symbol.RightParenthesis (skip symbol.Semicolon (got (ExemptOn t.text)))) ts us (Got (ExemptOn text) rest) h1
-    (quoted_reads (λ m text. skip symbol.RightParenthesis (skip symbol.Semicolon (got (ExemptOn text)))) us vs text (Got (ExemptOn text) rest) h2
-    (skip_reads symbol.RightParenthesis (λ m. skip symbol.Semicolon (got (ExemptOn text))) vs ws (Got (ExemptOn text) rest) h3
-    (skip_reads symbol.Semicolon (λ m. got (ExemptOn text)) ws rest (Got (ExemptOn text) rest) h4 (got_reads (ExemptOn text) rest))))
+pub on_fails_first : (ts : Tokens) (f : Fault)
+    → TakesWord symbol.Comma ts (failed f)
+    → Shows (Reads (λ m. read.on_by) ts) (failed f)
+on_fails_first ts f h1 =
+    word_stops symbol.Comma (λ m. (expect symbol.Text >>= λ z1. skip symbol.RightParenthesis (skip symbol.Semicolon (got (ExemptOn z1.text))))) ts f h1
 
-pub on_fails_first : (ts rest : Tokens) → expect symbol.Comma ts ≡ Stuck rest → Reads (λ m. read.on_by) ts (Stuck rest)
-on_fails_first ts rest h1 = skip_stuck symbol.Comma (λ m. expect symbol.Text >>= λ t. skip symbol.RightParenthesis (skip symbol.Semicolon (got (ExemptOn t.text)))) ts rest h1
+pub on_fails_second : (ts : Tokens) (u0 : Tokens) (p1 : Result (List ℕ × Bor Tokens) Fault) (p11 : Result (List ℕ × Bor Tokens) Fault) (f : Fault)
+    → Skipped symbol.Comma ts u0 → TakesText u0 p1 → Closes symbol.RightParenthesis p1 p11 → Closes symbol.Semicolon p11 (failed f)
+    → Shows (Reads (λ m. read.on_by) ts) (failed f)
+on_fails_second ts u0 p1 p11 f h1 h2 h3 h4 =
+    word_goes symbol.Comma (λ m. (expect symbol.Text >>= λ z1. skip symbol.RightParenthesis (skip symbol.Semicolon (got (ExemptOn z1.text))))) ts u0 (failed f) h1 (
+    stops (λ z. z) (closed symbol.Semicolon (closed symbol.RightParenthesis text_then)) (λ m z1. got (ExemptOn z1)) u0 f (closes (λ z. z) (closed symbol.RightParenthesis text_then) symbol.Semicolon u0 p11 (failed f) (closes (λ z. z) text_then symbol.RightParenthesis u0 p1 p11 (text_leads (Pragma) u0 p1 h2) h3) h4))
 
-pub on_fails_second : (ts us rest : Tokens) → Skipped symbol.Comma ts us → expect symbol.Text us ≡ Stuck rest → Reads (λ m. read.on_by) ts (Stuck rest)
-on_fails_second ts us rest h1 h2 =
-    skip_reads symbol.Comma (λ m. expect symbol.Text >>= λ t. skip symbol.RightParenthesis (skip symbol.Semicolon (got (ExemptOn t.text)))) ts us (Stuck rest) h1
-    (quoted_stuck (λ m text. skip symbol.RightParenthesis (skip symbol.Semicolon (got (ExemptOn text)))) us rest h2)
-
-pub on_fails_third : (ts us vs rest : Tokens) (text : List ℕ) → Skipped symbol.Comma ts us → Quoted us vs text → expect symbol.RightParenthesis vs ≡ Stuck rest
-    → Reads (λ m. read.on_by) ts (Stuck rest)
-on_fails_third ts us vs rest text h1 h2 h3 =
-    skip_reads symbol.Comma (λ m. expect symbol.Text >>= λ t. skip symbol.RightParenthesis (skip symbol.Semicolon (got (ExemptOn t.text)))) ts us (Stuck rest) h1
-    (quoted_reads (λ m text. skip symbol.RightParenthesis (skip symbol.Semicolon (got (ExemptOn text)))) us vs text (Stuck rest) h2
-    (skip_stuck symbol.RightParenthesis (λ m. skip symbol.Semicolon (got (ExemptOn text))) vs rest h3))
-
-pub on_fails_fourth : (ts us vs ws rest : Tokens) (text : List ℕ) → Skipped symbol.Comma ts us → Quoted us vs text → Skipped symbol.RightParenthesis vs ws
-    → expect symbol.Semicolon ws ≡ Stuck rest → Reads (λ m. read.on_by) ts (Stuck rest)
-on_fails_fourth ts us vs ws rest text h1 h2 h3 h4 =
-    skip_reads symbol.Comma (λ m. expect symbol.Text >>= λ t. skip symbol.RightParenthesis (skip symbol.Semicolon (got (ExemptOn t.text)))) ts us (Stuck rest) h1
-    (quoted_reads (λ m text. skip symbol.RightParenthesis (skip symbol.Semicolon (got (ExemptOn text)))) us vs text (Stuck rest) h2
-    (skip_reads symbol.RightParenthesis (λ m. skip symbol.Semicolon (got (ExemptOn text))) vs ws (Stuck rest) h3 (skip_stuck symbol.Semicolon (λ m. got (ExemptOn text)) ws rest h4)))
+pub on_read : (ts : Tokens) (u0 : Tokens) (p1 : Result (List ℕ × Bor Tokens) Fault) (p11 : Result (List ℕ × Bor Tokens) Fault) (v1 : List ℕ) (u1 : Bor Tokens)
+    → Skipped symbol.Comma ts u0 → TakesText u0 p1 → Closes symbol.RightParenthesis p1 p11 → Closes symbol.Semicolon p11 (read_so v1 u1)
+    → Reads (λ m. read.on_by) ts (Got (ExemptOn v1) u1.now)
+on_read ts u0 p1 p11 v1 u1 h1 h2 h3 h4 =
+    word_goes symbol.Comma (λ m. (expect symbol.Text >>= λ z1. skip symbol.RightParenthesis (skip symbol.Semicolon (got (ExemptOn z1.text))))) ts u0 (read_so (ExemptOn v1) u1) h1 (
+    goes (λ z. z) (closed symbol.Semicolon (closed symbol.RightParenthesis text_then)) (λ m z1. got (ExemptOn z1)) u0 v1 u1 (read_so (ExemptOn v1) u1) (closes (λ z. z) (closed symbol.RightParenthesis text_then) symbol.Semicolon u0 p11 (read_so v1 u1) (closes (λ z. z) text_then symbol.RightParenthesis u0 p1 p11 (text_leads (Pragma) u0 p1 h2) h3) h4) (
+    got_reads (ExemptOn v1) u1.now))
 
 pub off_read : (ts us rest : Tokens) → Skipped symbol.RightParenthesis ts us → Skipped symbol.Semicolon us rest → Reads (λ m. read.off_by) ts (Got (ExemptOff) rest)
 off_read ts us rest h1 h2 =
@@ -133,8 +130,6 @@ module _ (x : Extent) where
 
   pub pragma_read : (ts us : Tokens) (q : Reading Pragma) → after symbol.Pragma ts ≡ Some us → opens x Whole ≡ true → Reads (read.annotation_by x) us q → Reads (read.pragma_by x) ts q
   pragma_read ts us q a o h = turn_taken Refuse (read.pragma_turn x) symbol.Pragma ts us (read.annotation_by x) q a (λ m t. pragma_on true m t o) h
-
-pub ruleset on_rules = (on_read, on_fails_first, on_fails_second, on_fails_third, on_fails_fourth)
 
 pub ruleset off_rules = (off_read, off_fails_first, off_fails_second)
 

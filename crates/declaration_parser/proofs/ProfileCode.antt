@@ -15,7 +15,7 @@ use Rattle.expression_parser.specs.declared.extent.Extent.TheVariants.{Subprogra
 use Rattle.expression_parser.specs.Symbols.{symbol_of, Is, same}
 use Rattle.expression_parser.specs.Extents.{opens}
 use Rattle.expression_parser.specs.Reading.{Tokens, Reading, Reader, Got, Stuck, Refuse, Leave, Take, got, goes_on, ◌>>=◌, turned, on_token, provided, expect, skip, repeat}
-use Rattle.expression_parser.specs.Shows.{after, Reads, More, Skipped, Identified}
+use Rattle.expression_parser.specs.Shows.{Shows, ShowsAs, TakesIdentifier, after, Reads, More, Identified}
 use Rattle.expression_parser.specs.Depth.{at_name}
 use Rattle.declaration_parser.specs.Identifiers.{identifiers_by}
 use Rattle.declaration_parser.specs.Specifications.{specified}
@@ -23,8 +23,14 @@ use Rattle.declaration_parser.specs.DeclarationReading as read
 use Rattle.expression_parser.proofs.Comes.{got_bind, got_then, on_symbol}
 use Rattle.expression_parser.proofs.Loops.{more_end, more_leave, more_take, more_take_stuck}
 use Rattle.expression_parser.proofs.NameCode.{after_some, after_none}
-use Rattle.declaration_parser.specs.DeclarationReading.{spelled_by, skip_word}
-use Rattle.declaration_parser.proofs.Steps.{then_reads, then_stuck, then_got_reads, now_reads, skip_reads, skip_stuck, named_reads, named_stuck, got_reads, turn_taken, turn_refused, turn_left}
+use Rattle.std.specs.Prelude.{Result, Ok, Err}
+use Rattle.std.specs.Borrow.{Bor}
+use Rattle.expression_parser.specs.declared.fault.Fault.{Fault}
+use Rattle.expression_parser.specs.declared.fault.Fault.TheVariants.{Syntax, Memory}
+use Rattle.expression_parser.proofs.Faults.{failed}
+use Rattle.declaration_parser.specs.Closing.{Closes}
+use Rattle.declaration_parser.proofs.Closings.{read_so, Within, Below, within_below, leads, closes, stops, goes, named_leads, leads_got, now_goes, same_got, read_then, name_then, closed}
+use Rattle.declaration_parser.proofs.Steps.{then_stuck, then_got_reads, named_reads, named_stuck, turn_taken, turn_refused, turn_left}
 
 -- modes
 pub after_shorter : (s : Symbol) (ts us : Tokens) → after s ts ≡ Some us → length us ≤ length ts
@@ -63,30 +69,28 @@ pub two_shorter : (ts us vs : Tokens) → after symbol.In ts ≡ Some us → aft
 two_shorter ts us vs a b = omega (arith, after_shorter symbol.In ts us a, after_shorter symbol.Out us vs b)
 
 module _ (x : Extent) where
-  pub parameter_read : (ts us vs ws rest : Tokens) (is : List Identifier) (k : Mode) (n : Name) → Reads (identifiers_by) ts (Got is us) → length us < length ts → Skipped symbol.Colon us vs
-      → read.mode_by vs ≡ Got k ws → length ws ≤ length vs → Reads (at_name x) ws (Got n rest) → Reads (read.parameter_by x) ts (Got (record { names = is; mode = k; mark = n }) rest)
-  parameter_read ts us vs ws rest is k n h1 h2 h3 h4 h5 h6 =
-      then_reads (identifiers_by) (λ m is. skip symbol.Colon (read.mode_by >>= λ k. at_name x m >>= λ n. got (record { names = is; mode = k; mark = n }))) ts us is (Got (record { names = is; mode = k; mark = n }) rest) h1 (omega (arith, h2))
-      (skip_reads symbol.Colon (λ m. read.mode_by >>= λ k. at_name x m >>= λ n. got (record { names = is; mode = k; mark = n })) us vs (Got (record { names = is; mode = k; mark = n }) rest) h3
-      (now_reads (read.mode_by) (λ m k. at_name x m >>= λ n. got (record { names = is; mode = k; mark = n })) vs ws k (Got (record { names = is; mode = k; mark = n }) rest) h4 h5
-      (then_got_reads (at_name x) (λ n. record { names = is; mode = k; mark = n }) ws rest n h6)))
+  pub parameter_fails_first : (ts : Tokens) {C0 : Type 0} (p0 : Result (C0 × Bor Tokens) Fault) (f : Fault) (view0 : C0 → List Identifier)
+      → ShowsAs view0 (Reads identifiers_by ts) p0 → Below ts p0 → Closes symbol.Colon p0 (failed f)
+      → Shows (Reads (read.parameter_by x) ts) (failed f)
+  parameter_fails_first ts p0 f view0 h1 h2 h3 =
+      stops view0 (closed symbol.Colon (read_then identifiers_by)) (λ m z0. (read.mode_by >>= λ z1. (at_name x m >>= λ z2. got (record { names = z0; mode = z1; mark = z2 })))) ts f (closes view0 (read_then identifiers_by) symbol.Colon ts p0 (failed f) (leads (Parameter) view0 identifiers_by ts p0 h1 (within_below ts p0 h2)) h3)
 
-  pub parameter_fails_first : (ts rest : Tokens) → Reads (identifiers_by) ts (Stuck rest) → Reads (read.parameter_by x) ts (Stuck rest)
-  parameter_fails_first ts rest h1 = then_stuck (identifiers_by) (λ m is. skip symbol.Colon (read.mode_by >>= λ k. at_name x m >>= λ n. got (record { names = is; mode = k; mark = n }))) ts rest h1
+  pub parameter_fails_second : (ts : Tokens) {C0 : Type 0} (p0 : Result (C0 × Bor Tokens) Fault) (v0 : C0) (u0 : Bor Tokens) (view0 : C0 → List Identifier) (v1 : Mode) (u1 : Tokens) (f : Fault)
+      → ShowsAs view0 (Reads identifiers_by ts) p0 → Below ts p0 → Closes symbol.Colon p0 (read_so v0 u0) → read.mode_by u0.now ≡ Got v1 u1 → length u1 ≤ length u0.now → Shows (Reads (at_name x) u1) (failed f)
+      → Shows (Reads (read.parameter_by x) ts) (failed f)
+  parameter_fails_second ts p0 v0 u0 view0 v1 u1 f h1 h2 h3 h4 h5 h6 =
+      goes view0 (closed symbol.Colon (read_then identifiers_by)) (λ m z0. (read.mode_by >>= λ z1. (at_name x m >>= λ z2. got (record { names = z0; mode = z1; mark = z2 })))) ts v0 u0 (failed f) (closes view0 (read_then identifiers_by) symbol.Colon ts p0 (read_so v0 u0) (leads (Parameter) view0 identifiers_by ts p0 h1 (within_below ts p0 h2)) h3) (
+      now_goes (read.mode_by) (λ m z1. (at_name x m >>= λ z2. got (record { names = (view0 v0); mode = z1; mark = z2 }))) u0.now u1 v1 (failed f) h4 h5 (
+      stops (λ z. z) (read_then (at_name x)) (λ m z2. got (record { names = (view0 v0); mode = v1; mark = z2 })) u1 f (leads (Parameter) (λ z. z) (at_name x) u1 (failed f) h6 tt)))
 
-  pub parameter_fails_second : (ts us rest : Tokens) (is : List Identifier) → Reads (identifiers_by) ts (Got is us) → length us < length ts → expect symbol.Colon us ≡ Stuck rest
-      → Reads (read.parameter_by x) ts (Stuck rest)
-  parameter_fails_second ts us rest is h1 h2 h3 =
-      then_reads (identifiers_by) (λ m is. skip symbol.Colon (read.mode_by >>= λ k. at_name x m >>= λ n. got (record { names = is; mode = k; mark = n }))) ts us is (Stuck rest) h1 (omega (arith, h2))
-      (skip_stuck symbol.Colon (λ m. read.mode_by >>= λ k. at_name x m >>= λ n. got (record { names = is; mode = k; mark = n })) us rest h3)
-
-  pub parameter_fails_fourth : (ts us vs ws rest : Tokens) (is : List Identifier) (k : Mode) → Reads (identifiers_by) ts (Got is us) → length us < length ts → Skipped symbol.Colon us vs
-      → read.mode_by vs ≡ Got k ws → length ws ≤ length vs → Reads (at_name x) ws (Stuck rest) → Reads (read.parameter_by x) ts (Stuck rest)
-  parameter_fails_fourth ts us vs ws rest is k h1 h2 h3 h4 h5 h6 =
-      then_reads (identifiers_by) (λ m is. skip symbol.Colon (read.mode_by >>= λ k. at_name x m >>= λ n. got (record { names = is; mode = k; mark = n }))) ts us is (Stuck rest) h1 (omega (arith, h2))
-      (skip_reads symbol.Colon (λ m. read.mode_by >>= λ k. at_name x m >>= λ n. got (record { names = is; mode = k; mark = n })) us vs (Stuck rest) h3
-      (now_reads (read.mode_by) (λ m k. at_name x m >>= λ n. got (record { names = is; mode = k; mark = n })) vs ws k (Stuck rest) h4 h5
-      (then_stuck (at_name x) (λ m n. got (record { names = is; mode = k; mark = n })) ws rest h6)))
+  pub parameter_read : (ts : Tokens) {C0 : Type 0} (p0 : Result (C0 × Bor Tokens) Fault) (v0 : C0) (u0 : Bor Tokens) (view0 : C0 → List Identifier) (v1 : Mode) (u1 : Tokens) (v2 : Name) (u2 : Bor Tokens) (s0 : List Identifier)
+      → ShowsAs view0 (Reads identifiers_by ts) p0 → Below ts p0 → Closes symbol.Colon p0 (read_so v0 u0) → read.mode_by u0.now ≡ Got v1 u1 → length u1 ≤ length u0.now → Shows (Reads (at_name x) u1) (read_so v2 u2) → Below u1 (read_so v2 u2) → s0 ≡ (view0 v0)
+      → Reads (read.parameter_by x) ts (Got (record { names = s0; mode = v1; mark = v2 }) u2.now)
+  parameter_read ts p0 v0 u0 view0 v1 u1 v2 u2 s0 h1 h2 h3 h4 h5 h6 h7 h8 =
+      goes view0 (closed symbol.Colon (read_then identifiers_by)) (λ m z0. (read.mode_by >>= λ z1. (at_name x m >>= λ z2. got (record { names = z0; mode = z1; mark = z2 })))) ts v0 u0 (read_so (record { names = s0; mode = v1; mark = v2 }) u2) (closes view0 (read_then identifiers_by) symbol.Colon ts p0 (read_so v0 u0) (leads (Parameter) view0 identifiers_by ts p0 h1 (within_below ts p0 h2)) h3) (
+      now_goes (read.mode_by) (λ m z1. (at_name x m >>= λ z2. got (record { names = (view0 v0); mode = z1; mark = z2 }))) u0.now u1 v1 (read_so (record { names = s0; mode = v1; mark = v2 }) u2) h4 h5 (
+      goes (λ z. z) (read_then (at_name x)) (λ m z2. got (record { names = (view0 v0); mode = v1; mark = z2 })) u1 v2 u2 (read_so (record { names = s0; mode = v1; mark = v2 }) u2) (leads (Parameter) (λ z. z) (at_name x) u1 (read_so v2 u2) h6 (within_below u1 (read_so v2 u2) h7)) (
+      same_got (record { names = (view0 v0); mode = v1; mark = v2 }) (record { names = s0; mode = v1; mark = v2 }) u2.now (ap (λ y. (record { names = y; mode = v1; mark = v2 })) h8))))
 
   abbrev parameter_joins : List Parameter → ℕ → Reader (List Parameter)
   parameter_joins ps m = read.parameter_by x m >>= λ p. got (ps ++ p ∷ [])
@@ -142,23 +146,17 @@ module _ (x : Extent) where
       → Reads (read.profile_by x) ts q
   in_profile ts us q a o h = turn_taken (Leave []) (read.profile_turn x) symbol.LeftParenthesis ts us closed_list q a (λ m t. profile_on true m t o) h
 
-  pub profile_read : (ts us vs rest : Tokens) (ps : List Parameter) → after symbol.LeftParenthesis ts ≡ Some us → opens x Subprograms ≡ true → Reads (read.parameters_by x) us (Got ps vs)
-      → length vs < length us → Skipped symbol.RightParenthesis vs rest
-      → Reads (read.profile_by x) ts (Got ps rest)
-  profile_read ts us vs rest ps a o h l k = in_profile ts us (Got ps rest) a o
-      (then_reads (read.parameters_by x) (λ m zs. skip symbol.RightParenthesis (got zs)) us vs ps (Got ps rest) h (omega (arith, l))
-      (skip_reads symbol.RightParenthesis (λ m. got ps) vs rest (Got ps rest) k (got_reads ps rest)))
-
-  pub profile_fails : (ts us rest : Tokens) → after symbol.LeftParenthesis ts ≡ Some us → opens x Subprograms ≡ true → Reads (read.parameters_by x) us (Stuck rest)
-      → Reads (read.profile_by x) ts (Stuck rest)
-  profile_fails ts us rest a o h = in_profile ts us (Stuck rest) a o (then_stuck (read.parameters_by x) (λ m zs. skip symbol.RightParenthesis (got zs)) us rest h)
-
-  pub profile_unclosed : (ts us vs rest : Tokens) (ps : List Parameter) → after symbol.LeftParenthesis ts ≡ Some us → opens x Subprograms ≡ true → Reads (read.parameters_by x) us (Got ps vs)
-      → length vs < length us → expect symbol.RightParenthesis vs ≡ Stuck rest
-      → Reads (read.profile_by x) ts (Stuck rest)
-  profile_unclosed ts us vs rest ps a o h l k = in_profile ts us (Stuck rest) a o
-      (then_reads (read.parameters_by x) (λ m zs. skip symbol.RightParenthesis (got zs)) us vs ps (Stuck rest) h (omega (arith, l))
-      (skip_stuck symbol.RightParenthesis (λ m. got ps) vs rest k))
+  pub profile_shows : (ts us : Tokens) {C : Type 0} (p r : Result (C × Bor Tokens) Fault) (view : C → List Parameter) → after symbol.LeftParenthesis ts ≡ Some us → opens x Subprograms ≡ true
+      → ShowsAs view (Reads (read.parameters_by x) us) p → Below us p → Closes symbol.RightParenthesis p r → ShowsAs view (Reads (read.profile_by x) ts) r
+  profile_shows ts us p r view a o h l c =
+      enclosed ts us r view a o (leads_got view (closed symbol.RightParenthesis (read_then (read.parameters_by x))) us r
+      (closes view (read_then (read.parameters_by x)) symbol.RightParenthesis us p r (leads (List Parameter) view (read.parameters_by x) us p h (within_below us p l)) c))
+    where
+      enclosed : (ts us : Tokens) {C : Type 0} (r : Result (C × Bor Tokens) Fault) (view : C → List Parameter) → after symbol.LeftParenthesis ts ≡ Some us → opens x Subprograms ≡ true
+          → ShowsAs view (Reads closed_list us) r → ShowsAs view (Reads (read.profile_by x) ts) r
+      enclosed ts us (Ok y) view a o h = in_profile ts us (Got (view y.0) y.1.now) a o h
+      enclosed ts us (Err (Syntax rest)) view a o h = in_profile ts us (Stuck rest.now) a o h
+      enclosed ts us (Err Memory) view a o h = tt
 
   pub procedure_read : (p : Pos) (ts us rest : Tokens) (i : Identifier) (ps : List Parameter) → Identified ts us i → Reads (read.profile_by x) us (Got ps rest)
       → Reads (read.procedure_at x p) ts (Got (specified p i ps None) rest)
@@ -174,36 +172,35 @@ module _ (x : Extent) where
   procedure_fails_second p ts us rest i h1 h2 =
       named_reads (λ m i. read.profile_by x m >>= λ ps. got (specified p i ps None)) ts us i (Stuck rest) h1 (then_stuck (read.profile_by x) (λ m ps. got (specified p i ps None)) us rest h2)
 
-  pub function_read : (p : Pos) (ts us vs ws rest : Tokens) (i : Identifier) (ps : List Parameter) (n : Name) → Identified ts us i → Reads (read.profile_by x) us (Got ps vs)
-      → length vs ≤ length us → Skipped symbol.Return vs ws → Reads (at_name x) ws (Got n rest) → Reads (read.function_at x p) ts (Got (specified p i ps (Some n)) rest)
-  function_read p ts us vs ws rest i ps n h1 h2 h3 h4 h5 =
-      named_reads (λ m i. read.profile_by x m >>= λ ps. skip symbol.Return (at_name x m >>= λ n. got (specified p i ps (Some n)))) ts us i (Got (specified p i ps (Some n)) rest) h1
-      (then_reads (read.profile_by x) (λ m ps. skip symbol.Return (at_name x m >>= λ n. got (specified p i ps (Some n)))) us vs ps (Got (specified p i ps (Some n)) rest) h2 h3
-      (skip_reads symbol.Return (λ m. at_name x m >>= λ n. got (specified p i ps (Some n))) vs ws (Got (specified p i ps (Some n)) rest) h4
-      (then_got_reads (at_name x) (λ n. specified p i ps (Some n)) ws rest n h5)))
+  pub function_fails_first : (p : Pos) (ts : Tokens) (f : Fault)
+      → TakesIdentifier ts (failed f)
+      → Shows (Reads (read.function_at x p) ts) (failed f)
+  function_fails_first p ts f h1 =
+      stops (λ z. z) name_then (λ m z0. (read.profile_by x m >>= λ z1. skip symbol.Return (at_name x m >>= λ z2. got (specified p z0 z1 (Some z2))))) ts f (named_leads (Specification) ts (failed f) h1)
 
-  pub function_fails_first : (p : Pos) (ts rest : Tokens) → expect symbol.Identifier ts ≡ Stuck rest → Reads (read.function_at x p) ts (Stuck rest)
-  function_fails_first p ts rest h1 = named_stuck (λ m i. read.profile_by x m >>= λ ps. skip symbol.Return (at_name x m >>= λ n. got (specified p i ps (Some n)))) ts rest h1
+  pub function_fails_second : (p : Pos) (ts : Tokens) (v0 : Identifier) (u0 : Bor Tokens) {C1 : Type 0} (p1 : Result (C1 × Bor Tokens) Fault) (f : Fault) (view1 : C1 → List Parameter)
+      → TakesIdentifier ts (read_so v0 u0) → ShowsAs view1 (Reads (read.profile_by x) u0.now) p1 → Within u0.now p1 → Closes symbol.Return p1 (failed f)
+      → Shows (Reads (read.function_at x p) ts) (failed f)
+  function_fails_second p ts v0 u0 p1 f view1 h1 h2 h3 h4 =
+      goes (λ z. z) name_then (λ m z0. (read.profile_by x m >>= λ z1. skip symbol.Return (at_name x m >>= λ z2. got (specified p z0 z1 (Some z2))))) ts v0 u0 (failed f) (named_leads (Specification) ts (read_so v0 u0) h1) (
+      stops view1 (closed symbol.Return (read_then (read.profile_by x))) (λ m z1. (at_name x m >>= λ z2. got (specified p v0 z1 (Some z2)))) u0.now f (closes view1 (read_then (read.profile_by x)) symbol.Return u0.now p1 (failed f) (leads (Specification) view1 (read.profile_by x) u0.now p1 h2 h3) h4))
 
-  pub function_fails_second : (p : Pos) (ts us rest : Tokens) (i : Identifier) → Identified ts us i → Reads (read.profile_by x) us (Stuck rest) → Reads (read.function_at x p) ts (Stuck rest)
-  function_fails_second p ts us rest i h1 h2 =
-      named_reads (λ m i. read.profile_by x m >>= λ ps. skip symbol.Return (at_name x m >>= λ n. got (specified p i ps (Some n)))) ts us i (Stuck rest) h1
-      (then_stuck (read.profile_by x) (λ m ps. skip symbol.Return (at_name x m >>= λ n. got (specified p i ps (Some n)))) us rest h2)
+  pub function_fails_third : (p : Pos) (ts : Tokens) (v0 : Identifier) (u0 : Bor Tokens) {C1 : Type 0} (p1 : Result (C1 × Bor Tokens) Fault) (v1 : C1) (u1 : Bor Tokens) (view1 : C1 → List Parameter) (f : Fault)
+      → TakesIdentifier ts (read_so v0 u0) → ShowsAs view1 (Reads (read.profile_by x) u0.now) p1 → Within u0.now p1 → Closes symbol.Return p1 (read_so v1 u1) → Shows (Reads (at_name x) u1.now) (failed f)
+      → Shows (Reads (read.function_at x p) ts) (failed f)
+  function_fails_third p ts v0 u0 p1 v1 u1 view1 f h1 h2 h3 h4 h5 =
+      goes (λ z. z) name_then (λ m z0. (read.profile_by x m >>= λ z1. skip symbol.Return (at_name x m >>= λ z2. got (specified p z0 z1 (Some z2))))) ts v0 u0 (failed f) (named_leads (Specification) ts (read_so v0 u0) h1) (
+      goes view1 (closed symbol.Return (read_then (read.profile_by x))) (λ m z1. (at_name x m >>= λ z2. got (specified p v0 z1 (Some z2)))) u0.now v1 u1 (failed f) (closes view1 (read_then (read.profile_by x)) symbol.Return u0.now p1 (read_so v1 u1) (leads (Specification) view1 (read.profile_by x) u0.now p1 h2 h3) h4) (
+      stops (λ z. z) (read_then (at_name x)) (λ m z2. got (specified p v0 (view1 v1) (Some z2))) u1.now f (leads (Specification) (λ z. z) (at_name x) u1.now (failed f) h5 tt)))
 
-  pub function_fails_third : (p : Pos) (ts us vs rest : Tokens) (i : Identifier) (ps : List Parameter) → Identified ts us i → Reads (read.profile_by x) us (Got ps vs) → length vs ≤ length us
-      → expect symbol.Return vs ≡ Stuck rest → Reads (read.function_at x p) ts (Stuck rest)
-  function_fails_third p ts us vs rest i ps h1 h2 h3 h4 =
-      named_reads (λ m i. read.profile_by x m >>= λ ps. skip symbol.Return (at_name x m >>= λ n. got (specified p i ps (Some n)))) ts us i (Stuck rest) h1
-      (then_reads (read.profile_by x) (λ m ps. skip symbol.Return (at_name x m >>= λ n. got (specified p i ps (Some n)))) us vs ps (Stuck rest) h2 h3
-      (skip_stuck symbol.Return (λ m. at_name x m >>= λ n. got (specified p i ps (Some n))) vs rest h4))
-
-  pub function_fails_fourth : (p : Pos) (ts us vs ws rest : Tokens) (i : Identifier) (ps : List Parameter) → Identified ts us i → Reads (read.profile_by x) us (Got ps vs)
-      → length vs ≤ length us → Skipped symbol.Return vs ws → Reads (at_name x) ws (Stuck rest) → Reads (read.function_at x p) ts (Stuck rest)
-  function_fails_fourth p ts us vs ws rest i ps h1 h2 h3 h4 h5 =
-      named_reads (λ m i. read.profile_by x m >>= λ ps. skip symbol.Return (at_name x m >>= λ n. got (specified p i ps (Some n)))) ts us i (Stuck rest) h1
-      (then_reads (read.profile_by x) (λ m ps. skip symbol.Return (at_name x m >>= λ n. got (specified p i ps (Some n)))) us vs ps (Stuck rest) h2 h3
-      (skip_reads symbol.Return (λ m. at_name x m >>= λ n. got (specified p i ps (Some n))) vs ws (Stuck rest) h4
-      (then_stuck (at_name x) (λ m n. got (specified p i ps (Some n))) ws rest h5)))
+  pub function_read : (p : Pos) (ts : Tokens) (v0 : Identifier) (u0 : Bor Tokens) {C1 : Type 0} (p1 : Result (C1 × Bor Tokens) Fault) (v1 : C1) (u1 : Bor Tokens) (view1 : C1 → List Parameter) (v2 : Name) (u2 : Bor Tokens) (s1 : List Parameter)
+      → TakesIdentifier ts (read_so v0 u0) → ShowsAs view1 (Reads (read.profile_by x) u0.now) p1 → Within u0.now p1 → Closes symbol.Return p1 (read_so v1 u1) → Shows (Reads (at_name x) u1.now) (read_so v2 u2) → Below u1.now (read_so v2 u2) → s1 ≡ (view1 v1)
+      → Reads (read.function_at x p) ts (Got (specified p v0 s1 (Some v2)) u2.now)
+  function_read p ts v0 u0 p1 v1 u1 view1 v2 u2 s1 h1 h2 h3 h4 h5 h6 h7 =
+      goes (λ z. z) name_then (λ m z0. (read.profile_by x m >>= λ z1. skip symbol.Return (at_name x m >>= λ z2. got (specified p z0 z1 (Some z2))))) ts v0 u0 (read_so (specified p v0 s1 (Some v2)) u2) (named_leads (Specification) ts (read_so v0 u0) h1) (
+      goes view1 (closed symbol.Return (read_then (read.profile_by x))) (λ m z1. (at_name x m >>= λ z2. got (specified p v0 z1 (Some z2)))) u0.now v1 u1 (read_so (specified p v0 s1 (Some v2)) u2) (closes view1 (read_then (read.profile_by x)) symbol.Return u0.now p1 (read_so v1 u1) (leads (Specification) view1 (read.profile_by x) u0.now p1 h2 h3) h4) (
+      goes (λ z. z) (read_then (at_name x)) (λ m z2. got (specified p v0 (view1 v1) (Some z2))) u1.now v2 u2 (read_so (specified p v0 s1 (Some v2)) u2) (leads (Specification) (λ z. z) (at_name x) u1.now (read_so v2 u2) h5 (within_below u1.now (read_so v2 u2) h6)) (
+      same_got (specified p v0 (view1 v1) (Some v2)) (specified p v0 s1 (Some v2)) u2.now (ap (λ y. (specified p v0 y (Some v2))) h7))))
 
   pub specification_none : Reads (read.specification_by x) [] (Stuck [])
   specification_none = record { by = λ m h. refl }
@@ -234,14 +231,10 @@ module _ (x : Extent) where
 
 pub ruleset mode_rules = (mode_out, mode_default, mode_in_out, mode_in, after_shorter, two_shorter)
 
-pub ruleset parameter_rules = (parameter_read, parameter_fails_first, parameter_fails_second, parameter_fails_fourth)
-
 pub ruleset parameters_rules = (parameters_begin, parameters_fail, parameters_step, parameters_step_fail, parameters_end)
-
-pub ruleset profile_rules = (profile_none, profile_closed, profile_read, profile_fails, profile_unclosed)
 
 pub ruleset procedure_rules = (procedure_read, procedure_fails_first, procedure_fails_second)
 
-pub ruleset function_rules = (function_read, function_fails_first, function_fails_second, function_fails_third, function_fails_fourth)
-
 pub ruleset specification_rules = (specification_none, specification_procedure, specification_closed, specification_function, specification_other)
+
+pub ruleset profile_rules = (profile_none, profile_closed)

@@ -25,8 +25,8 @@ use Rattle.expression_parser.specs.declared.extent.Extent.{Extent}
 use Rattle.expression_parser.specs.declared.extent.Extent.TheVariants.{Types}
 use Rattle.expression_parser.specs.Symbols.{symbol_of, Is, same}
 use Rattle.expression_parser.specs.Extents.{opens}
-use Rattle.expression_parser.specs.Reading.{Tokens, Reading, Reader, Got, Stuck, Refuse, Leave, Take, Look, got, goes_on, ◌>>=◌, turned, ended, provided, expect, skip, repeat}
-use Rattle.expression_parser.specs.Shows.{after, Reads, More, Skipped, next_is}
+use Rattle.expression_parser.specs.Reading.{Tokens, Reading, Reader, Got, Stuck, Refuse, Leave, Take, Look, got, goes_on, ◌>>=◌, turned, ended, provided, skip, repeat}
+use Rattle.expression_parser.specs.Shows.{Shows, ShowsAs, TakesWord, after, Reads, More, Skipped, next_is}
 use Rattle.expression_parser.specs.Depth.{at_name, at_simple}
 use Rattle.declaration_parser.specs.Identifiers.{identifiers_by}
 use Rattle.declaration_parser.specs.SubtypeReading as read
@@ -34,8 +34,14 @@ use Rattle.expression_parser.specs.contracts.symbol.Symbol.{the_type}
 use Rattle.expression_parser.proofs.Comes.{got_bind, got_then, on_symbol}
 use Rattle.expression_parser.proofs.Loops.{more_end, more_leave, more_look, more_look_stuck}
 use Rattle.expression_parser.proofs.NameCode.{after_none}
+use Rattle.std.specs.Prelude.{Result}
+use Rattle.std.specs.Borrow.{Bor}
+use Rattle.expression_parser.specs.declared.fault.Fault.{Fault}
+use Rattle.expression_parser.proofs.Faults.{failed}
+use Rattle.declaration_parser.specs.Closing.{Closes}
+use Rattle.declaration_parser.proofs.Closings.{read_so, Below, within_below, leads, closes, stops, goes, word_stops, word_goes, same_got, read_then, closed}
 use Rattle.declaration_parser.proofs.ExpressionParts.{gated_open, gated_closed}
-use Rattle.declaration_parser.proofs.Steps.{then_reads, then_stuck, then_got_reads, skip_reads, skip_stuck, got_reads, turn_taken, turn_refused, turn_left}
+use Rattle.declaration_parser.proofs.Steps.{then_reads, then_stuck, then_got_reads, got_reads, turn_taken, turn_refused, turn_left}
 
 -- an expression of any other form is no name
 binary_is_no_name : (p : Pos) (a : Expr) (op : BinaryOperator) (b : Expr) (os : List Operand) → read.name_alone (with_operands p (binary p a op b) os) ≡ None
@@ -65,28 +71,26 @@ no_name_alone p (kind.Relation a op b) f h = refl
 no_name_alone p (kind.Logical op e es) f h = joined_are_no_name p op e.value es.items f
 
 module _ (x : Extent) where
-  pub bounds_read : (ts us vs rest : Tokens) (a : Expr) (b : Expr) → Reads (at_simple x) ts (Got a us) → length us < length ts → Skipped symbol.DoubleDot us vs
-      → Reads (at_simple x) vs (Got b rest) → Reads (read.bounds_by x) ts (Got (record { low = a; high = b }) rest)
-  bounds_read ts us vs rest a b h1 h2 h3 h4 =
-      then_reads (at_simple x) (λ m a. skip symbol.DoubleDot (at_simple x m >>= λ b. got (record { low = a; high = b }))) ts us a (Got (record { low = a; high = b }) rest) h1 (omega (arith, h2))
-      (skip_reads symbol.DoubleDot (λ m. at_simple x m >>= λ b. got (record { low = a; high = b })) us vs (Got (record { low = a; high = b }) rest) h3
-      (then_got_reads (at_simple x) (λ b. record { low = a; high = b }) vs rest b h4))
+  pub bounds_fails_first : (ts : Tokens) (p0 : Result (Expr × Bor Tokens) Fault) (f : Fault)
+      → Shows (Reads (at_simple x) ts) p0 → Below ts p0 → Closes symbol.DoubleDot p0 (failed f)
+      → Shows (Reads (read.bounds_by x) ts) (failed f)
+  bounds_fails_first ts p0 f h1 h2 h3 =
+      stops (λ z. z) (closed symbol.DoubleDot (read_then (at_simple x))) (λ m z0. (at_simple x m >>= λ z1. got (record { low = z0; high = z1 }))) ts f (closes (λ z. z) (read_then (at_simple x)) symbol.DoubleDot ts p0 (failed f) (leads (Bounds) (λ z. z) (at_simple x) ts p0 h1 (within_below ts p0 h2)) h3)
 
-  pub bounds_fails_first : (ts rest : Tokens) → Reads (at_simple x) ts (Stuck rest) → Reads (read.bounds_by x) ts (Stuck rest)
-  bounds_fails_first ts rest h1 = then_stuck (at_simple x) (λ m a. skip symbol.DoubleDot (at_simple x m >>= λ b. got (record { low = a; high = b }))) ts rest h1
+  pub bounds_fails_second : (ts : Tokens) (p0 : Result (Expr × Bor Tokens) Fault) (v0 : Expr) (u0 : Bor Tokens) (f : Fault)
+      → Shows (Reads (at_simple x) ts) p0 → Below ts p0 → Closes symbol.DoubleDot p0 (read_so v0 u0) → Shows (Reads (at_simple x) u0.now) (failed f)
+      → Shows (Reads (read.bounds_by x) ts) (failed f)
+  bounds_fails_second ts p0 v0 u0 f h1 h2 h3 h4 =
+      goes (λ z. z) (closed symbol.DoubleDot (read_then (at_simple x))) (λ m z0. (at_simple x m >>= λ z1. got (record { low = z0; high = z1 }))) ts v0 u0 (failed f) (closes (λ z. z) (read_then (at_simple x)) symbol.DoubleDot ts p0 (read_so v0 u0) (leads (Bounds) (λ z. z) (at_simple x) ts p0 h1 (within_below ts p0 h2)) h3) (
+      stops (λ z. z) (read_then (at_simple x)) (λ m z1. got (record { low = v0; high = z1 })) u0.now f (leads (Bounds) (λ z. z) (at_simple x) u0.now (failed f) h4 tt))
 
-  pub bounds_fails_second : (ts us rest : Tokens) (a : Expr) → Reads (at_simple x) ts (Got a us) → length us < length ts → expect symbol.DoubleDot us ≡ Stuck rest
-      → Reads (read.bounds_by x) ts (Stuck rest)
-  bounds_fails_second ts us rest a h1 h2 h3 =
-      then_reads (at_simple x) (λ m a. skip symbol.DoubleDot (at_simple x m >>= λ b. got (record { low = a; high = b }))) ts us a (Stuck rest) h1 (omega (arith, h2))
-      (skip_stuck symbol.DoubleDot (λ m. at_simple x m >>= λ b. got (record { low = a; high = b })) us rest h3)
-
-  pub bounds_fails_third : (ts us vs rest : Tokens) (a : Expr) → Reads (at_simple x) ts (Got a us) → length us < length ts → Skipped symbol.DoubleDot us vs
-      → Reads (at_simple x) vs (Stuck rest) → Reads (read.bounds_by x) ts (Stuck rest)
-  bounds_fails_third ts us vs rest a h1 h2 h3 h4 =
-      then_reads (at_simple x) (λ m a. skip symbol.DoubleDot (at_simple x m >>= λ b. got (record { low = a; high = b }))) ts us a (Stuck rest) h1 (omega (arith, h2))
-      (skip_reads symbol.DoubleDot (λ m. at_simple x m >>= λ b. got (record { low = a; high = b })) us vs (Stuck rest) h3
-      (then_stuck (at_simple x) (λ m b. got (record { low = a; high = b })) vs rest h4))
+  pub bounds_read : (ts : Tokens) (p0 : Result (Expr × Bor Tokens) Fault) (v0 : Expr) (u0 : Bor Tokens) (v1 : Expr) (u1 : Bor Tokens)
+      → Shows (Reads (at_simple x) ts) p0 → Below ts p0 → Closes symbol.DoubleDot p0 (read_so v0 u0) → Shows (Reads (at_simple x) u0.now) (read_so v1 u1) → Below u0.now (read_so v1 u1)
+      → Reads (read.bounds_by x) ts (Got (record { low = v0; high = v1 }) u1.now)
+  bounds_read ts p0 v0 u0 v1 u1 h1 h2 h3 h4 h5 =
+      goes (λ z. z) (closed symbol.DoubleDot (read_then (at_simple x))) (λ m z0. (at_simple x m >>= λ z1. got (record { low = z0; high = z1 }))) ts v0 u0 (read_so (record { low = v0; high = v1 }) u1) (closes (λ z. z) (read_then (at_simple x)) symbol.DoubleDot ts p0 (read_so v0 u0) (leads (Bounds) (λ z. z) (at_simple x) ts p0 h1 (within_below ts p0 h2)) h3) (
+      goes (λ z. z) (read_then (at_simple x)) (λ m z1. got (record { low = v0; high = z1 })) u0.now v1 u1 (read_so (record { low = v0; high = v1 }) u1) (leads (Bounds) (λ z. z) (at_simple x) u0.now (read_so v1 u1) h4 (within_below u0.now (read_so v1 u1) h5)) (
+      got_reads (record { low = v0; high = v1 }) u1.now))
 
   -- a range, where ranges are open
   opened : (ts : Tokens) (q : Reading DiscreteRange) → opens x Types ≡ true → Reads (λ m. at_simple x m >>= read.range_rest x m) ts q → Reads (read.range_by x) ts q
@@ -173,40 +177,26 @@ module _ (x : Extent) where
       then_reads (at_name x) (λ m n. read.constraint_by x m >>= λ c. got (record { mark = n; constraint = c })) ts us n (Stuck rest) h1 (omega (arith, h2))
       (then_stuck (read.constraint_by x) (λ m c. got (record { mark = n; constraint = c })) us rest h3)
 
-  pub component_read : (ts us vs ws rest : Tokens) (is : List Identifier) (s : SubtypeIndication) → Reads (identifiers_by) ts (Got is us) → length us < length ts → Skipped symbol.Colon us vs
-      → Reads (read.indication_by x) vs (Got s ws) → length ws < length vs → Skipped symbol.Semicolon ws rest
-      → Reads (read.component_by x) ts (Got (record { names = is; indication = s }) rest)
-  component_read ts us vs ws rest is s h1 h2 h3 h4 h5 h6 =
-      then_reads (identifiers_by) (λ m is. skip symbol.Colon (read.indication_by x m >>= λ s. skip symbol.Semicolon (got (record { names = is; indication = s })))) ts us is (Got (record { names = is; indication = s }) rest) h1 (omega (arith, h2))
-      (skip_reads symbol.Colon (λ m. read.indication_by x m >>= λ s. skip symbol.Semicolon (got (record { names = is; indication = s }))) us vs (Got (record { names = is; indication = s }) rest) h3
-      (then_reads (read.indication_by x) (λ m s. skip symbol.Semicolon (got (record { names = is; indication = s }))) vs ws s (Got (record { names = is; indication = s }) rest) h4 (omega (arith, h5))
-      (skip_reads symbol.Semicolon (λ m. got (record { names = is; indication = s })) ws rest (Got (record { names = is; indication = s }) rest) h6
-      (got_reads (record { names = is; indication = s }) rest))))
+  pub component_fails_first : (ts : Tokens) {C0 : Type 0} (p0 : Result (C0 × Bor Tokens) Fault) (f : Fault) (view0 : C0 → List Identifier)
+      → ShowsAs view0 (Reads identifiers_by ts) p0 → Below ts p0 → Closes symbol.Colon p0 (failed f)
+      → Shows (Reads (read.component_by x) ts) (failed f)
+  component_fails_first ts p0 f view0 h1 h2 h3 =
+      stops view0 (closed symbol.Colon (read_then identifiers_by)) (λ m z0. (read.indication_by x m >>= λ z1. skip symbol.Semicolon (got (record { names = z0; indication = z1 })))) ts f (closes view0 (read_then identifiers_by) symbol.Colon ts p0 (failed f) (leads (Component) view0 identifiers_by ts p0 h1 (within_below ts p0 h2)) h3)
 
-  pub component_fails_first : (ts rest : Tokens) → Reads (identifiers_by) ts (Stuck rest) → Reads (read.component_by x) ts (Stuck rest)
-  component_fails_first ts rest h1 = then_stuck (identifiers_by) (λ m is. skip symbol.Colon (read.indication_by x m >>= λ s. skip symbol.Semicolon (got (record { names = is; indication = s })))) ts rest h1
+  pub component_fails_second : (ts : Tokens) {C0 : Type 0} (p0 : Result (C0 × Bor Tokens) Fault) (v0 : C0) (u0 : Bor Tokens) (view0 : C0 → List Identifier) (p1 : Result (SubtypeIndication × Bor Tokens) Fault) (f : Fault)
+      → ShowsAs view0 (Reads identifiers_by ts) p0 → Below ts p0 → Closes symbol.Colon p0 (read_so v0 u0) → Shows (Reads (read.indication_by x) u0.now) p1 → Below u0.now p1 → Closes symbol.Semicolon p1 (failed f)
+      → Shows (Reads (read.component_by x) ts) (failed f)
+  component_fails_second ts p0 v0 u0 view0 p1 f h1 h2 h3 h4 h5 h6 =
+      goes view0 (closed symbol.Colon (read_then identifiers_by)) (λ m z0. (read.indication_by x m >>= λ z1. skip symbol.Semicolon (got (record { names = z0; indication = z1 })))) ts v0 u0 (failed f) (closes view0 (read_then identifiers_by) symbol.Colon ts p0 (read_so v0 u0) (leads (Component) view0 identifiers_by ts p0 h1 (within_below ts p0 h2)) h3) (
+      stops (λ z. z) (closed symbol.Semicolon (read_then (read.indication_by x))) (λ m z1. got (record { names = (view0 v0); indication = z1 })) u0.now f (closes (λ z. z) (read_then (read.indication_by x)) symbol.Semicolon u0.now p1 (failed f) (leads (Component) (λ z. z) (read.indication_by x) u0.now p1 h4 (within_below u0.now p1 h5)) h6))
 
-  pub component_fails_second : (ts us rest : Tokens) (is : List Identifier) → Reads (identifiers_by) ts (Got is us) → length us < length ts → expect symbol.Colon us ≡ Stuck rest
-      → Reads (read.component_by x) ts (Stuck rest)
-  component_fails_second ts us rest is h1 h2 h3 =
-      then_reads (identifiers_by) (λ m is. skip symbol.Colon (read.indication_by x m >>= λ s. skip symbol.Semicolon (got (record { names = is; indication = s })))) ts us is (Stuck rest) h1 (omega (arith, h2))
-      (skip_stuck symbol.Colon (λ m. read.indication_by x m >>= λ s. skip symbol.Semicolon (got (record { names = is; indication = s }))) us rest h3)
-
-  pub component_fails_third : (ts us vs rest : Tokens) (is : List Identifier) → Reads (identifiers_by) ts (Got is us) → length us < length ts → Skipped symbol.Colon us vs
-      → Reads (read.indication_by x) vs (Stuck rest) → Reads (read.component_by x) ts (Stuck rest)
-  component_fails_third ts us vs rest is h1 h2 h3 h4 =
-      then_reads (identifiers_by) (λ m is. skip symbol.Colon (read.indication_by x m >>= λ s. skip symbol.Semicolon (got (record { names = is; indication = s })))) ts us is (Stuck rest) h1 (omega (arith, h2))
-      (skip_reads symbol.Colon (λ m. read.indication_by x m >>= λ s. skip symbol.Semicolon (got (record { names = is; indication = s }))) us vs (Stuck rest) h3
-      (then_stuck (read.indication_by x) (λ m s. skip symbol.Semicolon (got (record { names = is; indication = s }))) vs rest h4))
-
-  pub component_fails_fourth : (ts us vs ws rest : Tokens) (is : List Identifier) (s : SubtypeIndication) → Reads (identifiers_by) ts (Got is us) → length us < length ts
-      → Skipped symbol.Colon us vs → Reads (read.indication_by x) vs (Got s ws) → length ws < length vs → expect symbol.Semicolon ws ≡ Stuck rest
-      → Reads (read.component_by x) ts (Stuck rest)
-  component_fails_fourth ts us vs ws rest is s h1 h2 h3 h4 h5 h6 =
-      then_reads (identifiers_by) (λ m is. skip symbol.Colon (read.indication_by x m >>= λ s. skip symbol.Semicolon (got (record { names = is; indication = s })))) ts us is (Stuck rest) h1 (omega (arith, h2))
-      (skip_reads symbol.Colon (λ m. read.indication_by x m >>= λ s. skip symbol.Semicolon (got (record { names = is; indication = s }))) us vs (Stuck rest) h3
-      (then_reads (read.indication_by x) (λ m s. skip symbol.Semicolon (got (record { names = is; indication = s }))) vs ws s (Stuck rest) h4 (omega (arith, h5))
-      (skip_stuck symbol.Semicolon (λ m. got (record { names = is; indication = s })) ws rest h6)))
+  pub component_read : (ts : Tokens) {C0 : Type 0} (p0 : Result (C0 × Bor Tokens) Fault) (v0 : C0) (u0 : Bor Tokens) (view0 : C0 → List Identifier) (p1 : Result (SubtypeIndication × Bor Tokens) Fault) (v1 : SubtypeIndication) (u1 : Bor Tokens) (s0 : List Identifier)
+      → ShowsAs view0 (Reads identifiers_by ts) p0 → Below ts p0 → Closes symbol.Colon p0 (read_so v0 u0) → Shows (Reads (read.indication_by x) u0.now) p1 → Below u0.now p1 → Closes symbol.Semicolon p1 (read_so v1 u1) → s0 ≡ (view0 v0)
+      → Reads (read.component_by x) ts (Got (record { names = s0; indication = v1 }) u1.now)
+  component_read ts p0 v0 u0 view0 p1 v1 u1 s0 h1 h2 h3 h4 h5 h6 h7 =
+      goes view0 (closed symbol.Colon (read_then identifiers_by)) (λ m z0. (read.indication_by x m >>= λ z1. skip symbol.Semicolon (got (record { names = z0; indication = z1 })))) ts v0 u0 (read_so (record { names = s0; indication = v1 }) u1) (closes view0 (read_then identifiers_by) symbol.Colon ts p0 (read_so v0 u0) (leads (Component) view0 identifiers_by ts p0 h1 (within_below ts p0 h2)) h3) (
+      goes (λ z. z) (closed symbol.Semicolon (read_then (read.indication_by x))) (λ m z1. got (record { names = (view0 v0); indication = z1 })) u0.now v1 u1 (read_so (record { names = s0; indication = v1 }) u1) (closes (λ z. z) (read_then (read.indication_by x)) symbol.Semicolon u0.now p1 (read_so v1 u1) (leads (Component) (λ z. z) (read.indication_by x) u0.now p1 h4 (within_below u0.now p1 h5)) h6) (
+      same_got (record { names = (view0 v0); indication = v1 }) (record { names = s0; indication = v1 }) u1.now (ap (λ y. (record { names = y; indication = v1 })) h7)))
 
   abbrev component_joins : List Component → ℕ → Reader (List Component)
   component_joins cs m = read.component_by x m >>= λ c. got (cs ++ c ∷ [])
@@ -240,84 +230,61 @@ module _ (x : Extent) where
   components_end [] cs b = more_end (read.components_turn x) cs
   components_end (t ∷ us) cs b = more_leave (read.components_turn x) cs t us (λ m. no_component m (symbol_of t.lexeme) t cs b)
 
-  pub array_read : (ts us vs ws ys rest : Tokens) (r : DiscreteRange) (s : SubtypeIndication) → Skipped symbol.LeftParenthesis ts us → Reads (read.range_by x) us (Got r vs)
-      → length vs < length us → Skipped symbol.RightParenthesis vs ws → Skipped symbol.Of ws ys → Reads (read.indication_by x) ys (Got s rest)
-      → Reads (read.array_by x) ts (Got (definition.Array r s) rest)
-  array_read ts us vs ws ys rest r s h1 h2 h3 h4 h5 h6 =
-      skip_reads symbol.LeftParenthesis (λ m. read.range_by x m >>= λ r. skip symbol.RightParenthesis (skip symbol.Of (read.indication_by x m >>= λ s. got (definition.Array r s)))) ts us (Got (definition.Array r s) rest) h1
-      (then_reads (read.range_by x) (λ m r. skip symbol.RightParenthesis (skip symbol.Of (read.indication_by x m >>= λ s. got (definition.Array r s)))) us vs r (Got (definition.Array r s) rest) h2 (omega (arith, h3))
-      (skip_reads symbol.RightParenthesis (λ m. skip symbol.Of (read.indication_by x m >>= λ s. got (definition.Array r s))) vs ws (Got (definition.Array r s) rest) h4
-      (skip_reads symbol.Of (λ m. read.indication_by x m >>= λ s. got (definition.Array r s)) ws ys (Got (definition.Array r s) rest) h5
-      (then_got_reads (read.indication_by x) (λ s. definition.Array r s) ys rest s h6))))
+  pub array_fails_first : (ts : Tokens) (f : Fault)
+      → TakesWord symbol.LeftParenthesis ts (failed f)
+      → Shows (Reads (read.array_by x) ts) (failed f)
+  array_fails_first ts f h1 =
+      word_stops symbol.LeftParenthesis (λ m. (read.range_by x m >>= λ z1. skip symbol.RightParenthesis (skip symbol.Of (read.indication_by x m >>= λ z2. got (definition.Array z1 z2))))) ts f h1
 
-  pub array_fails_first : (ts rest : Tokens) → expect symbol.LeftParenthesis ts ≡ Stuck rest → Reads (read.array_by x) ts (Stuck rest)
-  array_fails_first ts rest h1 = skip_stuck symbol.LeftParenthesis (λ m. read.range_by x m >>= λ r. skip symbol.RightParenthesis (skip symbol.Of (read.indication_by x m >>= λ s. got (definition.Array r s)))) ts rest h1
+  pub array_fails_second : (ts : Tokens) (u0 : Tokens) (p1 : Result (DiscreteRange × Bor Tokens) Fault) (p11 : Result (DiscreteRange × Bor Tokens) Fault) (f : Fault)
+      → Skipped symbol.LeftParenthesis ts u0 → Shows (Reads (read.range_by x) u0) p1 → Below u0 p1 → Closes symbol.RightParenthesis p1 p11 → Closes symbol.Of p11 (failed f)
+      → Shows (Reads (read.array_by x) ts) (failed f)
+  array_fails_second ts u0 p1 p11 f h1 h2 h3 h4 h5 =
+      word_goes symbol.LeftParenthesis (λ m. (read.range_by x m >>= λ z1. skip symbol.RightParenthesis (skip symbol.Of (read.indication_by x m >>= λ z2. got (definition.Array z1 z2))))) ts u0 (failed f) h1 (
+      stops (λ z. z) (closed symbol.Of (closed symbol.RightParenthesis (read_then (read.range_by x)))) (λ m z1. (read.indication_by x m >>= λ z2. got (definition.Array z1 z2))) u0 f (closes (λ z. z) (closed symbol.RightParenthesis (read_then (read.range_by x))) symbol.Of u0 p11 (failed f) (closes (λ z. z) (read_then (read.range_by x)) symbol.RightParenthesis u0 p1 p11 (leads (TypeDefinition) (λ z. z) (read.range_by x) u0 p1 h2 (within_below u0 p1 h3)) h4) h5))
 
-  pub array_fails_second : (ts us rest : Tokens) → Skipped symbol.LeftParenthesis ts us → Reads (read.range_by x) us (Stuck rest) → Reads (read.array_by x) ts (Stuck rest)
-  array_fails_second ts us rest h1 h2 =
-      skip_reads symbol.LeftParenthesis (λ m. read.range_by x m >>= λ r. skip symbol.RightParenthesis (skip symbol.Of (read.indication_by x m >>= λ s. got (definition.Array r s)))) ts us (Stuck rest) h1
-      (then_stuck (read.range_by x) (λ m r. skip symbol.RightParenthesis (skip symbol.Of (read.indication_by x m >>= λ s. got (definition.Array r s)))) us rest h2)
+  pub array_fails_third : (ts : Tokens) (u0 : Tokens) (p1 : Result (DiscreteRange × Bor Tokens) Fault) (p11 : Result (DiscreteRange × Bor Tokens) Fault) (v1 : DiscreteRange) (u1 : Bor Tokens) (f : Fault)
+      → Skipped symbol.LeftParenthesis ts u0 → Shows (Reads (read.range_by x) u0) p1 → Below u0 p1 → Closes symbol.RightParenthesis p1 p11 → Closes symbol.Of p11 (read_so v1 u1) → Shows (Reads (read.indication_by x) u1.now) (failed f)
+      → Shows (Reads (read.array_by x) ts) (failed f)
+  array_fails_third ts u0 p1 p11 v1 u1 f h1 h2 h3 h4 h5 h6 =
+      word_goes symbol.LeftParenthesis (λ m. (read.range_by x m >>= λ z1. skip symbol.RightParenthesis (skip symbol.Of (read.indication_by x m >>= λ z2. got (definition.Array z1 z2))))) ts u0 (failed f) h1 (
+      goes (λ z. z) (closed symbol.Of (closed symbol.RightParenthesis (read_then (read.range_by x)))) (λ m z1. (read.indication_by x m >>= λ z2. got (definition.Array z1 z2))) u0 v1 u1 (failed f) (closes (λ z. z) (closed symbol.RightParenthesis (read_then (read.range_by x))) symbol.Of u0 p11 (read_so v1 u1) (closes (λ z. z) (read_then (read.range_by x)) symbol.RightParenthesis u0 p1 p11 (leads (TypeDefinition) (λ z. z) (read.range_by x) u0 p1 h2 (within_below u0 p1 h3)) h4) h5) (
+      stops (λ z. z) (read_then (read.indication_by x)) (λ m z2. got (definition.Array v1 z2)) u1.now f (leads (TypeDefinition) (λ z. z) (read.indication_by x) u1.now (failed f) h6 tt)))
 
-  pub array_fails_third : (ts us vs rest : Tokens) (r : DiscreteRange) → Skipped symbol.LeftParenthesis ts us → Reads (read.range_by x) us (Got r vs) → length vs < length us
-      → expect symbol.RightParenthesis vs ≡ Stuck rest → Reads (read.array_by x) ts (Stuck rest)
-  array_fails_third ts us vs rest r h1 h2 h3 h4 =
-      skip_reads symbol.LeftParenthesis (λ m. read.range_by x m >>= λ r. skip symbol.RightParenthesis (skip symbol.Of (read.indication_by x m >>= λ s. got (definition.Array r s)))) ts us (Stuck rest) h1
-      (then_reads (read.range_by x) (λ m r. skip symbol.RightParenthesis (skip symbol.Of (read.indication_by x m >>= λ s. got (definition.Array r s)))) us vs r (Stuck rest) h2 (omega (arith, h3))
-      (skip_stuck symbol.RightParenthesis (λ m. skip symbol.Of (read.indication_by x m >>= λ s. got (definition.Array r s))) vs rest h4))
+  pub array_read : (ts : Tokens) (u0 : Tokens) (p1 : Result (DiscreteRange × Bor Tokens) Fault) (p11 : Result (DiscreteRange × Bor Tokens) Fault) (v1 : DiscreteRange) (u1 : Bor Tokens) (v2 : SubtypeIndication) (u2 : Bor Tokens)
+      → Skipped symbol.LeftParenthesis ts u0 → Shows (Reads (read.range_by x) u0) p1 → Below u0 p1 → Closes symbol.RightParenthesis p1 p11 → Closes symbol.Of p11 (read_so v1 u1) → Shows (Reads (read.indication_by x) u1.now) (read_so v2 u2) → Below u1.now (read_so v2 u2)
+      → Reads (read.array_by x) ts (Got (definition.Array v1 v2) u2.now)
+  array_read ts u0 p1 p11 v1 u1 v2 u2 h1 h2 h3 h4 h5 h6 h7 =
+      word_goes symbol.LeftParenthesis (λ m. (read.range_by x m >>= λ z1. skip symbol.RightParenthesis (skip symbol.Of (read.indication_by x m >>= λ z2. got (definition.Array z1 z2))))) ts u0 (read_so (definition.Array v1 v2) u2) h1 (
+      goes (λ z. z) (closed symbol.Of (closed symbol.RightParenthesis (read_then (read.range_by x)))) (λ m z1. (read.indication_by x m >>= λ z2. got (definition.Array z1 z2))) u0 v1 u1 (read_so (definition.Array v1 v2) u2) (closes (λ z. z) (closed symbol.RightParenthesis (read_then (read.range_by x))) symbol.Of u0 p11 (read_so v1 u1) (closes (λ z. z) (read_then (read.range_by x)) symbol.RightParenthesis u0 p1 p11 (leads (TypeDefinition) (λ z. z) (read.range_by x) u0 p1 h2 (within_below u0 p1 h3)) h4) h5) (
+      goes (λ z. z) (read_then (read.indication_by x)) (λ m z2. got (definition.Array v1 z2)) u1.now v2 u2 (read_so (definition.Array v1 v2) u2) (leads (TypeDefinition) (λ z. z) (read.indication_by x) u1.now (read_so v2 u2) h6 (within_below u1.now (read_so v2 u2) h7)) (
+      got_reads (definition.Array v1 v2) u2.now)))
 
-  pub array_fails_fourth : (ts us vs ws rest : Tokens) (r : DiscreteRange) → Skipped symbol.LeftParenthesis ts us → Reads (read.range_by x) us (Got r vs) → length vs < length us
-      → Skipped symbol.RightParenthesis vs ws → expect symbol.Of ws ≡ Stuck rest → Reads (read.array_by x) ts (Stuck rest)
-  array_fails_fourth ts us vs ws rest r h1 h2 h3 h4 h5 =
-      skip_reads symbol.LeftParenthesis (λ m. read.range_by x m >>= λ r. skip symbol.RightParenthesis (skip symbol.Of (read.indication_by x m >>= λ s. got (definition.Array r s)))) ts us (Stuck rest) h1
-      (then_reads (read.range_by x) (λ m r. skip symbol.RightParenthesis (skip symbol.Of (read.indication_by x m >>= λ s. got (definition.Array r s)))) us vs r (Stuck rest) h2 (omega (arith, h3))
-      (skip_reads symbol.RightParenthesis (λ m. skip symbol.Of (read.indication_by x m >>= λ s. got (definition.Array r s))) vs ws (Stuck rest) h4
-      (skip_stuck symbol.Of (λ m. read.indication_by x m >>= λ s. got (definition.Array r s)) ws rest h5)))
+  pub record_fails_first : (ts : Tokens) {C0 : Type 0} (p0 : Result (C0 × Bor Tokens) Fault) (p01 : Result (C0 × Bor Tokens) Fault) (f : Fault) (view0 : C0 → List Component)
+      → ShowsAs view0 (Reads (read.components_by x) ts) p0 → Below ts p0 → Closes symbol.End p0 p01 → Closes symbol.Record p01 (failed f)
+      → Shows (Reads (read.record_by x) ts) (failed f)
+  record_fails_first ts p0 p01 f view0 h1 h2 h3 h4 =
+      stops view0 (closed symbol.Record (closed symbol.End (read_then (read.components_by x)))) (λ m z0. got (definition.Record z0)) ts f (closes view0 (closed symbol.End (read_then (read.components_by x))) symbol.Record ts p01 (failed f) (closes view0 (read_then (read.components_by x)) symbol.End ts p0 p01 (leads (TypeDefinition) view0 (read.components_by x) ts p0 h1 (within_below ts p0 h2)) h3) h4)
 
-  pub array_fails_fifth : (ts us vs ws ys rest : Tokens) (r : DiscreteRange) → Skipped symbol.LeftParenthesis ts us → Reads (read.range_by x) us (Got r vs) → length vs < length us
-      → Skipped symbol.RightParenthesis vs ws → Skipped symbol.Of ws ys → Reads (read.indication_by x) ys (Stuck rest) → Reads (read.array_by x) ts (Stuck rest)
-  array_fails_fifth ts us vs ws ys rest r h1 h2 h3 h4 h5 h6 =
-      skip_reads symbol.LeftParenthesis (λ m. read.range_by x m >>= λ r. skip symbol.RightParenthesis (skip symbol.Of (read.indication_by x m >>= λ s. got (definition.Array r s)))) ts us (Stuck rest) h1
-      (then_reads (read.range_by x) (λ m r. skip symbol.RightParenthesis (skip symbol.Of (read.indication_by x m >>= λ s. got (definition.Array r s)))) us vs r (Stuck rest) h2 (omega (arith, h3))
-      (skip_reads symbol.RightParenthesis (λ m. skip symbol.Of (read.indication_by x m >>= λ s. got (definition.Array r s))) vs ws (Stuck rest) h4
-      (skip_reads symbol.Of (λ m. read.indication_by x m >>= λ s. got (definition.Array r s)) ws ys (Stuck rest) h5
-      (then_stuck (read.indication_by x) (λ m s. got (definition.Array r s)) ys rest h6))))
+  pub record_read : (ts : Tokens) {C0 : Type 0} (p0 : Result (C0 × Bor Tokens) Fault) (p01 : Result (C0 × Bor Tokens) Fault) (v0 : C0) (u0 : Bor Tokens) (view0 : C0 → List Component) (s0 : List Component)
+      → ShowsAs view0 (Reads (read.components_by x) ts) p0 → Below ts p0 → Closes symbol.End p0 p01 → Closes symbol.Record p01 (read_so v0 u0) → s0 ≡ (view0 v0)
+      → Reads (read.record_by x) ts (Got (definition.Record s0) u0.now)
+  record_read ts p0 p01 v0 u0 view0 s0 h1 h2 h3 h4 h5 =
+      goes view0 (closed symbol.Record (closed symbol.End (read_then (read.components_by x)))) (λ m z0. got (definition.Record z0)) ts v0 u0 (read_so (definition.Record s0) u0) (closes view0 (closed symbol.End (read_then (read.components_by x))) symbol.Record ts p01 (read_so v0 u0) (closes view0 (read_then (read.components_by x)) symbol.End ts p0 p01 (leads (TypeDefinition) view0 (read.components_by x) ts p0 h1 (within_below ts p0 h2)) h3) h4) (
+      same_got (definition.Record (view0 v0)) (definition.Record s0) u0.now (ap (λ y. (definition.Record y)) h5))
 
-  pub record_read : (ts us vs rest : Tokens) (cs : List Component) → Reads (read.components_by x) ts (Got cs us) → length us < length ts → Skipped symbol.End us vs
-      → Skipped symbol.Record vs rest → Reads (read.record_by x) ts (Got (definition.Record cs) rest)
-  record_read ts us vs rest cs h1 h2 h3 h4 =
-      then_reads (read.components_by x) (λ m cs. skip symbol.End (skip symbol.Record (got (definition.Record cs)))) ts us cs (Got (definition.Record cs) rest) h1 (omega (arith, h2))
-      (skip_reads symbol.End (λ m. skip symbol.Record (got (definition.Record cs))) us vs (Got (definition.Record cs) rest) h3
-      (skip_reads symbol.Record (λ m. got (definition.Record cs)) vs rest (Got (definition.Record cs) rest) h4 (got_reads (definition.Record cs) rest)))
+  pub enumeration_fails_first : (ts : Tokens) {C0 : Type 0} (p0 : Result (C0 × Bor Tokens) Fault) (f : Fault) (view0 : C0 → List Identifier)
+      → ShowsAs view0 (Reads identifiers_by ts) p0 → Below ts p0 → Closes symbol.RightParenthesis p0 (failed f)
+      → Shows (Reads (read.enumeration_by) ts) (failed f)
+  enumeration_fails_first ts p0 f view0 h1 h2 h3 =
+      stops view0 (closed symbol.RightParenthesis (read_then identifiers_by)) (λ m z0. got (definition.Enumeration z0)) ts f (closes view0 (read_then identifiers_by) symbol.RightParenthesis ts p0 (failed f) (leads (TypeDefinition) view0 identifiers_by ts p0 h1 (within_below ts p0 h2)) h3)
 
-  pub record_fails_first : (ts rest : Tokens) → Reads (read.components_by x) ts (Stuck rest) → Reads (read.record_by x) ts (Stuck rest)
-  record_fails_first ts rest h1 = then_stuck (read.components_by x) (λ m cs. skip symbol.End (skip symbol.Record (got (definition.Record cs)))) ts rest h1
-
-  pub record_fails_second : (ts us rest : Tokens) (cs : List Component) → Reads (read.components_by x) ts (Got cs us) → length us < length ts → expect symbol.End us ≡ Stuck rest
-      → Reads (read.record_by x) ts (Stuck rest)
-  record_fails_second ts us rest cs h1 h2 h3 =
-      then_reads (read.components_by x) (λ m cs. skip symbol.End (skip symbol.Record (got (definition.Record cs)))) ts us cs (Stuck rest) h1 (omega (arith, h2))
-      (skip_stuck symbol.End (λ m. skip symbol.Record (got (definition.Record cs))) us rest h3)
-
-  pub record_fails_third : (ts us vs rest : Tokens) (cs : List Component) → Reads (read.components_by x) ts (Got cs us) → length us < length ts → Skipped symbol.End us vs
-      → expect symbol.Record vs ≡ Stuck rest → Reads (read.record_by x) ts (Stuck rest)
-  record_fails_third ts us vs rest cs h1 h2 h3 h4 =
-      then_reads (read.components_by x) (λ m cs. skip symbol.End (skip symbol.Record (got (definition.Record cs)))) ts us cs (Stuck rest) h1 (omega (arith, h2))
-      (skip_reads symbol.End (λ m. skip symbol.Record (got (definition.Record cs))) us vs (Stuck rest) h3 (skip_stuck symbol.Record (λ m. got (definition.Record cs)) vs rest h4))
-
-  pub enumeration_read : (ts us rest : Tokens) (is : List Identifier) → Reads (identifiers_by) ts (Got is us) → length us < length ts → Skipped symbol.RightParenthesis us rest
-      → Reads (read.enumeration_by) ts (Got (definition.Enumeration is) rest)
-  enumeration_read ts us rest is h1 h2 h3 =
-      then_reads (identifiers_by) (λ m is. skip symbol.RightParenthesis (got (definition.Enumeration is))) ts us is (Got (definition.Enumeration is) rest) h1 (omega (arith, h2))
-      (skip_reads symbol.RightParenthesis (λ m. got (definition.Enumeration is)) us rest (Got (definition.Enumeration is) rest) h3 (got_reads (definition.Enumeration is) rest))
-
-  pub enumeration_fails_first : (ts rest : Tokens) → Reads (identifiers_by) ts (Stuck rest) → Reads (read.enumeration_by) ts (Stuck rest)
-  enumeration_fails_first ts rest h1 = then_stuck (identifiers_by) (λ m is. skip symbol.RightParenthesis (got (definition.Enumeration is))) ts rest h1
-
-  pub enumeration_fails_second : (ts us rest : Tokens) (is : List Identifier) → Reads (identifiers_by) ts (Got is us) → length us < length ts → expect symbol.RightParenthesis us ≡ Stuck rest
-      → Reads (read.enumeration_by) ts (Stuck rest)
-  enumeration_fails_second ts us rest is h1 h2 h3 =
-      then_reads (identifiers_by) (λ m is. skip symbol.RightParenthesis (got (definition.Enumeration is))) ts us is (Stuck rest) h1 (omega (arith, h2))
-      (skip_stuck symbol.RightParenthesis (λ m. got (definition.Enumeration is)) us rest h3)
+  pub enumeration_read : (ts : Tokens) {C0 : Type 0} (p0 : Result (C0 × Bor Tokens) Fault) (v0 : C0) (u0 : Bor Tokens) (view0 : C0 → List Identifier) (s0 : List Identifier)
+      → ShowsAs view0 (Reads identifiers_by ts) p0 → Below ts p0 → Closes symbol.RightParenthesis p0 (read_so v0 u0) → s0 ≡ (view0 v0)
+      → Reads (read.enumeration_by) ts (Got (definition.Enumeration s0) u0.now)
+  enumeration_read ts p0 v0 u0 view0 s0 h1 h2 h3 h4 =
+      goes view0 (closed symbol.RightParenthesis (read_then identifiers_by)) (λ m z0. got (definition.Enumeration z0)) ts v0 u0 (read_so (definition.Enumeration s0) u0) (closes view0 (read_then identifiers_by) symbol.RightParenthesis ts p0 (read_so v0 u0) (leads (TypeDefinition) view0 identifiers_by ts p0 h1 (within_below ts p0 h2)) h3) (
+      same_got (definition.Enumeration (view0 v0)) (definition.Enumeration s0) u0.now (ap (λ y. (definition.Enumeration y)) h4))
 
   -- type definitions
   defines : (t : Token) (us : Tokens) (s : Symbol) (r : ℕ → Reader TypeDefinition) (q : Reading TypeDefinition) → Is s t → ((m : ℕ) → read.definition_turn x m s t ≡ Take (r m))
@@ -367,23 +334,13 @@ module _ (x : Extent) where
   pub definition_open : (ts : Tokens) (q : Reading TypeDefinition) → opens x Types ≡ true → Reads (read.definition_form x) ts q → Reads (read.definition_by x) ts q
   definition_open ts q o h = record { by = λ m n. gated_open (opens x Types) (read.definition_form x m) ts o ∙ h.by m n }
 
-pub ruleset bounds_rules = (bounds_read, bounds_fails_first, bounds_fails_second, bounds_fails_third)
-
 pub ruleset range_rules = (range_closed, range_fails_first, range_mark, range_read, range_fails_second)
 
 pub ruleset constraint_rules = (constraint_none, constraint_closed, constraint_read, constraint_fails)
 
 pub ruleset indication_rules = (indication_read, indication_fails_first, indication_fails_second)
 
-pub ruleset component_rules = (component_read, component_fails_first, component_fails_second, component_fails_third, component_fails_fourth)
-
 pub ruleset components_rules = (components_begin, components_fail, components_step, components_step_fail, components_end)
-
-pub ruleset array_rules = (array_read, array_fails_first, array_fails_second, array_fails_third, array_fails_fourth, array_fails_fifth)
-
-pub ruleset record_rules = (record_read, record_fails_first, record_fails_second, record_fails_third)
-
-pub ruleset enumeration_rules = (enumeration_read, enumeration_fails_first, enumeration_fails_second)
 
 pub ruleset definition_form_rules = (definition_none, definition_integer, definition_integer_fails, definition_enumeration, definition_array, definition_record, definition_other)
 

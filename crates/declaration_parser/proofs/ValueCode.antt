@@ -1,10 +1,6 @@
 -- Initial values, as the code reads them.
 use Rattle.std.proofs.Common.{◌≡◌, ℕ, zero, suc, ◌<◌, true, false, cond, List, [], ◌∷◌, ◌++◌, length, Some, None, refl, ap, sym, ◌∙◌, subst, arith}
 use Rattle.std.proofs.lemmas.List.{append-nil, append_assoc}
-use Rattle.std.specs.Prelude.{Result, Err}
-use Rattle.std.specs.Borrow.{Bor}
-use Rattle.expression_parser.specs.declared.fault.Fault.{Fault}
-use Rattle.expression_parser.specs.declared.fault.Fault.TheVariants.{Syntax, Memory}
 use Rattle.expression_parser.specs.Shows.{Shows, TakesWord}
 use Rattle.cov_base.specs.declared.position.Pos.{Pos}
 use Rattle.ada_lexer.specs.declared.token.Token.{Token}
@@ -21,10 +17,18 @@ use Rattle.expression_parser.specs.Shows.{after, Reads, Skipped}
 use Rattle.expression_parser.specs.Depth.{at_expr}
 use Rattle.declaration_parser.specs.Subtypes.{plain, inside}
 use Rattle.declaration_parser.specs.SubtypeReading as read
-use Rattle.declaration_parser.specs.Answers.{within, initial_within, Encloses}
+use Rattle.declaration_parser.specs.Answers.{within, initial_within, value_within, Encloses}
+use Rattle.std.specs.Prelude.{Result, Ok, Err}
+use Rattle.std.specs.Borrow.{Bor}
+use Rattle.expression_parser.specs.declared.fault.Fault.{Fault}
+use Rattle.expression_parser.specs.declared.fault.Fault.TheVariants.{Syntax, Memory}
+use Rattle.expression_parser.proofs.Faults.{failed}
+use Rattle.declaration_parser.specs.Closing.{Closes}
+use Rattle.declaration_parser.proofs.Closings.{read_so, Below, within_below, leads, stops, goes, shows_as_well, read_then}
+use Rattle.declaration_parser.proofs.Steps.{got_reads}
 use Rattle.declaration_parser.proofs.SubtypeLocal.{parenthesis_alone}
 use Rattle.declaration_parser.proofs.ExpressionParts.{types_open_objects}
-use Rattle.expression_parser.proofs.Comes.{got_bind, got_then, on_symbol}
+use Rattle.expression_parser.proofs.Comes.{got_bind, on_symbol}
 use Rattle.expression_parser.proofs.NameCode.{after_some, after_none}
 
 module _ (x : Extent) where
@@ -73,15 +77,27 @@ module _ (x : Extent) where
   abbrev wraps : List Pos → Initial → Reader Initial
   wraps ps i = got (within ps i)
 
-  pub within_value : (ps : List Pos) (ts rest : Tokens) (e : Expr) → ((m : ℕ) → read.initial_by x m ts ≡ read.value_by x m ts) → Reads (at_expr x) ts (Got e rest)
-      → Reads (initial_within x ps) ts (Got (record { others = ps; value = e }) rest)
-  within_value ps ts rest e h r = record {
-    by = λ m l. ap (goes_on (wraps ps)) (h m ∙ got_then plain (r.by m l)) ∙ ap (λ qs. Got (record { others = qs; value = e }) rest) (append-nil ps);
-  }
+  pub value_fails_first : (ps : List Pos) (ts : Tokens) (f : Fault)
+      → Shows (Reads (at_expr x) ts) (failed f)
+      → Shows (Reads (value_within x ps) ts) (failed f)
+  value_fails_first ps ts f h1 =
+      stops (λ z. z) (read_then (at_expr x)) (λ m z0. got (record { others = ps; value = z0 })) ts f (leads (Initial) (λ z. z) (at_expr x) ts (failed f) h1 tt)
 
-  pub within_value_fails : (ps : List Pos) (ts rest : Tokens) → ((m : ℕ) → read.initial_by x m ts ≡ read.value_by x m ts) → Reads (at_expr x) ts (Stuck rest)
-      → Reads (initial_within x ps) ts (Stuck rest)
-  within_value_fails ps ts rest h r = record { by = λ m l. ap (goes_on (wraps ps)) (h m ∙ ap (goes_on (λ e. got (plain e))) (r.by m l)) }
+  pub value_read : (ps : List Pos) (ts : Tokens) (v0 : Expr) (u0 : Bor Tokens)
+      → Shows (Reads (at_expr x) ts) (read_so v0 u0) → Below ts (read_so v0 u0)
+      → Reads (value_within x ps) ts (Got (record { others = ps; value = v0 }) u0.now)
+  value_read ps ts v0 u0 h1 h2 =
+      goes (λ z. z) (read_then (at_expr x)) (λ m z0. got (record { others = ps; value = z0 })) ts v0 u0 (read_so (record { others = ps; value = v0 }) u0) (leads (Initial) (λ z. z) (at_expr x) ts (read_so v0 u0) h1 (within_below ts (read_so v0 u0) h2)) (
+      got_reads (record { others = ps; value = v0 }) u0.now)
+
+  -- a value in no further parentheses
+  plain_as : (ps : List Pos) (q : Reading Expr) → goes_on (wraps ps) (goes_on (λ e. got (plain e)) q) ≡ goes_on (λ e. got (record { others = ps; value = e })) q
+  plain_as ps (Got e us) = ap (λ qs. Got (record { others = qs; value = e }) us) (append-nil ps)
+  plain_as ps (Stuck us) = refl
+
+  pub within_value : (ps : List Pos) (ts : Tokens) (r : Result (Initial × Bor Tokens) Fault) → ((m : ℕ) → read.initial_by x m ts ≡ read.value_by x m ts) → Shows (Reads (value_within x ps) ts) r
+      → Shows (Reads (initial_within x ps) ts) r
+  within_value ps ts r h s = shows_as_well (value_within x ps) (initial_within x ps) ts r (λ m. ap (goes_on (wraps ps)) (h m) ∙ plain_as ps (at_expr x m ts)) s
 
   pub within_arrow_fails : (ps : List Pos) (p : Pos) (ts us rest : Tokens) → Encloses x ts us p → expect symbol.Arrow us ≡ Stuck rest → Reads (initial_within x ps) ts (Stuck rest)
   within_arrow_fails ps p ts us rest k e = record { by = λ m l. ap (goes_on (wraps ps)) (k.by m ∙ ap (goes_on (λ _. read.initial x m >>= λ i. skip symbol.RightParenthesis (got (inside p i)))) e) }
@@ -144,20 +160,29 @@ module _ (x : Extent) where
       let s = subst (λ z. Reads (initial_within x z) ts q) e r in
       record { by = λ m h. sym (nothing_added (read.initial_by x m ts)) ∙ s.by m h }
 
+  -- what stands in the parenthesis and fails, and what is closed
+  inner_fault : (ps qs : List Pos) (p : Pos) (ts us vs : Tokens) (f : Fault) → Encloses x ts us p → Skipped symbol.Arrow us vs → qs ≡ ps ++ p ∷ []
+      → Shows (Reads (initial_within x qs) vs) (failed f) → Shows (Reads (initial_within x ps) ts) (failed f)
+  inner_fault ps qs p ts us vs (Syntax rest) k a e r = within_inner_fails ps qs p ts us vs rest.now k a e r
+  inner_fault ps qs p ts us vs Memory k a e r = tt
+
+  pub within_closed : (ps qs : List Pos) (p : Pos) (ts us vs : Tokens) (i r : Result (Initial × Bor Tokens) Fault) → Encloses x ts us p → Skipped symbol.Arrow us vs → qs ≡ ps ++ p ∷ []
+      → Shows (Reads (initial_within x qs) vs) i → Closes symbol.RightParenthesis i r → Shows (Reads (initial_within x ps) ts) r
+  within_closed ps qs p ts us vs (Ok i) (Ok y) k a e h c =
+      subst (λ z. Reads (initial_within x ps) ts (Got z y.1.now)) (sym c.0) (within_read ps qs p ts us vs i.1.now y.1.now i.0 k a e h c.1)
+  within_closed ps qs p ts us vs (Ok i) (Err (Syntax rest)) k a e h c = within_close_fails ps qs p ts us vs i.1.now rest.now i.0 k a e h c
+  within_closed ps qs p ts us vs (Ok i) (Err Memory) k a e h c = tt
+  within_closed ps qs p ts us vs (Err f) (Ok y) k a e h c = absurd c
+  within_closed ps qs p ts us vs (Err f) (Err g) k a e h c = subst (λ z. Shows (Reads (initial_within x ps) ts) (failed z)) (sym c) (inner_fault ps qs p ts us vs f k a e h)
+
   -- the arrow that fails, whatever the fault
-  abbrev word_failed : Fault → Result (Bor Tokens) Fault
-  word_failed f = Err f
-
-  abbrev failed : Fault → Result (Initial × Bor Tokens) Fault
-  failed f = Err f
-
-  pub arrow_fault : (ps : List Pos) (p : Pos) (ts us : Tokens) (f : Fault) → Encloses x ts us p → TakesWord symbol.Arrow us (word_failed f)
+  pub arrow_fault : (ps : List Pos) (p : Pos) (ts us : Tokens) (f : Fault) → Encloses x ts us p → TakesWord symbol.Arrow us (failed f)
       → Shows (Reads (initial_within x ps) ts) (failed f)
   arrow_fault ps p ts us (Syntax rest) k e = within_arrow_fails ps p ts us rest.now k e
   arrow_fault ps p ts us Memory k e = tt
 
 pub ruleset aggregate_rules = (plain_closed, plain_none, plain_other, plain_second, encloses)
 
-pub ruleset within_rules = (within_value, within_value_fails, within_arrow_fails, within_inner_fails, within_close_fails, within_read)
-
 pub ruleset initial_rules = (within_none)
+
+pub ruleset within_rules = (within_value, within_arrow_fails, within_closed)

@@ -9,6 +9,7 @@ use Rattle.expression_parser.specs.declared.fault.Fault.{Fault}
 use Rattle.expression_parser.specs.declared.fault.Fault.TheVariants.{Syntax, Memory}
 use Rattle.expression_parser.specs.declared.symbol.Symbol.TheVariants as symbol
 use Rattle.expression_parser.specs.Reading.{Tokens, Reader, Got, Stuck, got, ◌>>=◌, expect, skip}
+use Rattle.expression_parser.specs.Depth.{at_expr}
 use Rattle.declaration_parser.specs.DeclarationReading.{spelled_by}
 use Rattle.declaration_parser.specs.Subtypes.{inside}
 use Rattle.declaration_parser.specs.SubtypeReading.{value_by, initial, initial_by}
@@ -45,6 +46,10 @@ within ps i = record { others = ps ++ i.others; value = i.value }
 -- an initial value that stands in them
 abbrev pub initial_within : Extent → List Pos → ℕ → Reader Initial
 initial_within x ps m = initial_by x m >>= λ i. got (within ps i)
+
+-- an expression that stands in them
+abbrev pub value_within : Extent → List Pos → ℕ → Reader Initial
+value_within x ps m = at_expr x m >>= λ e. got (record { others = ps; value = e })
 
 -- behind OTHERS
 abbrev pub rest_inside : Extent → Pos → ℕ → Reader Initial

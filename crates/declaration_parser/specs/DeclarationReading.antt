@@ -4,6 +4,7 @@ use Rattle.cov_base.specs.declared.position.Pos.{Pos}
 use Rattle.ada_lexer.specs.declared.token.Token.{Token}
 use Rattle.ada_syntax.specs.declared.name.Identifier.{Identifier}
 use Rattle.ada_syntax.specs.declared.declaration.Initial.{Initial}
+use Rattle.ada_syntax.specs.declared.declaration.SubtypeIndication.{SubtypeIndication}
 use Rattle.ada_syntax.specs.declared.declaration.Constancy.{Constancy}
 use Rattle.ada_syntax.specs.declared.declaration.Constancy.TheVariants as constancy
 use Rattle.ada_syntax.specs.declared.declaration.Declaration.{Declaration}
@@ -133,6 +134,10 @@ module _ (x : Extent) (m : ℕ) where
   -- [:= init]
   abbrev pub initial_part_by : Reader (Option Initial)
   initial_part_by = on_token (Leave None) initial_part_turn
+
+  -- sub [:= init] ;
+  abbrev pub object_type_by : Reader (SubtypeIndication × Option Initial)
+  object_type_by = indication_by x m >>= λ s. initial_part_by >>= λ i. skip symbol.Semicolon (got (s, i))
 
   -- sub [:= init] ; of objects with these names
   abbrev pub object_by : List Identifier → Constancy → Reader DeclarationKind

@@ -7,5 +7,6 @@ pub mod Formals
 pub mod SubtypeReading
 pub mod DeclarationReading
 pub mod FormalReading
+pub mod Closing
 pub mod Answers
 pub mod NodeTokens

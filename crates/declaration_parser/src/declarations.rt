@@ -7,9 +7,9 @@ ghost use Rattle.declaration_parser.specs.DeclarationReading as read;
 use crate::pragmas::exemption_pragma;
 use crate::subtypes::{definition, indication};
 use crate::values::initial;
-use crate::words::identifiers;
+use crate::words::{closed_by, identifiers};
 use ada_lexer::Token;
-use ada_syntax::{Constancy, Declaration, DeclarationKind, Identifier, Initial};
+use ada_syntax::{Constancy, Declaration, DeclarationKind, Identifier, Initial, SubtypeIndication};
 use cov_base::Seq;
 use expression_parser::{Extent, Fault, Parsed, Parser, Symbol, behind, symbol_in, word};
 
@@ -26,8 +26,20 @@ fn initial_part<'a>(parser: Parser, tokens: &'a [Token]) -> Parsed<'a, Option<In
     Ok((Some(value), rest))
 }
 
+/// `sub [:= init] ;`
+fn object_type<'a>(
+    parser: Parser,
+    tokens: &'a [Token],
+) -> Parsed<'a, (SubtypeIndication, Option<Initial>)>
+    ensures reads { Shows (Reads (read.object_type_by parser.extent) tokens.now) result }
+    ensures shorter { IfOk result (λ x. length x.1.now < length tokens.now) }
+{
+    let (indication, rest) = indication(parser, tokens)?;
+    let (value, rest) = closed_by(Symbol::Semicolon, initial_part(parser, rest))?;
+    Ok(((indication, value), rest))
+}
+
 /// `sub [:= init] ;` of objects with these names
-#[tactic(auto, using(crate::proofs::DeclarationCode::object_rules))]
 fn object<'a>(
     parser: Parser,
     names: Vec<Identifier>,
@@ -37,9 +49,7 @@ fn object<'a>(
     ensures reads { Shows (Reads (read.object_at parser.extent names.items constancy) tokens.now) result }
     ensures shorter { IfOk result (λ x. length x.1.now < length tokens.now) }
 {
-    let (indication, rest) = indication(parser, tokens)?;
-    let (value, rest) = initial_part(parser, rest)?;
-    let rest = word(Symbol::Semicolon, rest)?;
+    let ((indication, value), rest) = object_type(parser, tokens)?;
     let names = Seq::from(names);
     let kind = DeclarationKind::Object(names, constancy, indication, value);
     Ok((kind, rest))
@@ -70,39 +80,31 @@ fn named_rest<'a>(
 }
 
 /// `id {, id} : [CONSTANT] sub [:= init] ; | id {, id} : EXCEPTION ;`
-#[tactic(auto, using(crate::proofs::DeclarationCode::named_rules))]
 fn named<'a>(parser: Parser, tokens: &'a [Token]) -> Parsed<'a, DeclarationKind>
     ensures reads { Shows (Reads (read.named_by parser.extent) tokens.now) result }
     ensures shorter { IfOk result (λ x. length x.1.now < length tokens.now) }
 {
-    let (names, rest) = identifiers(parser, tokens)?;
-    let rest = word(Symbol::Colon, rest)?;
+    let (names, rest) = closed_by(Symbol::Colon, identifiers(parser, tokens))?;
     named_rest(parser, names, rest)
 }
 
 /// `id IS typedef ;` behind `TYPE`
-#[tactic(auto, using(crate::proofs::DeclarationCode::type_rules))]
 fn type_declaration<'a>(parser: Parser, tokens: &'a [Token]) -> Parsed<'a, DeclarationKind>
     ensures reads { Shows (Reads (read.type_by parser.extent) tokens.now) result }
     ensures shorter { IfOk result (λ x. length x.1.now < length tokens.now) }
 {
-    let (name, rest) = parser.identifier(tokens)?;
-    let rest = word(Symbol::Is, rest)?;
-    let (definition, rest) = definition(parser, rest)?;
-    let rest = word(Symbol::Semicolon, rest)?;
+    let (name, rest) = closed_by(Symbol::Is, parser.identifier(tokens))?;
+    let (definition, rest) = closed_by(Symbol::Semicolon, definition(parser, rest))?;
     Ok((DeclarationKind::Type(name, definition), rest))
 }
 
 /// `id IS sub ;` behind `SUBTYPE`
-#[tactic(auto, using(crate::proofs::DeclarationCode::subtype_rules))]
 fn subtype_declaration<'a>(parser: Parser, tokens: &'a [Token]) -> Parsed<'a, DeclarationKind>
     ensures reads { Shows (Reads (read.subtype_by parser.extent) tokens.now) result }
     ensures shorter { IfOk result (λ x. length x.1.now < length tokens.now) }
 {
-    let (name, rest) = parser.identifier(tokens)?;
-    let rest = word(Symbol::Is, rest)?;
-    let (indication, rest) = indication(parser, rest)?;
-    let rest = word(Symbol::Semicolon, rest)?;
+    let (name, rest) = closed_by(Symbol::Is, parser.identifier(tokens))?;
+    let (indication, rest) = closed_by(Symbol::Semicolon, indication(parser, rest))?;
     Ok((DeclarationKind::Subtype(name, indication), rest))
 }
 

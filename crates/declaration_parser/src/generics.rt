@@ -6,9 +6,10 @@ ghost use Rattle.expression_parser.specs.Shows.{Shows, ShowsAs, Reads, next_is};
 ghost use Rattle.declaration_parser.specs.FormalReading as read;
 
 use crate::profiles::specification;
+use crate::words::closed_by;
 use ada_lexer::Token;
 use ada_syntax::{Formal, FormalKind, Identifier, Mode};
-use expression_parser::{Extent, Fault, Parsed, Parser, Symbol, behind, symbol_in, word};
+use expression_parser::{Extent, Fault, Parsed, Parser, Symbol, behind, symbol_in};
 
 /// `[IN]`
 #[tactic(auto, using(crate::proofs::FormalCode::mode_rules))]
@@ -23,56 +24,48 @@ fn formal_mode(tokens: &[Token]) -> (Mode, &[Token])
 }
 
 /// `( <> ) ; | RANGE <> ;` of the type of this name
-#[tactic(auto, using(crate::proofs::FormalCode::type_rest_rules))]
 fn formal_type_rest<'a>(name: Identifier, tokens: &'a [Token]) -> Parsed<'a, FormalKind>
     ensures reads { Shows (Reads (λ m. read.formal_type_rest name) tokens.now) result }
     ensures shorter { IfOk result (λ x. length x.1.now < length tokens.now) }
 {
     if let Some(rest) = behind(Symbol::Range, tokens) {
-        let rest = word(Symbol::Box, rest)?;
-        let rest = word(Symbol::Semicolon, rest)?;
+        let name = closed_by(Symbol::Box, Ok((name, rest)));
+        let (name, rest) = closed_by(Symbol::Semicolon, name)?;
         return Ok((FormalKind::IntegerType(name), rest));
     }
-    let rest = word(Symbol::LeftParenthesis, tokens)?;
-    let rest = word(Symbol::Box, rest)?;
-    let rest = word(Symbol::RightParenthesis, rest)?;
-    let rest = word(Symbol::Semicolon, rest)?;
+    let name = closed_by(Symbol::LeftParenthesis, Ok((name, tokens)));
+    let name = closed_by(Symbol::Box, name);
+    let name = closed_by(Symbol::RightParenthesis, name);
+    let (name, rest) = closed_by(Symbol::Semicolon, name)?;
     Ok((FormalKind::DiscreteType(name), rest))
 }
 
 /// `id IS ( <> ) ; | id IS RANGE <> ;` behind `TYPE`
-#[tactic(auto, using(crate::proofs::FormalCode::type_rules))]
 fn formal_type<'a>(parser: Parser, tokens: &'a [Token]) -> Parsed<'a, FormalKind>
     ensures reads { Shows (Reads read.formal_type_by tokens.now) result }
     ensures shorter { IfOk result (λ x. length x.1.now < length tokens.now) }
 {
-    let (name, rest) = parser.identifier(tokens)?;
-    let rest = word(Symbol::Is, rest)?;
+    let (name, rest) = closed_by(Symbol::Is, parser.identifier(tokens))?;
     formal_type_rest(name, rest)
 }
 
 /// `id : [IN] name ;`
-#[tactic(auto, using(crate::proofs::FormalCode::object_rules))]
 fn formal_object<'a>(parser: Parser, tokens: &'a [Token]) -> Parsed<'a, FormalKind>
     ensures reads { Shows (Reads (read.formal_object_by parser.extent) tokens.now) result }
     ensures shorter { IfOk result (λ x. length x.1.now < length tokens.now) }
 {
-    let (name, rest) = parser.identifier(tokens)?;
-    let rest = word(Symbol::Colon, rest)?;
+    let (name, rest) = closed_by(Symbol::Colon, parser.identifier(tokens))?;
     let (mode, rest) = formal_mode(rest);
-    let (mark, rest) = parser.name(rest)?;
-    let rest = word(Symbol::Semicolon, rest)?;
+    let (mark, rest) = closed_by(Symbol::Semicolon, parser.name(rest))?;
     Ok((FormalKind::Object(name, mode, mark), rest))
 }
 
 /// `spec ;` behind `WITH`
-#[tactic(auto, using(crate::proofs::FormalCode::subprogram_rules))]
 fn formal_subprogram<'a>(parser: Parser, tokens: &'a [Token]) -> Parsed<'a, FormalKind>
     ensures reads { Shows (Reads (read.formal_subprogram_by parser.extent) tokens.now) result }
     ensures shorter { IfOk result (λ x. length x.1.now < length tokens.now) }
 {
-    let (specification, rest) = specification(parser, tokens)?;
-    let rest = word(Symbol::Semicolon, rest)?;
+    let (specification, rest) = closed_by(Symbol::Semicolon, specification(parser, tokens))?;
     Ok((FormalKind::Subprogram(specification), rest))
 }
 

@@ -7,7 +7,8 @@
 //! extent.
 //!
 //! The contract that the layers above use: [`initial`], [`range`], [`indication`], [`specification`],
-//! [`exemption_pragma`], [`declaration`], [`local_declarations`] and [`formals`] answer what is read.
+//! [`exemption_pragma`], [`declaration`], [`local_declarations`] and [`formals`] answer what is read;
+//! [`closed_by`] takes a word behind it.
 #![tactic(auto)]
 
 mod declarations;
@@ -24,4 +25,4 @@ pub use crate::pragmas::exemption_pragma;
 pub use crate::profiles::specification;
 pub use crate::subtypes::{bounds, indication, range};
 pub use crate::values::initial;
-pub use crate::words::identifiers;
+pub use crate::words::{closed_by, identifiers};

@@ -5,7 +5,7 @@ ghost use Rattle.expression_parser.specs.Shows.{Shows, Reads};
 ghost use Rattle.declaration_parser.specs.Answers.{TakesText};
 ghost use Rattle.declaration_parser.specs.DeclarationReading as read;
 
-use crate::words::{is_spelled, spelled};
+use crate::words::{closed_by, is_spelled, spelled};
 use ada_lexer::Token;
 use ada_syntax::Pragma;
 use cov_base::Bytes;
@@ -26,15 +26,13 @@ fn literal<'a>(parser: Parser, tokens: &'a [Token]) -> Parsed<'a, Bytes>
 }
 
 /// `, string ) ;` behind `Exempt_On`
-#[tactic(auto, using(crate::proofs::PragmaCode::on_rules))]
 fn exempt_on<'a>(parser: Parser, tokens: &'a [Token]) -> Parsed<'a, Pragma>
     ensures reads { Shows (Reads (λ m. read.on_by) tokens.now) result }
     ensures shorter { IfOk result (λ x. length x.1.now < length tokens.now) }
 {
     let rest = word(Symbol::Comma, tokens)?;
-    let (text, rest) = literal(parser, rest)?;
-    let rest = word(Symbol::RightParenthesis, rest)?;
-    let rest = word(Symbol::Semicolon, rest)?;
+    let text = closed_by(Symbol::RightParenthesis, literal(parser, rest));
+    let (text, rest) = closed_by(Symbol::Semicolon, text)?;
     Ok((Pragma::ExemptOn(text), rest))
 }
 

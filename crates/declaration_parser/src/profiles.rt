@@ -5,11 +5,11 @@ ghost use Rattle.expression_parser.specs.Reading.{Got};
 ghost use Rattle.expression_parser.specs.Shows.{Shows, ShowsAs, Reads};
 ghost use Rattle.declaration_parser.specs.DeclarationReading as read;
 
-use crate::words::identifiers;
+use crate::words::{closed_by, identifiers};
 use ada_lexer::Token;
 use ada_syntax::{Mode, Parameter, Specification};
 use cov_base::{Pos, Seq};
-use expression_parser::{Extent, Fault, Parsed, Parser, Symbol, behind, symbol_in, word};
+use expression_parser::{Extent, Fault, Parsed, Parser, Symbol, behind, symbol_in};
 
 /// `[IN | OUT | IN OUT]`
 #[tactic(auto, using(crate::proofs::ProfileCode::mode_rules))]
@@ -30,13 +30,11 @@ fn mode(tokens: &[Token]) -> (Mode, &[Token])
 }
 
 /// `id {, id} : [IN | OUT | IN OUT] name`
-#[tactic(auto, using(crate::proofs::ProfileCode::parameter_rules))]
 fn parameter<'a>(parser: Parser, tokens: &'a [Token]) -> Parsed<'a, Parameter>
     ensures reads { Shows (Reads (read.parameter_by parser.extent) tokens.now) result }
     ensures shorter { IfOk result (λ x. length x.1.now < length tokens.now) }
 {
-    let (names, rest) = identifiers(parser, tokens)?;
-    let rest = word(Symbol::Colon, rest)?;
+    let (names, rest) = closed_by(Symbol::Colon, identifiers(parser, tokens))?;
     let (mode, rest) = mode(rest);
     let (mark, rest) = parser.name(rest)?;
     let names = Seq::from(names);
@@ -70,9 +68,7 @@ fn profile<'a>(parser: Parser, tokens: &'a [Token]) -> Parsed<'a, Vec<Parameter>
         return Ok((Vec::new(parser.alloc), tokens));
     };
     parser.needs(Extent::Subprograms, tokens)?;
-    let (parameters, rest) = parameters(parser, after)?;
-    let rest = word(Symbol::RightParenthesis, rest)?;
-    Ok((parameters, rest))
+    closed_by(Symbol::RightParenthesis, parameters(parser, after))
 }
 
 /// `id [params]` behind `PROCEDURE`, which stands at `pos`
@@ -93,14 +89,12 @@ fn procedure<'a>(parser: Parser, pos: Pos, tokens: &'a [Token]) -> Parsed<'a, Sp
 }
 
 /// `id [params] RETURN name` behind `FUNCTION`, which stands at `pos`
-#[tactic(auto, using(crate::proofs::ProfileCode::function_rules))]
 fn function<'a>(parser: Parser, pos: Pos, tokens: &'a [Token]) -> Parsed<'a, Specification>
     ensures reads { Shows (Reads (read.function_at parser.extent pos) tokens.now) result }
     ensures shorter { IfOk result (λ x. length x.1.now < length tokens.now) }
 {
     let (name, rest) = parser.identifier(tokens)?;
-    let (parameters, rest) = profile(parser, rest)?;
-    let rest = word(Symbol::Return, rest)?;
+    let (parameters, rest) = closed_by(Symbol::Return, profile(parser, rest))?;
     let (mark, rest) = parser.name(rest)?;
     let specification = Specification {
         pos,

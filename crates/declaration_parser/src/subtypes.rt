@@ -6,7 +6,7 @@ ghost use Rattle.expression_parser.specs.Symbols.{same};
 ghost use Rattle.expression_parser.specs.Shows.{Shows, ShowsAs, Reads, next_is};
 ghost use Rattle.declaration_parser.specs.SubtypeReading as read;
 
-use crate::words::identifiers;
+use crate::words::{closed_by, identifiers};
 use ada_lexer::Token;
 use ada_syntax::{
     Bounds, Component, DiscreteRange, Expr, ExprKind, SubtypeIndication, TypeDefinition,
@@ -15,13 +15,11 @@ use cov_base::Seq;
 use expression_parser::{Extent, Fault, Parsed, Parser, Symbol, behind, symbol_in, word};
 
 /// `simple .. simple`
-#[tactic(auto, using(crate::proofs::SubtypeCode::bounds_rules))]
 pub fn bounds<'a>(parser: Parser, tokens: &'a [Token]) -> Parsed<'a, Bounds>
     ensures reads { Shows (Reads (read.bounds_by parser.extent) tokens.now) result }
     ensures shorter { IfOk result (λ x. length x.1.now < length tokens.now) }
 {
-    let (low, rest) = parser.simple(tokens)?;
-    let rest = word(Symbol::DoubleDot, rest)?;
+    let (low, rest) = closed_by(Symbol::DoubleDot, parser.simple(tokens))?;
     let (high, rest) = parser.simple(rest)?;
     Ok((Bounds { low, high }, rest))
 }
@@ -77,15 +75,12 @@ pub fn indication<'a>(parser: Parser, tokens: &'a [Token]) -> Parsed<'a, Subtype
 }
 
 /// `id {, id} : sub ;`
-#[tactic(auto, using(crate::proofs::SubtypeCode::component_rules))]
 fn component<'a>(parser: Parser, tokens: &'a [Token]) -> Parsed<'a, Component>
     ensures reads { Shows (Reads (read.component_by parser.extent) tokens.now) result }
     ensures shorter { IfOk result (λ x. length x.1.now < length tokens.now) }
 {
-    let (names, rest) = identifiers(parser, tokens)?;
-    let rest = word(Symbol::Colon, rest)?;
-    let (indication, rest) = indication(parser, rest)?;
-    let rest = word(Symbol::Semicolon, rest)?;
+    let (names, rest) = closed_by(Symbol::Colon, identifiers(parser, tokens))?;
+    let (indication, rest) = closed_by(Symbol::Semicolon, indication(parser, rest))?;
     let names = Seq::from(names);
     Ok((Component { names, indication }, rest))
 }
@@ -118,39 +113,33 @@ fn components<'a>(parser: Parser, tokens: &'a [Token]) -> Parsed<'a, Vec<Compone
 }
 
 /// `( range ) OF sub` behind `ARRAY`
-#[tactic(auto, using(crate::proofs::SubtypeCode::array_rules))]
 fn array<'a>(parser: Parser, tokens: &'a [Token]) -> Parsed<'a, TypeDefinition>
     ensures reads { Shows (Reads (read.array_by parser.extent) tokens.now) result }
     ensures shorter { IfOk result (λ x. length x.1.now < length tokens.now) }
 {
     let rest = word(Symbol::LeftParenthesis, tokens)?;
-    let (index, rest) = range(parser, rest)?;
-    let rest = word(Symbol::RightParenthesis, rest)?;
-    let rest = word(Symbol::Of, rest)?;
+    let index = closed_by(Symbol::RightParenthesis, range(parser, rest));
+    let (index, rest) = closed_by(Symbol::Of, index)?;
     let (element, rest) = indication(parser, rest)?;
     Ok((TypeDefinition::Array(index, element), rest))
 }
 
 /// `comp {comp} END RECORD` behind `RECORD`
-#[tactic(auto, using(crate::proofs::SubtypeCode::record_rules))]
 fn components_to_end<'a>(parser: Parser, tokens: &'a [Token]) -> Parsed<'a, TypeDefinition>
     ensures reads { Shows (Reads (read.record_by parser.extent) tokens.now) result }
     ensures shorter { IfOk result (λ x. length x.1.now < length tokens.now) }
 {
-    let (components, rest) = components(parser, tokens)?;
-    let rest = word(Symbol::End, rest)?;
-    let rest = word(Symbol::Record, rest)?;
+    let components = closed_by(Symbol::End, components(parser, tokens));
+    let (components, rest) = closed_by(Symbol::Record, components)?;
     Ok((TypeDefinition::Record(Seq::from(components)), rest))
 }
 
 /// `( id {, id} )` behind its parenthesis
-#[tactic(auto, using(crate::proofs::SubtypeCode::enumeration_rules))]
 fn enumeration<'a>(parser: Parser, tokens: &'a [Token]) -> Parsed<'a, TypeDefinition>
     ensures reads { Shows (Reads read.enumeration_by tokens.now) result }
     ensures shorter { IfOk result (λ x. length x.1.now < length tokens.now) }
 {
-    let (literals, rest) = identifiers(parser, tokens)?;
-    let rest = word(Symbol::RightParenthesis, rest)?;
+    let (literals, rest) = closed_by(Symbol::RightParenthesis, identifiers(parser, tokens))?;
     Ok((TypeDefinition::Enumeration(Seq::from(literals)), rest))
 }
 

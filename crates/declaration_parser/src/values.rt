@@ -3,8 +3,9 @@
 ghost use Rattle.std.specs.Prelude.{◌<◌, length, [], IfOk};
 ghost use Rattle.expression_parser.specs.Shows.{Shows, Reads};
 ghost use Rattle.declaration_parser.specs.SubtypeReading as read;
-ghost use Rattle.declaration_parser.specs.Answers.{LooksInside, initial_within};
+ghost use Rattle.declaration_parser.specs.Answers.{LooksInside, initial_within, value_within};
 
+use crate::words::closed_by;
 use ada_lexer::Token;
 use ada_syntax::Initial;
 use cov_base::{Pos, Seq};
@@ -26,6 +27,16 @@ fn aggregate<'a>(parser: Parser, tokens: &'a [Token]) -> Option<(Pos, &'a [Token
     Some((token.pos, rest))
 }
 
+/// `expr` in the parentheses at these places, where no further one stands before `others`
+fn value<'a>(parser: Parser, others: Vec<Pos>, tokens: &'a [Token]) -> Parsed<'a, Initial>
+    ensures reads { Shows (Reads (value_within parser.extent others.items) tokens.now) result }
+    ensures shorter { IfOk result (λ x. length x.1.now < length tokens.now) }
+{
+    let (value, rest) = parser.expr(tokens)?;
+    let others = Seq::from(others);
+    Ok((Initial { others, value }, rest))
+}
+
 /// `expr | ( OTHERS => init )` in the parentheses at these places
 #[tactic(auto, using(crate::proofs::ValueCode::within_rules))]
 fn within<'a>(parser: Parser, mut others: Vec<Pos>, tokens: &'a [Token]) -> Parsed<'a, Initial>
@@ -33,15 +44,11 @@ fn within<'a>(parser: Parser, mut others: Vec<Pos>, tokens: &'a [Token]) -> Pars
     ensures shorter { IfOk result (λ x. length x.1.now < length tokens.now) }
 {
     let Some((pos, rest)) = aggregate(parser, tokens) else {
-        let (value, rest) = parser.expr(tokens)?;
-        let others = Seq::from(others);
-        return Ok((Initial { others, value }, rest));
+        return value(parser, others, tokens);
     };
     let rest = word(Symbol::Arrow, rest)?;
     others.push(pos)?;
-    let (initial, rest) = within(parser, others, rest)?;
-    let rest = word(Symbol::RightParenthesis, rest)?;
-    Ok((initial, rest))
+    closed_by(Symbol::RightParenthesis, within(parser, others, rest))
 }
 
 /// `expr | ( OTHERS => init )`. The second form comes with [`Extent::Types`].

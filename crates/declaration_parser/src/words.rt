@@ -5,10 +5,11 @@ ghost use Rattle.expression_parser.specs.Shows.{ShowsAs, Reads};
 ghost use Rattle.declaration_parser.specs.Identifiers as read;
 ghost use Rattle.declaration_parser.specs.Spelling.{is_spelled};
 ghost use Rattle.declaration_parser.specs.Answers.{TakesSpelled};
+ghost use Rattle.declaration_parser.specs.Closing.{Closes};
 
 use ada_lexer::Token;
 use ada_syntax::Identifier;
-use expression_parser::{Fault, Parsed, Parser, Symbol, behind, symbol_in};
+use expression_parser::{Fault, Parsed, Parser, Symbol, behind, symbol_in, word};
 
 /// `id {, id}`
 #[tactic(auto, using(crate::proofs::WordCode::identifiers_rules))]
@@ -25,6 +26,15 @@ pub fn identifiers<'a>(parser: Parser, tokens: &'a [Token]) -> Parsed<'a, Vec<Id
         rest = next;
     }
     Ok((identifiers, rest))
+}
+
+/// What was read, with a given word behind it, which is taken too.
+pub fn closed_by<'a, T: Drop>(wanted: Symbol, parsed: Parsed<'a, T>) -> Parsed<'a, T>
+    ensures { Closes wanted parsed.entry result }
+{
+    let (value, tokens) = parsed?;
+    let rest = word(wanted, tokens)?;
+    Ok((value, rest))
 }
 
 /// Whether a token is spelled so, case ignored.

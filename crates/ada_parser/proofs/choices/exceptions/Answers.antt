@@ -5,7 +5,7 @@ use Rattle.expression_parser.specs.Shows.{More}
 use Rattle.expression_parser.proofs.NameCode.{after_some}
 use Rattle.ada_parser.specs.StatementReading as read
 use Rattle.ada_parser.proofs.Steps.{turns}
-use Rattle.ada_parser.proofs.SimpleCode.{exceptions_step}
+use Rattle.ada_parser.proofs.SimpleCode.{exceptions_step, exceptions_rules}
 use Rattle.ada_parser.proofs.choices.exceptions.Goals as goal
 
 pub loop-after-preserved : goal.loop-after-preserved
@@ -18,3 +18,39 @@ loop-after-preserved c =
           (subst (λ (z : List ExceptionChoice). More (turns symbol.Bar (read.exception_by x) read.pushed) c.in_ok-exception.next.now z q) c.in_ok-push-2.ensures.items f));
       shorter = omega (arith, c.loop-after.invariant.shorter, c.in_ok-exception.ensures.shorter, ap length (after_some symbol.Bar c.loop-after.rest.now c.in-Some.after.now (sym c.in-Some.ensures)).here);
     }
+
+pub returns-in_err-first-clause-reads : goal.returns-in_err-first-clause-reads
+returns-in_err-first-clause-reads c = grind (arith, exceptions_rules)
+
+pub returns-in_err-first-clause-shorter : goal.returns-in_err-first-clause-shorter
+returns-in_err-first-clause-shorter c = grind (arith, exceptions_rules)
+
+pub returns-in_err-push-clause-reads : goal.returns-in_err-push-clause-reads
+returns-in_err-push-clause-reads c = grind (arith, exceptions_rules)
+
+pub returns-in_err-push-clause-shorter : goal.returns-in_err-push-clause-shorter
+returns-in_err-push-clause-shorter c = grind (arith, exceptions_rules)
+
+pub loop-after-init : goal.loop-after-init
+loop-after-init c = grind (arith, exceptions_rules)
+
+pub returns-in_err-exception-clause-reads : goal.returns-in_err-exception-clause-reads
+returns-in_err-exception-clause-reads c = grind (arith, exceptions_rules)
+
+pub returns-in_err-exception-clause-shorter : goal.returns-in_err-exception-clause-shorter
+returns-in_err-exception-clause-shorter c = grind (arith, exceptions_rules)
+
+pub returns-in_err-push-2-clause-reads : goal.returns-in_err-push-2-clause-reads
+returns-in_err-push-2-clause-reads c = grind (arith, exceptions_rules)
+
+pub returns-in_err-push-2-clause-shorter : goal.returns-in_err-push-2-clause-shorter
+returns-in_err-push-2-clause-shorter c = grind (arith, exceptions_rules)
+
+pub loop-after-smaller : goal.loop-after-smaller
+loop-after-smaller c = grind (arith, exceptions_rules)
+
+pub returns-clause-reads : goal.returns-clause-reads
+returns-clause-reads c = grind (arith, exceptions_rules)
+
+pub returns-clause-shorter : goal.returns-clause-shorter
+returns-clause-shorter c = grind (arith, exceptions_rules)

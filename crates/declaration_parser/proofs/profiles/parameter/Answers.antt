@@ -1,18 +1,28 @@
+use Rattle.std.proofs.lemmas.Result.{err_from_is_err_and}
+use Rattle.declaration_parser.proofs.ProfileCode.{parameter_fails_first, parameter_fails_second, parameter_read}
 use Rattle.std.proofs.Common.{arith}
-use Rattle.declaration_parser.proofs.ProfileCode.{parameter_rules}
+use Rattle.expression_parser.specs.declared.symbol.Symbol.TheVariants as symbol
+use Rattle.declaration_parser.proofs.Closings.{closed_below, read_so, within_below}
 use Rattle.declaration_parser.proofs.profiles.parameter.Goals as goal
 
-pub returns-clause-reads : goal.returns-clause-reads
-returns-clause-reads c = grind (arith, parameter_rules)
+pub returns-in_err-names-clause-reads : goal.returns-in_err-names-clause-reads
+returns-in_err-names-clause-reads c =
+    let p = err_from_is_err_and c.from_residual.result c.from_residual.ensures.1 in
+    rw (p.1, p.2) (parameter_fails_first c.args.parser.extent c.args.tokens.now c.identifiers.result c.in_err-names.field-0.0 (λ v. v.items) c.identifiers.ensures.reads c.identifiers.ensures.shorter c.in_err-names.ensures)
 
-pub returns-clause-shorter : goal.returns-clause-shorter
-returns-clause-shorter c = grind (arith, parameter_rules)
+pub returns-in_err-names-clause-shorter : goal.returns-in_err-names-clause-shorter
+returns-in_err-names-clause-shorter c = rw ((err_from_is_err_and c.from_residual.result c.from_residual.ensures.1).1) tt
 
 pub returns-in_err-mark-clause-reads : goal.returns-in_err-mark-clause-reads
-returns-in_err-mark-clause-reads c = grind (arith, parameter_rules)
+returns-in_err-mark-clause-reads c =
+    let p = err_from_is_err_and c.from_residual-in_err-mark.result c.from_residual-in_err-mark.ensures.1 in
+    rw (p.1, p.2) (parameter_fails_second c.args.parser.extent c.args.tokens.now c.identifiers.result c.in_ok-names.names c.in_ok-names.rest (λ v. v.items) c.mode-mode.result.0 c.mode-mode.result.1.now c.in_err-mark.field-0.0 c.identifiers.ensures.reads c.identifiers.ensures.shorter c.in_ok-names.ensures c.mode-mode.ensures.reads c.mode-mode.ensures.no_longer c.in_err-mark.ensures.reads)
 
-pub returns-in_err-names-clause-reads : goal.returns-in_err-names-clause-reads
-returns-in_err-names-clause-reads c = grind (arith, parameter_rules)
+pub returns-in_err-mark-clause-shorter : goal.returns-in_err-mark-clause-shorter
+returns-in_err-mark-clause-shorter c = rw ((err_from_is_err_and c.from_residual-in_err-mark.result c.from_residual-in_err-mark.ensures.1).1) tt
 
-pub returns-in_err-rest-clause-reads : goal.returns-in_err-rest-clause-reads
-returns-in_err-rest-clause-reads c = grind (arith, parameter_rules)
+pub returns-clause-reads : goal.returns-clause-reads
+returns-clause-reads c = parameter_read c.args.parser.extent c.args.tokens.now c.identifiers.result c.in_ok-names.names c.in_ok-names.rest (λ v. v.items) c.mode-mode.result.0 c.mode-mode.result.1.now c.in_ok-mark.mark c.in_ok-mark.rest c.from-names.result c.identifiers.ensures.reads c.identifiers.ensures.shorter c.in_ok-names.ensures c.mode-mode.ensures.reads c.mode-mode.ensures.no_longer c.in_ok-mark.ensures.reads c.in_ok-mark.ensures.shorter c.from-names.ensures
+
+pub returns-clause-shorter : goal.returns-clause-shorter
+returns-clause-shorter c = omega (arith, (closed_below symbol.Colon c.args.tokens.now c.identifiers.result (read_so c.in_ok-names.names c.in_ok-names.rest) (within_below c.args.tokens.now c.identifiers.result c.identifiers.ensures.shorter) c.in_ok-names.ensures), c.mode-mode.ensures.no_longer, c.in_ok-mark.ensures.shorter)
