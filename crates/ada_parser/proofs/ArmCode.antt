@@ -1,44 +1,28 @@
 -- How alternatives and handlers are read, answer by answer.
-use Rattle.std.proofs.Common.{◌≡◌, ℕ, suc, ◌<◌, ◌≤◌, true, false, cond, List, [], ◌∷◌, ◌++◌, length, Option, Some, None, refl, ap, sym, ◌∙◌, subst, arith}
-use Rattle.std.proofs.lemmas.Bool.{false≢true}
-use Rattle.cov_base.specs.declared.position.Pos.{Pos}
+use Rattle.std.proofs.Common.{◌≡◌, ℕ, suc, ◌<◌, true, false, List, [], ◌∷◌, ◌++◌, length, Some, None, refl, ap, ◌∙◌, subst, arith}
 use Rattle.ada_lexer.specs.declared.token.Token.{Token}
-use Rattle.ada_syntax.specs.Tree.{Expr, Name}
 use Rattle.ada_syntax.specs.StatementTree as tree
 use Rattle.ada_syntax.specs.StatementTree.{Statement, Branches, Alternatives, Handlers, Handled}
-use Rattle.ada_syntax.specs.StatementView.{statements_of, branches_of, alternatives_of, handlers_of}
-use Rattle.ada_syntax.specs.declared.name.Identifier.{Identifier}
-use Rattle.ada_syntax.specs.declared.declaration.Declaration.{Declaration}
-use Rattle.ada_syntax.specs.declared.declaration.DiscreteRange.{DiscreteRange}
-use Rattle.ada_syntax.specs.declared.statement.Branch.{Branch}
+use Rattle.ada_syntax.specs.StatementView.{statements_of, alternatives_of, handlers_of}
 use Rattle.ada_syntax.specs.declared.statement.Alternative.{Alternative}
 use Rattle.ada_syntax.specs.declared.statement.Handler.{Handler}
 use Rattle.ada_syntax.specs.declared.statement.Choice.{Choice}
 use Rattle.ada_syntax.specs.declared.statement.ExceptionChoice.{ExceptionChoice}
-use Rattle.ada_syntax.specs.declared.statement.LoopScheme.{LoopScheme}
-use Rattle.ada_syntax.specs.declared.statement.LoopScheme.TheVariants.{Forever, While, For}
-use Rattle.ada_syntax.specs.declared.statement.Direction.{Direction}
 use Rattle.expression_parser.specs.declared.symbol.Symbol.{Symbol}
 use Rattle.expression_parser.specs.declared.symbol.Symbol.TheVariants as symbol
 use Rattle.expression_parser.specs.declared.extent.Extent.{Extent}
-use Rattle.expression_parser.specs.declared.extent.Extent.TheVariants.{Decisions, Types, Exceptions}
-use Rattle.expression_parser.specs.Symbols.{symbol_of, same, Is, identifier_of}
+use Rattle.expression_parser.specs.declared.extent.Extent.TheVariants.{Exceptions}
+use Rattle.expression_parser.specs.Symbols.{symbol_of, same}
 use Rattle.expression_parser.specs.Extents.{opens}
-use Rattle.expression_parser.specs.Reading.{Tokens, Reading, Reader, Got, Stuck, Turn, Refuse, Leave, Take, Look, got, goes_on, ◌>>=◌, turned, provided, expect, skip, repeat}
-use Rattle.expression_parser.specs.Depth.{at_expr}
-use Rattle.expression_parser.specs.Shows.{Reads, More, Skipped, Identified, after, next_is}
-use Rattle.expression_parser.proofs.Comes.{got_bind, got_then, on_symbol}
-use Rattle.expression_parser.proofs.Loops.{more_end, more_leave, more_look, more_look_stuck}
+use Rattle.expression_parser.specs.Reading.{Tokens, Reading, Reader, Got, Stuck, Turn, Leave, Take, got, goes_on, ◌>>=◌, provided, expect, skip, repeat}
+use Rattle.expression_parser.specs.Shows.{Reads, More, Skipped, after}
+use Rattle.expression_parser.proofs.Comes.{got_bind, got_then}
 use Rattle.expression_parser.proofs.NameCode.{after_some, after_none}
-use Rattle.declaration_parser.specs.SubtypeReading.{range_by}
-use Rattle.declaration_parser.specs.DeclarationReading.{declarations_by}
-use Rattle.ada_parser.specs.Lists.{closing, ending}
-use Rattle.ada_parser.specs.Endings.{Closed, NotClosed, Ended, NotEnded}
-use Rattle.ada_parser.specs.Trees.{with_branch, with_alternative, with_handler}
-use Rattle.ada_parser.specs.Parts.{branch_parts, alternative_parts, handler_parts}
+use Rattle.ada_parser.specs.Trees.{with_alternative, with_handler}
+use Rattle.ada_parser.specs.Parts.{alternative_parts, handler_parts}
 use Rattle.ada_parser.specs.StatementReading as read
 use Rattle.ada_parser.specs.StatementDepth as at
-use Rattle.ada_parser.proofs.Steps.{both, first_fails, word_then, no_word, done, deeper, takes, takes_deeper, looks, leaves, refuses, turns, list_step, list_step_fail, list_end, closing_then, no_closing, ending_then, no_ending}
+use Rattle.ada_parser.proofs.Steps.{both, first_fails, word_then, no_word, deeper, takes, leaves, refuses, turns, list_step, list_step_fail, list_end}
 
 -- statements within a statement
 module _ (x : Extent) {A : Type 0} where

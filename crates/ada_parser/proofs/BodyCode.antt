@@ -5,12 +5,8 @@ use Rattle.ada_syntax.specs.declared.name.Identifier.{Identifier}
 use Rattle.ada_syntax.specs.declared.declaration.Declaration.{Declaration}
 use Rattle.ada_syntax.specs.declared.unit.Specification.{Specification}
 use Rattle.ada_syntax.specs.declared.unit.SubprogramBody.{SubprogramBody}
-use Rattle.ada_syntax.specs.declared.unit.PackageItem.TheVariants as package_item
-use Rattle.ada_syntax.specs.declared.unit.BodyItem.TheVariants as body_item
-use Rattle.ada_syntax.specs.declared.unit.LibraryItem.TheVariants as item
 use Rattle.expression_parser.specs.declared.symbol.Symbol.TheVariants as symbol
 use Rattle.expression_parser.specs.declared.extent.Extent.{Extent}
-use Rattle.expression_parser.specs.Symbols.{Is}
 use Rattle.expression_parser.specs.Reading.{Tokens, Reading, Reader, Got, Stuck, got, goes_on, ◌>>=◌, expect, skip}
 use Rattle.expression_parser.specs.Shows.{Shows, Reads, Skipped}
 use Rattle.expression_parser.proofs.Comes.{got_then}

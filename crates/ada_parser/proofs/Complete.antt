@@ -9,8 +9,8 @@ use Rattle.expression_parser.specs.declared.symbol.Symbol.{Symbol}
 use Rattle.expression_parser.specs.declared.symbol.Symbol.TheVariants as symbol
 use Rattle.expression_parser.specs.contracts.symbol.Symbol.{the_type}
 use Rattle.expression_parser.specs.declared.extent.Extent.{Extent}
-use Rattle.expression_parser.specs.Symbols.{symbol_of, same, Is, identifier_of, adding}
-use Rattle.expression_parser.specs.Reading.{Tokens, Reading, Reader, Got, Turn, got, ◌>>=◌, turned, expect, skip, repeat}
+use Rattle.expression_parser.specs.Symbols.{symbol_of, same, identifier_of, adding}
+use Rattle.expression_parser.specs.Reading.{Tokens, Reading, Reader, Got, got, ◌>>=◌, expect, skip}
 use Rattle.expression_parser.specs.Expressions.{IsExpr, sums, expression, IsName}
 use Rattle.expression_parser.specs.ExpressionReading as expressions
 use Rattle.expression_parser.specs.Depth.{at_name, at_expr, at_simple}

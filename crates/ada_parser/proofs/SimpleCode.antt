@@ -1,5 +1,5 @@
 -- How choices and statements without statements in them are read, answer by answer.
-use Rattle.std.proofs.Common.{◌≡◌, ℕ, suc, ◌<◌, ◌≤◌, true, false, List, [], ◌∷◌, ◌++◌, length, Option, Some, None, refl, ap, sym, ◌∙◌, arith}
+use Rattle.std.proofs.Common.{◌≡◌, ℕ, suc, ◌<◌, ◌≤◌, true, false, List, [], ◌∷◌, ◌++◌, length, Option, Some, None, refl, ap, ◌∙◌, arith}
 use Rattle.cov_base.specs.declared.position.Pos.{Pos}
 use Rattle.ada_lexer.specs.declared.token.Token.{Token}
 use Rattle.ada_syntax.specs.Tree.{Expr, Name}
@@ -18,7 +18,7 @@ use Rattle.expression_parser.specs.declared.extent.Extent.{Extent}
 use Rattle.expression_parser.specs.declared.extent.Extent.TheVariants.{Objects, Subprograms}
 use Rattle.expression_parser.specs.Symbols.{symbol_of, same, Is}
 use Rattle.expression_parser.specs.Extents.{opens}
-use Rattle.expression_parser.specs.Reading.{Tokens, Reading, Reader, Got, Stuck, Refuse, Leave, Take, Look, got, goes_on, ◌>>=◌, turned, provided, expect, skip, repeat}
+use Rattle.expression_parser.specs.Reading.{Tokens, Reading, Reader, Got, Stuck, Refuse, Leave, Take, Look, got, ◌>>=◌, turned, provided, expect, skip, repeat}
 use Rattle.expression_parser.specs.Depth as at
 use Rattle.expression_parser.specs.Shows.{Reads, More, Skipped, after}
 use Rattle.expression_parser.proofs.NameCode.{after_some, after_none}

@@ -1,13 +1,12 @@
 -- What a reader yields, from all tokens.
-use Rattle.std.proofs.Common.{◌≡◌, ℕ, zero, suc, Bool, true, false, [], ◌∷◌, refl, ◌∙◌}
+use Rattle.std.proofs.Common.{◌≡◌, ℕ, Bool, true, false, [], ◌∷◌, refl, ◌∙◌}
 use denote.Enum.Bare.{same_true}
 use Rattle.ada_lexer.specs.declared.token.Token.{Token}
-use Rattle.ada_syntax.specs.declared.name.Identifier.{Identifier}
 use Rattle.expression_parser.specs.declared.symbol.Symbol.{Symbol}
 use Rattle.expression_parser.specs.declared.symbol.Symbol.TheVariants as symbol
 use Rattle.expression_parser.specs.contracts.symbol.Symbol.{the_type}
 use Rattle.expression_parser.specs.Symbols.{symbol_of, same, Is, identifier_of}
-use Rattle.expression_parser.specs.Reading.{Tokens, Reader, Turn, Refuse, Leave, Take, Look, ended, got, ◌>>=◌, turned, on_token, expect, skip, repeat}
+use Rattle.expression_parser.specs.Reading.{Tokens, Reader, Turn, Refuse, Leave, Take, Look, ended, got, ◌>>=◌, on_token, expect, skip, repeat}
 use Rattle.expression_parser.proofs.Yields.{Yields, YieldsTurn, YieldsEnd, bind_yields, turned_yields, Takes, taken, expect_yields, skip_yields, repeat_yields}
 use Rattle.ada_parser.specs.Words.{Word, word, Named, name, Closes, closes}
 use Rattle.ada_parser.specs.Lists.{listed, listed_turn, closing}

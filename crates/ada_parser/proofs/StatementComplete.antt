@@ -1,6 +1,5 @@
 -- What derives tokens is read of them.
 use Rattle.std.proofs.Common.{◌≡◌, ℕ, zero, suc, ◌<◌, ◌≤◌, Bool, true, false, cond, List, [], ◌∷◌, ◌++◌, length, Option, Some, None, refl, ap, sym, ◌∙◌, subst, arith}
-use Rattle.std.proofs.lemmas.Bool.{false≢true}
 use Rattle.cov_base.specs.declared.position.Pos.{Pos}
 use Rattle.ada_lexer.specs.declared.token.Token.{Token}
 use Rattle.ada_syntax.specs.Tree.{Expr, Name, name_pos}
@@ -18,7 +17,7 @@ use Rattle.ada_syntax.specs.declared.statement.ExceptionChoice.TheVariants as ex
 use Rattle.ada_syntax.specs.declared.statement.LoopScheme.{LoopScheme}
 use Rattle.ada_syntax.specs.declared.statement.LoopScheme.TheVariants.{Forever, While, For}
 use Rattle.ada_syntax.specs.declared.statement.Direction.{Direction}
-use Rattle.ada_syntax.specs.declared.statement.Direction.TheVariants.{Forward, Reverse}
+use Rattle.ada_syntax.specs.declared.statement.Direction.TheVariants.{Forward}
 use Rattle.expression_parser.specs.declared.symbol.Symbol.{Symbol}
 use Rattle.expression_parser.specs.declared.symbol.Symbol.TheVariants as symbol
 use Rattle.expression_parser.specs.declared.extent.Extent.{Extent}
@@ -26,18 +25,17 @@ use Rattle.expression_parser.specs.declared.extent.Extent.TheVariants.{Objects, 
 use Rattle.expression_parser.specs.Symbols.{symbol_of, same, Is, identifier_of}
 use Rattle.expression_parser.specs.Extents.{opens}
 use Rattle.expression_parser.specs.Reading.{Tokens, Reading, Reader, Got, Turn, Refuse, Leave, Take, Look, got, ◌>>=◌, turned, provided, skip, repeat}
-use Rattle.expression_parser.specs.Expressions.{IsExpr, sums, expression, IsName}
+use Rattle.expression_parser.specs.Expressions.{IsName}
 use Rattle.expression_parser.specs.Depth.{at_name, at_expr, at_simple}
 use Rattle.expression_parser.specs.Shows.{next_is}
-use Rattle.expression_parser.proofs.Comes.{Ends, ends_less, got_bind, got_then, on_symbol, Comes, Leaves, comes_leave, comes_look}
+use Rattle.expression_parser.proofs.Comes.{Ends, got_bind, got_then, on_symbol, Comes, Leaves, comes_leave, comes_look}
 use Rattle.expression_parser.proofs.ExpressionLengths.{shorter, name_shorter}
 use Rattle.expression_parser.proofs.ExpressionSound.{first_of_name}
 use Rattle.expression_parser.proofs.ExpressionComplete.{name_first, first_token, Begins, IsNamed}
 use Rattle.declaration_parser.specs.Subtypes.{IsRange, a_mark, a_range as range_between, low_and_high}
 use Rattle.declaration_parser.specs.Declarations.{IsPragma, a_pragma}
 use Rattle.declaration_parser.specs.SubtypeReading.{initial_by, range_by}
-use Rattle.declaration_parser.specs.DeclarationReading.{pragma_by, declarations_by}
-use Rattle.ada_parser.specs.Words.{Word, word, Named, name, Closes, closes}
+use Rattle.ada_parser.specs.Words.{Word, word, Closes, closes}
 use Rattle.ada_parser.specs.Lists.{listed_turn, closing}
 use Rattle.ada_parser.specs.Trees.{with_branch, with_alternative, with_handler}
 use Rattle.ada_parser.specs.Statements.{IsChoice, a_value, a_range, other_values, AreChoices, one_choice, more_choices, IsException, a_named, other_exceptions, AreExceptions, one_exception, more_exceptions, HasCondition, no_condition, a_condition, HasResult, no_result, a_result, HasException, no_exception, an_exception, IsDirection, forward, backward, IsStatement, a_null, an_assignment, a_call, an_exemption, an_if, a_case, an_endless_loop, a_while, a_for, an_exit, a_return, a_raise, a_block, a_declaring_block, AreStatements, one_statement, more_statements, IsBranch, a_branch, AreBranches, no_branches, more_branches, HasElse, no_else, an_else, IsAlternative, an_alternative, AreAlternatives, one_alternative, more_alternatives, IsLoop, a_loop, IsHandler, a_handler, AreHandlers, one_handler, more_handlers, HasHandlers, no_handlers, some_handlers, IsHandled, a_sequence}
@@ -45,7 +43,7 @@ use Rattle.ada_parser.specs.StatementReading as read
 use Rattle.ada_parser.specs.StatementDepth as at
 use Rattle.ada_parser.proofs.Below.{ShortersBelow, CompleteBelow, shorters_below, complete_below}
 use Rattle.ada_parser.proofs.Complete.{got_word, got_identifier, got_closing, ends_word, next_word, not_first, not_next, name_begins, list_take, list_leave, name_complete, simple_complete, whole_complete}
-use Rattle.ada_parser.proofs.StatementLengths.{word_shorter, identifier_shorter, closing_shorter, direction_shorter, choice_shorter, choices_shorter, exception_shorter, exceptions_shorter, statement_shorter, statements_shorter, branch_shorter, branches_shorter, else_shorter, alternative_shorter, alternatives_shorter, loop_shorter, handler_shorter, handler_list_shorter, handled_shorter}
+use Rattle.ada_parser.proofs.StatementLengths.{word_shorter, identifier_shorter, direction_shorter, choice_shorter, choices_shorter, exception_shorter, exceptions_shorter, statement_shorter, statements_shorter, branch_shorter, branches_shorter, alternative_shorter, alternatives_shorter, handler_shorter, handler_list_shorter}
 
 -- no statement begins here
 pub record Stops (ts : Tokens) : Type 0 where

@@ -7,9 +7,7 @@ use Rattle.ada_syntax.specs.StatementTree as tree
 use Rattle.ada_syntax.specs.StatementTree.{Statement, Handled}
 use Rattle.ada_syntax.specs.StatementView.{statements_of}
 use Rattle.ada_syntax.specs.declared.declaration.Declaration.{Declaration}
-use Rattle.ada_syntax.specs.declared.statement.Choice.{Choice}
 use Rattle.ada_syntax.specs.declared.statement.Choice.TheVariants as choice
-use Rattle.ada_syntax.specs.declared.statement.ExceptionChoice.{ExceptionChoice}
 use Rattle.ada_syntax.specs.declared.statement.ExceptionChoice.TheVariants as exception
 use Rattle.ada_syntax.specs.declared.statement.LoopScheme.{LoopScheme}
 use Rattle.ada_syntax.specs.declared.statement.LoopScheme.TheVariants.{Forever, While, For}
@@ -20,7 +18,7 @@ use Rattle.expression_parser.specs.declared.extent.Extent.{Extent}
 use Rattle.expression_parser.specs.declared.extent.Extent.TheVariants.{Objects, Decisions, Types, Subprograms, Exceptions}
 use Rattle.expression_parser.specs.Symbols.{same, identifier_of}
 use Rattle.expression_parser.specs.Extents.{opens}
-use Rattle.expression_parser.specs.Reading.{Reader, Turn, Refuse, Leave, Look, got, ◌>>=◌, expect, skip, repeat}
+use Rattle.expression_parser.specs.Reading.{Reader, Refuse, Leave, Look, got, ◌>>=◌, expect, skip, repeat}
 use Rattle.expression_parser.specs.Depth.{at_name, at_expr, at_simple}
 use Rattle.expression_parser.specs.ExpressionReading as expressions
 use Rattle.expression_parser.proofs.Agree.{Local, LocalTurn, stuck_local, got_local, on_local, bind_local, expect_local, skip_local, provided_local, repeat_local}

@@ -1,5 +1,5 @@
 -- The nodes of a statement are those of the tokens that it derives.
-use Rattle.std.proofs.Common.{◌≡◌, ℕ, ◌+◌, List, [], ◌∷◌, ◌++◌, length, Option, sum_by, refl, ap, arith}
+use Rattle.std.proofs.Common.{◌≡◌, ◌+◌, List, [], ◌∷◌, ◌++◌, length, Option, sum_by, arith}
 use Rattle.std.proofs.lemmas.List.Sums.{sum_by_push, sum_by-cons}
 use Rattle.ada_syntax.specs.Tree.{Expr, Name}
 use Rattle.ada_syntax.specs.StatementTree.{Statement, Branches, no_branches as no_branch, branch, Alternatives, no_alternatives, alternative, Handlers, no_handlers as no_handler, handler, Handled}
@@ -12,7 +12,6 @@ use Rattle.ada_syntax.specs.declared.statement.Direction.{Direction}
 use Rattle.expression_parser.specs.declared.symbol.Symbol.{Symbol}
 use Rattle.expression_parser.specs.declared.symbol.Symbol.TheVariants as symbol
 use Rattle.expression_parser.specs.declared.extent.Extent.{Extent}
-use Rattle.expression_parser.specs.Symbols.{symbol_of, Is}
 use Rattle.expression_parser.specs.Reading.{Tokens}
 use Rattle.declaration_parser.specs.NodeTokens.{symbol_nodes, node_tokens}
 use Rattle.declaration_parser.proofs.ExpressionNodes.{at, expr_nodes_of, name_nodes_of}

@@ -1,19 +1,17 @@
 -- What is read of a statement derives the tokens.
-use Rattle.std.proofs.Common.{◌≡◌, ℕ, zero, suc, Bool, true, false, cond, List, [], ◌∷◌, ◌++◌, Option, Some, None, refl, subst}
+use Rattle.std.proofs.Common.{◌≡◌, ℕ, zero, suc, Bool, true, false, cond, List, [], ◌∷◌, ◌++◌, Option, Some, None, subst}
 use Rattle.cov_base.specs.declared.position.Pos.{Pos}
 use Rattle.ada_lexer.specs.declared.token.Token.{Token}
-use Rattle.ada_syntax.specs.Tree.{Expr, Name, name_pos}
+use Rattle.ada_syntax.specs.Tree.{Expr, Name}
 use Rattle.ada_syntax.specs.StatementTree as tree
 use Rattle.ada_syntax.specs.StatementTree.{Statement, Branches, Alternatives, Handlers, Handled}
 use Rattle.ada_syntax.specs.StatementView.{statements_of}
 use Rattle.ada_syntax.specs.declared.declaration.Declaration.{Declaration}
-use Rattle.ada_syntax.specs.declared.statement.Choice.{Choice}
 use Rattle.ada_syntax.specs.declared.statement.Choice.TheVariants as choice
-use Rattle.ada_syntax.specs.declared.statement.ExceptionChoice.{ExceptionChoice}
 use Rattle.ada_syntax.specs.declared.statement.ExceptionChoice.TheVariants as exception
 use Rattle.ada_syntax.specs.declared.statement.LoopScheme.{LoopScheme}
 use Rattle.ada_syntax.specs.declared.statement.LoopScheme.TheVariants.{Forever, While, For}
-use Rattle.ada_syntax.specs.declared.statement.Direction.TheVariants.{Forward, Reverse}
+use Rattle.ada_syntax.specs.declared.statement.Direction.TheVariants.{Forward}
 use Rattle.expression_parser.specs.declared.symbol.Symbol.{Symbol}
 use Rattle.expression_parser.specs.declared.symbol.Symbol.TheVariants as symbol
 use Rattle.expression_parser.specs.declared.extent.Extent.{Extent}

@@ -1,15 +1,14 @@
 -- How readers go on, when what they met is known; over any readers.
-use Rattle.std.proofs.Common.{◌≡◌, ℕ, zero, suc, ◌<◌, ◌≤◌, Bool, true, false, List, [], ◌∷◌, length, Some, None, refl, ap, sym, ◌∙◌, subst, arith}
+use Rattle.std.proofs.Common.{◌≡◌, ℕ, zero, suc, ◌<◌, ◌≤◌, [], ◌∷◌, length, Some, None, refl, ap, sym, ◌∙◌, subst, arith}
 use denote.Enum.Bare.{true_same}
 use Rattle.ada_lexer.specs.declared.token.Token.{Token}
 use Rattle.ada_syntax.specs.StatementTree.{Statement}
-use Rattle.ada_syntax.specs.declared.name.Identifier.{Identifier}
 use Rattle.expression_parser.specs.declared.symbol.Symbol.{Symbol}
 use Rattle.expression_parser.specs.declared.symbol.Symbol.TheVariants as symbol
 use Rattle.expression_parser.specs.contracts.symbol.Symbol.{the_type}
-use Rattle.expression_parser.specs.Symbols.{symbol_of, Is, same, identifier_of}
-use Rattle.expression_parser.specs.Reading.{Tokens, Reading, Reader, Got, Stuck, Turn, Refuse, Leave, Take, Look, got, goes_on, ◌>>=◌, turned, on_token, provided, expect, skip, repeat}
-use Rattle.expression_parser.specs.Shows.{Reads, More, Skipped, Identified, after}
+use Rattle.expression_parser.specs.Symbols.{symbol_of}
+use Rattle.expression_parser.specs.Reading.{Tokens, Reading, Reader, Got, Stuck, Turn, Refuse, Leave, Take, Look, got, goes_on, ◌>>=◌, turned, on_token, expect, skip}
+use Rattle.expression_parser.specs.Shows.{Reads, More, Skipped, after}
 use Rattle.expression_parser.proofs.Comes.{got_bind, got_then}
 use Rattle.expression_parser.proofs.Loops.{more_end, more_leave, more_take, more_take_stuck}
 use Rattle.expression_parser.proofs.NameCode.{after_some, after_none}

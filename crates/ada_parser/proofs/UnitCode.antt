@@ -1,19 +1,8 @@
 -- How library units and files are read, answer by answer.
-use Rattle.std.proofs.Common.{◌≡◌, ℕ, suc, ◌<◌, ◌≤◌, Bool, true, false, cond, List, [], ◌∷◌, ◌++◌, length, Option, Some, None, refl, ap, sym, ◌∙◌, subst, arith}
-use Rattle.std.proofs.lemmas.Bool.{false≢true}
+use Rattle.std.proofs.Common.{◌≡◌, ℕ, suc, ◌<◌, ◌≤◌, true, false, List, [], ◌∷◌, ◌++◌, length, refl, ap, ◌∙◌, arith}
 use Rattle.cov_base.specs.declared.position.Pos.{Pos}
 use Rattle.ada_lexer.specs.declared.token.Token.{Token}
-use Rattle.ada_syntax.specs.Tree.{Expr}
-use Rattle.ada_syntax.specs.StatementTree.{Handled}
-use Rattle.ada_syntax.specs.declared.name.Identifier.{Identifier}
-use Rattle.ada_syntax.specs.declared.declaration.Declaration.{Declaration}
-use Rattle.ada_syntax.specs.declared.unit.Specification.{Specification}
 use Rattle.ada_syntax.specs.declared.unit.SubprogramBody.{SubprogramBody}
-use Rattle.ada_syntax.specs.declared.unit.PackageItem.{PackageItem}
-use Rattle.ada_syntax.specs.declared.unit.PackageItem.TheVariants as package_item
-use Rattle.ada_syntax.specs.declared.unit.BodyItem.{BodyItem}
-use Rattle.ada_syntax.specs.declared.unit.BodyItem.TheVariants as body_item
-use Rattle.ada_syntax.specs.declared.unit.Formal.{Formal}
 use Rattle.ada_syntax.specs.declared.unit.LibraryItem.{LibraryItem}
 use Rattle.ada_syntax.specs.declared.unit.LibraryItem.TheVariants as item
 use Rattle.ada_syntax.specs.declared.unit.WithClause.{WithClause}
@@ -22,22 +11,13 @@ use Rattle.expression_parser.specs.declared.symbol.Symbol.{Symbol}
 use Rattle.expression_parser.specs.declared.symbol.Symbol.TheVariants as symbol
 use Rattle.expression_parser.specs.declared.extent.Extent.{Extent}
 use Rattle.expression_parser.specs.declared.extent.Extent.TheVariants.{Subprograms, Generics}
-use Rattle.expression_parser.specs.Symbols.{symbol_of, same, Is, identifier_of}
+use Rattle.expression_parser.specs.Symbols.{symbol_of, Is}
 use Rattle.expression_parser.specs.Extents.{opens}
-use Rattle.expression_parser.specs.Reading.{Tokens, Reading, Reader, Got, Stuck, Turn, Refuse, Leave, Take, Look, got, goes_on, ◌>>=◌, turned, provided, expect, skip, repeat}
-use Rattle.expression_parser.specs.Depth.{at_exprs}
-use Rattle.expression_parser.specs.Shows.{Reads, More, Skipped, Identified, after, next_is}
-use Rattle.expression_parser.proofs.Comes.{got_bind, got_then, got_expect, on_symbol}
-use Rattle.expression_parser.proofs.Yields.{Yields, Takes, taken, expect_yields}
-use Rattle.expression_parser.proofs.Loops.{more_end, more_leave, more_refuse, more_look, more_look_stuck}
-use Rattle.expression_parser.proofs.NameCode.{after_some, after_none}
-use Rattle.declaration_parser.specs.Identifiers.{identifiers_by}
-use Rattle.declaration_parser.specs.DeclarationReading.{specification_by, begins_declaration, declaration_by, declarations_by}
-use Rattle.declaration_parser.specs.FormalReading.{formals_by}
-use Rattle.ada_parser.specs.StatementReading.{pushed}
-use Rattle.ada_parser.specs.StatementDepth.{at_handled}
-use Rattle.ada_parser.proofs.Steps.{both, first_fails, word_then, no_word, done, takes, looks, leaves, refuses, turns, list_step, list_step_fail, list_end}
-use Rattle.ada_parser.specs.Grammar.{bodied, packaged, package_bodied, instanced}
+use Rattle.expression_parser.specs.Reading.{Tokens, Reading, Reader, Got, Stuck, Turn, Refuse, Take, Look, got, goes_on, ◌>>=◌, provided, repeat}
+use Rattle.expression_parser.specs.Shows.{Reads, More}
+use Rattle.expression_parser.proofs.Comes.{got_bind, got_then}
+use Rattle.expression_parser.proofs.Loops.{more_end, more_refuse, more_look, more_look_stuck}
+use Rattle.ada_parser.proofs.Steps.{both, first_fails, done, takes, looks, refuses}
 use Rattle.ada_parser.specs.UnitReading as read
 use Rattle.ada_parser.specs.UnitDepth as at
 

@@ -1,6 +1,5 @@
 -- What derives tokens is read of them.
-use Rattle.std.proofs.Common.{◌≡◌, ℕ, suc, ◌<◌, ◌≤◌, Bool, true, false, cond, List, [], ◌∷◌, ◌++◌, length, Option, Some, None, refl, ap, sym, ◌∙◌, subst, arith}
-use Rattle.cov_base.specs.declared.position.Pos.{Pos}
+use Rattle.std.proofs.Common.{◌≡◌, ℕ, suc, ◌<◌, ◌≤◌, Bool, true, false, cond, List, [], ◌∷◌, ◌++◌, length, Option, Some, None, refl, ap, ◌∙◌, subst, arith}
 use Rattle.ada_lexer.specs.declared.token.Token.{Token}
 use Rattle.ada_syntax.specs.Tree.{Expr}
 use Rattle.ada_syntax.specs.StatementTree.{Handled}
@@ -31,11 +30,11 @@ use Rattle.expression_parser.specs.Shows.{next_is}
 use Rattle.expression_parser.proofs.Comes.{ends_at, got_bind, got_then, got_expect, on_symbol, Comes, comes_leave, comes_look}
 use Rattle.expression_parser.proofs.ExpressionLengths.{exprs_shorter}
 use Rattle.expression_parser.proofs.ExpressionComplete.{complete_exprs, Begins}
-use Rattle.declaration_parser.specs.Identifiers.{AreIdentifiers, identifiers_by}
+use Rattle.declaration_parser.specs.Identifiers.{AreIdentifiers}
 use Rattle.declaration_parser.specs.Specifications.{IsSpecification, a_procedure, a_function}
 use Rattle.declaration_parser.specs.Declarations.{IsDeclaration, AreDeclarations}
 use Rattle.declaration_parser.specs.Formals.{AreFormals}
-use Rattle.declaration_parser.specs.DeclarationReading.{specification_by, begins_declaration, declaration_by, declarations_by}
+use Rattle.declaration_parser.specs.DeclarationReading.{begins_declaration, declaration_by}
 use Rattle.declaration_parser.specs.FormalReading.{formals_by, begins_formal}
 use Rattle.declaration_parser.proofs.IdentifierLaws.{identifiers_shorter, identifiers_complete}
 use Rattle.declaration_parser.proofs.DeclarationComplete.{specification_shorter, declaration_shorter, declarations_shorter, specification_complete, declaration_complete, declaration_first}

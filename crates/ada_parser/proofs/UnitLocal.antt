@@ -4,21 +4,18 @@ use Rattle.cov_base.specs.declared.position.Pos.{Pos}
 use Rattle.ada_lexer.specs.declared.token.Token.{Token}
 use Rattle.ada_syntax.specs.declared.name.Identifier.{Identifier}
 use Rattle.ada_syntax.specs.declared.unit.Specification.{Specification}
-use Rattle.ada_syntax.specs.declared.unit.PackageItem.{PackageItem}
 use Rattle.ada_syntax.specs.declared.unit.PackageItem.TheVariants as package_item
-use Rattle.ada_syntax.specs.declared.unit.BodyItem.{BodyItem}
 use Rattle.ada_syntax.specs.declared.unit.BodyItem.TheVariants as body_item
 use Rattle.ada_syntax.specs.declared.unit.Formal.{Formal}
 use Rattle.ada_syntax.specs.declared.unit.LibraryItem.TheVariants as item
 use Rattle.ada_syntax.specs.declared.unit.WithClause.{WithClause}
-use Rattle.ada_syntax.specs.declared.unit.Unit.{Unit as LibraryUnit}
 use Rattle.expression_parser.specs.declared.symbol.Symbol.{Symbol}
 use Rattle.expression_parser.specs.declared.symbol.Symbol.TheVariants as symbol
 use Rattle.expression_parser.specs.declared.extent.Extent.{Extent}
 use Rattle.expression_parser.specs.declared.extent.Extent.TheVariants.{Subprograms, Generics}
 use Rattle.expression_parser.specs.Symbols.{identifier_of}
 use Rattle.expression_parser.specs.Extents.{opens}
-use Rattle.expression_parser.specs.Reading.{Reader, Turn, Refuse, Leave, Look, got, ◌>>=◌, expect, skip, repeat}
+use Rattle.expression_parser.specs.Reading.{Reader, Refuse, Leave, Look, got, ◌>>=◌, expect, skip, repeat}
 use Rattle.expression_parser.specs.ExpressionReading as expressions
 use Rattle.expression_parser.specs.Depth.{at_exprs}
 use Rattle.expression_parser.proofs.Agree.{Local, LocalTurn, got_local, on_local, bind_local, expect_local, skip_local, provided_local, repeat_local}

@@ -1,9 +1,9 @@
 -- The nodes of a unit are those of the tokens that it derives.
-use Rattle.std.proofs.Common.{◌≡◌, ◌+◌, List, [], ◌∷◌, ◌++◌, length, Option, Some, None, sum_by, refl, ap, arith}
+use Rattle.std.proofs.Common.{◌≡◌, ◌+◌, List, [], ◌∷◌, Option, sum_by, arith}
 use Rattle.std.proofs.lemmas.List.Sums.{sum_by_push, sum_by-cons}
 use Rattle.ada_syntax.specs.Tree.{Expr}
 use Rattle.ada_syntax.specs.TreeView.{exprs_of}
-use Rattle.ada_syntax.specs.Nodes.{expr_nodes, exprs_nodes, with_nodes, one_if_present, body_nodes, package_item_nodes, body_item_nodes, formal_nodes, item_nodes, unit_nodes, generic_nodes}
+use Rattle.ada_syntax.specs.Nodes.{expr_nodes, exprs_nodes, with_nodes, one_if_present, body_nodes, package_item_nodes, body_item_nodes, item_nodes, unit_nodes, generic_nodes}
 use Rattle.ada_syntax.specs.declared.name.Identifier.{Identifier}
 use Rattle.ada_syntax.specs.declared.unit.SubprogramBody.{SubprogramBody}
 use Rattle.ada_syntax.specs.declared.unit.PackageItem.{PackageItem}
@@ -18,7 +18,7 @@ use Rattle.declaration_parser.specs.NodeTokens.{node_tokens}
 use Rattle.declaration_parser.proofs.ExpressionNodes.{exprs_nodes_of}
 use Rattle.declaration_parser.proofs.NodeLaws.{identifiers_nodes_of, specification_nodes_of, declaration_nodes_of, declarations_nodes_of, formals_nodes_of}
 use Rattle.ada_parser.proofs.StatementNodes.{word_nodes, named_nodes, handled_nodes_of}
-use Rattle.ada_parser.specs.Grammar.{IsWith, a_with, AreWiths, no_withs, more_withs, IsEndName, no_end_name, an_end_name, IsEnd, an_end, bodied, IsBody, a_body, IsPackageItem, a_declaration, a_specification, ArePackageItems, no_package_items, more_package_items, IsBodyItem, declared_in_body, a_body_in_body, AreBodyItems, no_body_items, more_body_items, HasActuals, no_actuals, some_actuals, packaged, package_bodied, instanced, IsPackageRest, a_package_rest, IsItem, a_generic, a_package, a_package_body, an_instance, a_subprogram, IsUnit, a_unit, AreUnits, one_unit, more_units}
+use Rattle.ada_parser.specs.Grammar.{IsWith, a_with, AreWiths, no_withs, more_withs, IsEndName, no_end_name, an_end_name, IsEnd, an_end, IsBody, a_body, IsPackageItem, a_declaration, a_specification, ArePackageItems, no_package_items, more_package_items, IsBodyItem, declared_in_body, a_body_in_body, AreBodyItems, no_body_items, more_body_items, HasActuals, no_actuals, some_actuals, IsPackageRest, a_package_rest, IsItem, a_generic, a_package, a_package_body, an_instance, a_subprogram, IsUnit, a_unit, AreUnits, one_unit, more_units}
 
 exprs_are : (es : List Expr) → exprs_nodes (exprs_of es) ≡ sum_by expr_nodes es
 exprs_are [] = omega arith

@@ -1,20 +1,13 @@
 -- What is read of a library unit derives the tokens.
-use Rattle.std.proofs.Common.{◌≡◌, ℕ, suc, Bool, true, false, cond, List, [], ◌∷◌, ◌++◌, Option, Some, None, refl}
-use Rattle.cov_base.specs.declared.position.Pos.{Pos}
+use Rattle.std.proofs.Common.{◌≡◌, ℕ, suc, Bool, true, false, cond, List, [], ◌∷◌, ◌++◌, Option, Some, None}
 use Rattle.ada_lexer.specs.declared.token.Token.{Token}
-use Rattle.ada_syntax.specs.Tree.{Expr}
 use Rattle.ada_syntax.specs.declared.name.Identifier.{Identifier}
 use Rattle.ada_syntax.specs.declared.unit.Specification.{Specification}
-use Rattle.ada_syntax.specs.declared.unit.SubprogramBody.{SubprogramBody}
-use Rattle.ada_syntax.specs.declared.unit.PackageItem.{PackageItem}
-use Rattle.ada_syntax.specs.declared.unit.PackageItem.TheVariants as package_item
-use Rattle.ada_syntax.specs.declared.unit.BodyItem.{BodyItem}
 use Rattle.ada_syntax.specs.declared.unit.BodyItem.TheVariants as body_item
 use Rattle.ada_syntax.specs.declared.unit.Formal.{Formal}
 use Rattle.ada_syntax.specs.declared.unit.LibraryItem.{LibraryItem}
 use Rattle.ada_syntax.specs.declared.unit.LibraryItem.TheVariants as item
 use Rattle.ada_syntax.specs.declared.unit.WithClause.{WithClause}
-use Rattle.ada_syntax.specs.declared.unit.Unit.{Unit as LibraryUnit}
 use Rattle.expression_parser.specs.declared.symbol.Symbol.{Symbol}
 use Rattle.expression_parser.specs.declared.symbol.Symbol.TheVariants as symbol
 use Rattle.expression_parser.specs.declared.extent.Extent.{Extent}
@@ -37,12 +30,10 @@ use Rattle.declaration_parser.proofs.IdentifierLaws.{identifiers_sound}
 use Rattle.declaration_parser.proofs.DeclarationSound.{specification_sound, declaration_sound, declarations_sound}
 use Rattle.declaration_parser.proofs.FormalLaws.{formals_sound}
 use Rattle.ada_parser.specs.Words.{Word, word, Named, name}
-use Rattle.ada_parser.specs.Statements.{IsHandled}
 use Rattle.ada_parser.specs.StatementReading.{pushed}
-use Rattle.ada_parser.specs.StatementDepth.{at_handled}
 use Rattle.ada_parser.proofs.Sound.{Sound, and_then, behind_word, behind_identifier, by_token, rest_by_token, list_sound}
 use Rattle.ada_parser.proofs.StatementSound.{at_handled_sound}
-use Rattle.ada_parser.specs.Grammar.{IsWith, a_with, AreWiths, no_withs, more_withs, IsEndName, no_end_name, an_end_name, IsEnd, an_end, bodied, IsBody, a_body, IsPackageItem, a_declaration, a_specification, ArePackageItems, no_package_items, more_package_items, IsBodyItem, declared_in_body, a_body_in_body, AreBodyItems, no_body_items, more_body_items, HasActuals, no_actuals, some_actuals, packaged, package_bodied, instanced, IsPackageRest, a_package_rest, IsItem, a_generic, a_package, a_package_body, an_instance, a_subprogram, IsUnit, a_unit, AreUnits, one_unit, more_units}
+use Rattle.ada_parser.specs.Grammar.{IsWith, a_with, AreWiths, no_withs, more_withs, IsEndName, no_end_name, an_end_name, IsEnd, an_end, IsBody, a_body, IsPackageItem, a_declaration, a_specification, ArePackageItems, no_package_items, more_package_items, IsBodyItem, declared_in_body, a_body_in_body, AreBodyItems, no_body_items, more_body_items, HasActuals, no_actuals, some_actuals, packaged, IsPackageRest, a_package_rest, IsItem, a_generic, a_package, a_package_body, an_instance, a_subprogram, IsUnit, a_unit, AreUnits, one_unit, more_units}
 use Rattle.ada_parser.specs.UnitReading as read
 
 identifier_lists : (m : ℕ) → Sound (identifiers_by m) AreIdentifiers

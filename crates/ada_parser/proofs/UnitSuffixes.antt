@@ -1,5 +1,5 @@
 -- What follows a part of a unit is the end of its tokens.
-use Rattle.std.proofs.Common.{◌≡◌, ℕ, ◌≤◌, List, length, arith}
+use Rattle.std.proofs.Common.{length, arith}
 use Rattle.ada_syntax.specs.declared.declaration.Declaration.{Declaration}
 use Rattle.ada_syntax.specs.declared.unit.Specification.{Specification}
 use Rattle.ada_syntax.specs.declared.unit.LibraryItem.{LibraryItem}

@@ -1,5 +1,5 @@
 -- What taking the words at the end of a statement answers.
-use Rattle.std.specs.Prelude.{◌≡◌, ℕ, ◌<◌, length, Result, Ok, Err, ⊤}
+use Rattle.std.specs.Prelude.{◌≡◌, ◌<◌, length, Result, Ok, Err, ⊤}
 use Rattle.std.specs.Borrow.{Bor}
 use Rattle.ada_syntax.specs.StatementTree.{Statement}
 use Rattle.expression_parser.specs.declared.fault.Fault.{Fault}

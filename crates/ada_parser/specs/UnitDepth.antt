@@ -1,6 +1,5 @@
 -- The readers of units at a depth, and what the functions for files answer.
 use Rattle.std.specs.Prelude.{ℕ, List, [], Option, Result, Ok, Err, ⊤}
-use Rattle.std.specs.Borrow.{Bor}
 use Rattle.std.specs.declared.vec.Vec.{Vec}
 use Rattle.std.specs.declared.alloc.Global.{Global}
 use Rattle.cov_base.specs.declared.position.Pos.{Pos}

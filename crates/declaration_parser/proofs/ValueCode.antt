@@ -24,7 +24,7 @@ use Rattle.expression_parser.specs.declared.fault.Fault.{Fault}
 use Rattle.expression_parser.specs.declared.fault.Fault.TheVariants.{Syntax, Memory}
 use Rattle.expression_parser.proofs.Faults.{failed}
 use Rattle.declaration_parser.specs.Closing.{Closes}
-use Rattle.declaration_parser.proofs.Closings.{read_so, Below, within_below, leads, stops, goes, shows_as_well, read_then, closed}
+use Rattle.declaration_parser.proofs.Closings.{read_so, Below, within_below, leads, stops, goes, shows_as_well, read_then}
 use Rattle.declaration_parser.proofs.Steps.{got_reads}
 use Rattle.declaration_parser.proofs.SubtypeLocal.{parenthesis_alone}
 use Rattle.declaration_parser.proofs.ExpressionParts.{types_open_objects}

@@ -1,6 +1,5 @@
 use Rattle.std.proofs.Common.{◌<◌, ◌≤◌, List, length, ap, sym, subst, arith}
 use Rattle.std.proofs.lemmas.Result.{err_from_is_err_and}
-use Rattle.ada_syntax.specs.StatementTree.{Statement}
 use Rattle.ada_syntax.specs.StatementView.{branches_of, alternatives_of, handlers_of}
 use Rattle.ada_syntax.specs.declared.statement.Branch.{Branch}
 use Rattle.ada_syntax.specs.declared.statement.Alternative.{Alternative}
@@ -14,7 +13,6 @@ use Rattle.ada_parser.proofs.ArmCode.{alternative_turns, alternatives_step, alte
 use Rattle.ada_parser.proofs.CompoundCode.{branch_turns, branches_step, branches_end, branch_read, branch_fail, branch_open, branch_empty, if_read, if_else_fail, if_open, case_read, case_fail, case_no_is, case_empty, case_open, loop_read, loop_none, loop_empty, loop_open}
 use Rattle.ada_parser.proofs.Parts.{before_word, before_end, word_fails, end_fails, given_fails, part_fails}
 use Rattle.ada_parser.specs.StatementDepth as at
-use Rattle.ada_parser.proofs.StatementCode.{statement_turns, statements_step}
 use Rattle.ada_parser.proofs.+statement.Goals as goal
 
 pub arms::alternatives-loop-after-preserved : goal.arms::alternatives-loop-after-preserved

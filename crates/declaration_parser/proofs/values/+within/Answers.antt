@@ -1,6 +1,5 @@
-use Rattle.std.proofs.Common.{arith}
 use Rattle.std.proofs.lemmas.Result.{err_from_is_err_and}
-use Rattle.declaration_parser.proofs.ValueCode.{arrow_fault, within_rules}
+use Rattle.declaration_parser.proofs.ValueCode.{arrow_fault}
 use Rattle.declaration_parser.proofs.values.+within.Goals as goal
 
 pub returns-in_err-rest-clause-reads : goal.returns-in_err-rest-clause-reads
