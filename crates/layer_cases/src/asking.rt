@@ -22,21 +22,28 @@ pub(crate) fn answer(alloc: Global, blobs: &mut Blobs, out: &mut String, line: &
         "graph" => decisions::graph(alloc, out, words),
         "edges" => decisions::edges(alloc, out, words),
         "pairs" => decisions::pairs(alloc, out, words),
-        "lex" => sources::lex_blob(alloc, out, blobs.latest()?),
-        "nested" => sources::nested_blob(alloc, out, blobs.latest()?),
-        "parse" => sources::parse_blob(alloc, out, blobs.latest()?, words),
-        "beginnings" => sources::beginnings_of_blob(alloc, out, blobs.latest()?),
-        "regions" => sources::regions_of_blob(alloc, out, blobs.latest()?),
-        "exempt" => sources::exempt_in_blob(alloc, out, blobs.latest()?, words),
-        "object" => objects::object(alloc, out, blobs.latest()?),
-        "plain" => objects::plain(alloc, out, blobs.latest()?),
-        "input" => objects::input(alloc, out, blobs.latest()?),
+        "longs" => lists::longs(alloc, out, words),
         "run" => objects::run_object(alloc, blobs, out, words),
         "words" => objects::words_of_object(alloc, blobs, out, words),
-        "trace" => runs::trace(out, blobs.latest()?),
         "fit" => runs::fit(alloc, blobs, out, words),
         "events" => runs::events(alloc, blobs, out, words),
-        "longs" => lists::longs(alloc, out, words),
+        _ => of_latest(alloc, out, command, words, blobs.latest()?),
+    }
+}
+
+/// Adds what a line that asks about the latest blob is answered.
+fn of_latest(alloc: Global, out: &mut String, command: &str, words: &str, blob: &[u8]) -> Answer {
+    match command {
+        "lex" => sources::lex_blob(alloc, out, blob),
+        "nested" => sources::nested_blob(alloc, out, blob),
+        "parse" => sources::parse_blob(alloc, out, blob, words),
+        "beginnings" => sources::beginnings_of_blob(alloc, out, blob),
+        "regions" => sources::regions_of_blob(alloc, out, blob),
+        "exempt" => sources::exempt_in_blob(alloc, out, blob, words),
+        "object" => objects::object(alloc, out, blob),
+        "plain" => objects::plain(alloc, out, blob),
+        "input" => objects::input(alloc, out, blob),
+        "trace" => runs::trace(out, blob),
         _ => Err(Failure::Fault(CaseFault::Command)),
     }
 }

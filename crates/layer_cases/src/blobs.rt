@@ -70,24 +70,44 @@ impl Blobs {
         command: &str,
         words: &str,
     ) -> Result<bool, Failure<CaseFault>> {
-        match command {
-            "blob" => self.begin(alloc, words)?,
-            "|" => {
-                self.add(words.as_bytes())?;
-                self.add(b"\n")?;
-            }
-            "+" => self.add(words.as_bytes())?,
-            "*" => self.add_repeated(words)?,
-            "hex" => self.add(bytes(alloc, words)?.as_slice())?,
-            "lines" => self.add(self.lines(alloc, words)?.as_slice())?,
-            "part" => self.add(self.part(alloc, words)?.as_slice())?,
-            "digest" => {
-                let digest: [u8; 32] = Sha256::digest(self.latest()?).into();
-                self.add(&digest)?;
-            }
+        let added = match command {
+            "blob" => self.begin(alloc, words),
+            "|" => self.add_line(words),
+            "+" => self.add(words.as_bytes()),
+            "*" => self.add_repeated(words),
+            "hex" => self.add_hex(alloc, words),
+            "lines" => self.add_lines(alloc, words),
+            "part" => self.add_part(alloc, words),
+            "digest" => self.add_digest(),
             _ => return Ok(false),
-        }
+        };
+        added?;
         Ok(true)
+    }
+
+    fn add_line(&mut self, text: &str) -> Answer {
+        self.add(text.as_bytes())?;
+        self.add(b"\n")
+    }
+
+    fn add_hex(&mut self, alloc: Global, digits: &str) -> Answer {
+        let bytes = bytes(alloc, digits)?;
+        self.add(bytes.as_slice())
+    }
+
+    fn add_lines(&mut self, alloc: Global, words: &str) -> Answer {
+        let lines = self.lines(alloc, words)?;
+        self.add(lines.as_slice())
+    }
+
+    fn add_part(&mut self, alloc: Global, words: &str) -> Answer {
+        let part = self.part(alloc, words)?;
+        self.add(part.as_slice())
+    }
+
+    fn add_digest(&mut self) -> Answer {
+        let digest: [u8; 32] = Sha256::digest(self.latest()?).into();
+        self.add(&digest)
     }
 
     fn add_repeated(&mut self, words: &str) -> Answer {

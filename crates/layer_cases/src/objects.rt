@@ -180,8 +180,8 @@ fn add_left(out: &mut String, object: &Object, left: &Left) -> Result<(), AllocE
 pub(crate) fn run_object(alloc: Global, blobs: &Blobs, out: &mut String, words: &str) -> Answer {
     let (name, budget) = split_word(words);
     let budget = u32::try_from(number(budget)?).unwrap_or(u32::MAX);
-    let input = input_of(alloc, blobs.latest()?)?;
     let object = object_of(alloc, blobs.named(name)?)?;
+    let input = input_of(alloc, blobs.latest()?)?;
     let left = executed(alloc, &object, input.as_slice(), budget)?;
     add_left(out, &object, &left)?;
     Ok(())
