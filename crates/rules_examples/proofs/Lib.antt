@@ -6,3 +6,4 @@ pub mod PackagesShown
 pub mod ExceptionsShown
 pub mod GenericsShown
 pub mod WholeShown
+pub mod ApartShown

@@ -1,10 +1,9 @@
 -- Worked sources as text, and what they come to.
 use Prim.Native.String.{String}
-use Rattle.std.specs.Prelude.{◌≡◌, ℕ, zero, suc, ◌+◌, ◌-◌, nat_eq, Bool, List, [], ◌∷◌, ◌++◌, codes, map, take, drop, length, sum_by, Option, Some, None, Ok, Err, if◌then◌else◌}
-use Rattle.cov_base.specs.declared.position.Pos.{Pos}
+use Rattle.std.specs.Prelude.{◌≡◌, ℕ, zero, suc, ◌+◌, ◌-◌, List, [], ◌∷◌, ◌++◌, codes, map, take, drop, length, sum_by, Option, Some, None, Ok, Err}
 use Rattle.ada_lexer.specs.Tokens.{Tokens, tokens_of}
 use Rattle.ada_syntax.specs.declared.unit.Unit.{Unit as LibraryUnit}
-use Rattle.expression_parser.specs.Reading.{Reading, Got, Stuck}
+use Rattle.expression_parser.specs.Reading.{Reading, Got}
 use Rattle.expression_parser.specs.declared.extent.Extent.TheVariants.{Whole}
 use Rattle.ada_parser.specs.UnitReading as read
 use Rattle.ada_meaning.specs.Collected.{labels_of, decisions_of}

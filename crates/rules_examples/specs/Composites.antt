@@ -1,7 +1,7 @@
 -- Arrays and records.
-use Rattle.std.specs.Prelude.{◌≡◌, ℕ, List, [], ◌∷◌, codes}
-use Rattle.rules_examples.specs.Cases.{Lines, ◌⏎◌, Case, case_of, Hold, names, types, counts, good}
-use Rattle.rules_examples.specs.Bases.{table, of_table}
+use Rattle.std.specs.Prelude.{List, [], ◌∷◌}
+use Rattle.rules_examples.specs.Cases.{◌⏎◌, Case, Hold, names, types, good}
+use Rattle.rules_examples.specs.Bases.{of_table}
 
 -- changes of `table`
 abbrev pub changes_of_table : List Case

@@ -1,7 +1,7 @@
 -- Boolean expressions, branches, loops and blocks.
-use Rattle.std.specs.Prelude.{◌≡◌, ℕ, List, [], ◌∷◌, codes}
-use Rattle.rules_examples.specs.Cases.{Lines, ◌⏎◌, Case, case_of, Hold, names, types, counts, good}
-use Rattle.rules_examples.specs.Bases.{walk, of_walk, gate, of_gate, short, of_short, nested, of_nested}
+use Rattle.std.specs.Prelude.{List, [], ◌∷◌}
+use Rattle.rules_examples.specs.Cases.{◌⏎◌, Case, Hold, names, types, good}
+use Rattle.rules_examples.specs.Bases.{of_walk, of_gate, of_short, of_nested}
 
 -- changes of `walk`
 abbrev pub changes_of_walk : List Case

@@ -1,7 +1,7 @@
 -- Exceptions and handlers.
-use Rattle.std.specs.Prelude.{◌≡◌, ℕ, List, [], ◌∷◌, codes}
-use Rattle.rules_examples.specs.Cases.{Lines, ◌⏎◌, Case, case_of, Hold, names, types, counts, good}
-use Rattle.rules_examples.specs.Bases.{guard, of_guard, errors, of_errors, depth, of_depth}
+use Rattle.std.specs.Prelude.{List, [], ◌∷◌}
+use Rattle.rules_examples.specs.Cases.{◌⏎◌, Case, Hold, names, types, good}
+use Rattle.rules_examples.specs.Bases.{of_guard, of_errors, of_depth}
 
 -- changes of `guard`
 abbrev pub changes_of_guard : List Case

@@ -1,7 +1,7 @@
 -- Generics and instances.
-use Rattle.std.specs.Prelude.{◌≡◌, ℕ, List, [], ◌∷◌, codes}
-use Rattle.rules_examples.specs.Cases.{Lines, ◌⏎◌, Case, case_of, Hold, names, types, counts, good}
-use Rattle.rules_examples.specs.Bases.{bounds, of_bounds, copies, of_copies, sorter, of_sorter}
+use Rattle.std.specs.Prelude.{List, [], ◌∷◌}
+use Rattle.rules_examples.specs.Cases.{◌⏎◌, Case, Hold, names, types, good}
+use Rattle.rules_examples.specs.Bases.{of_bounds, of_copies, of_sorter}
 
 -- changes of `bounds`
 abbrev pub changes_of_bounds : List Case

@@ -8,3 +8,4 @@ pub mod Packages
 pub mod Exceptions
 pub mod Generics
 pub mod Whole
+pub mod Apart

@@ -1,7 +1,7 @@
 -- Objects of type Integer, assignments and calls of Test_IO.
-use Rattle.std.specs.Prelude.{◌≡◌, ℕ, List, [], ◌∷◌, codes}
-use Rattle.rules_examples.specs.Cases.{Lines, ◌⏎◌, Case, case_of, Hold, names, types, counts, good}
-use Rattle.rules_examples.specs.Bases.{sum, of_sum, swap, of_swap, plain, of_plain}
+use Rattle.std.specs.Prelude.{List, [], ◌∷◌}
+use Rattle.rules_examples.specs.Cases.{◌⏎◌, Case, Hold, names, types, good}
+use Rattle.rules_examples.specs.Bases.{of_sum, of_swap, of_plain}
 
 -- changes of `sum`
 abbrev pub changes_of_sum : List Case

@@ -1,7 +1,7 @@
 -- Packages, subprograms, units and what they name in `with`.
-use Rattle.std.specs.Prelude.{◌≡◌, ℕ, List, [], ◌∷◌, codes}
-use Rattle.rules_examples.specs.Cases.{Lines, ◌⏎◌, Case, case_of, Hold, names, types, counts, good}
-use Rattle.rules_examples.specs.Bases.{stack, of_stack, funcs, of_funcs, modes, of_modes, consts, of_consts}
+use Rattle.std.specs.Prelude.{List, [], ◌∷◌}
+use Rattle.rules_examples.specs.Cases.{◌⏎◌, Case, Hold, names, types, good}
+use Rattle.rules_examples.specs.Bases.{of_stack, of_funcs, of_modes, of_consts}
 
 -- changes of `stack`
 abbrev pub changes_of_stack : List Case

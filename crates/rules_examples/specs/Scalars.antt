@@ -1,7 +1,7 @@
 -- Scalar types and subtypes, static values, case statements and loop parameters.
-use Rattle.std.specs.Prelude.{◌≡◌, ℕ, List, [], ◌∷◌, codes}
-use Rattle.rules_examples.specs.Cases.{Lines, ◌⏎◌, Case, case_of, Hold, names, types, counts, good}
-use Rattle.rules_examples.specs.Bases.{days, of_days, nums, of_nums, reach, of_reach}
+use Rattle.std.specs.Prelude.{List, [], ◌∷◌}
+use Rattle.rules_examples.specs.Cases.{◌⏎◌, Case, Hold, names, types, good}
+use Rattle.rules_examples.specs.Bases.{of_days, of_nums, of_reach}
 
 -- changes of `days`
 abbrev pub changes_of_days : List Case

@@ -1,6 +1,6 @@
 -- Whole sources: the counted limits, and rules one by one.
-use Rattle.std.specs.Prelude.{◌≡◌, ℕ, List, [], ◌∷◌, codes}
-use Rattle.rules_examples.specs.Cases.{Lines, ◌⏎◌, Case, case_of, Hold, names, types, counts, good}
+use Rattle.std.specs.Prelude.{List, [], ◌∷◌, codes}
+use Rattle.rules_examples.specs.Cases.{◌⏎◌, Case, case_of, Hold, names, types, counts, good}
 
 -- sources right at the counted limits
 abbrev pub near_limits : List Case

@@ -14,6 +14,7 @@ ghost use Rattle.rules_examples.specs.Packages.{Packages};
 ghost use Rattle.rules_examples.specs.Exceptions.{Exceptions};
 ghost use Rattle.rules_examples.specs.Generics.{Generics};
 ghost use Rattle.rules_examples.specs.Whole.{Whole};
+ghost use Rattle.rules_examples.specs.Apart.{Apart};
 
 /// Objects of type Integer, assignments and calls of Test_IO.
 pub fn objects()
@@ -53,4 +54,9 @@ pub fn generics()
 /// Sources right at the counted limits, and sources that show one rule each.
 pub fn whole()
     ensures { Whole }
+{}
+
+/// Sources worked out by hand, for what the others leave out.
+pub fn apart()
+    ensures { Apart }
 {}
