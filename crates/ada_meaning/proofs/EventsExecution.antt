@@ -2,7 +2,7 @@
 use Rattle.std.proofs.Common.{◌≡◌, ℕ, zero, suc, ℤ, List, [], ◌∷◌, ◌++◌, map, reverse, Option, Some, None, nat_lt, slice_get, inl, inr, refl, sym, ap, subst}
 use Rattle.std.proofs.lemmas.List.{reverse-append}
 use Rattle.cov_base.specs.declared.event.Event.{Event}
-use Rattle.decision_meaning.specs.Pair.{Everywhere, Somewhere}
+use Rattle.cov_base.specs.Lists.{Everywhere, Somewhere}
 use Rattle.decision_meaning.specs.Graph.{graph}
 use Rattle.decision_meaning.specs.Path.{IsPathVector}
 use Rattle.ada_meaning.specs.Tree.{shape_of}

@@ -1,7 +1,7 @@
 -- Actions whose events are all of a kind.
 use Rattle.std.proofs.Common.{ℕ, zero, suc, ℤ, pos, negsuc, ◌+ℤ◌, Bool, true, false, List, [], ◌∷◌, ◌++◌, if◌then◌else◌, sym, subst}
 use Rattle.cov_base.specs.declared.event.Event.{Event}
-use Rattle.decision_meaning.specs.Pair.{Everywhere}
+use Rattle.cov_base.specs.Lists.{Everywhere}
 use Rattle.ada_meaning.specs.Program.{Bounds}
 use Rattle.ada_meaning.specs.Arithmetic.{count_between}
 use Rattle.ada_meaning.specs.State.{world_of, Place, World, Outcome, Gives, Raises, OutOfFuel, Action, goes_to, ◌>>=◌, ◌>>◌, give, out_of_fuel, caught, catch, tick, happens, left, framed, at_depth}

@@ -6,7 +6,7 @@ use Rattle.cov_base.specs.declared.event.Vector.{Vector}
 use Rattle.decision_meaning.specs.Graph.{graph}
 use Rattle.decision_meaning.specs.Marks.{marks, outcome}
 use Rattle.decision_meaning.specs.Path.{IsPathVector}
-use Rattle.decision_meaning.specs.Pair.{Somewhere}
+use Rattle.cov_base.specs.Lists.{Somewhere}
 use Rattle.ada_meaning.specs.Tree.{Label, Test, shape_of}
 use Rattle.ada_meaning.specs.Program.{Program}
 use Rattle.ada_meaning.specs.State.{World}

@@ -17,7 +17,7 @@
 ghost use Rattle.std.specs.Prelude.{◌≡◌, ◌≤◌, ◌++◌, ℕ, ℤ, Bool, List, [], Option};
 ghost use Rattle.cov_base.specs.declared.event.Event.{Event};
 ghost use Rattle.decision_meaning.specs.Graph.{graph, leaf};
-ghost use Rattle.decision_meaning.specs.Pair.{Everywhere};
+ghost use Rattle.cov_base.specs.Lists.{Everywhere};
 ghost use Rattle.decision_meaning.specs.Path.{LeadsTo};
 ghost use Rattle.ada_meaning.specs.Calls.{Calls};
 ghost use Rattle.ada_meaning.specs.Copies.{block_copy, exec_copies};

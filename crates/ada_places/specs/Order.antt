@@ -2,7 +2,7 @@
 use Rattle.std.specs.Prelude.{◌≡◌, false, List, [], ◌∷◌}
 use Rattle.cov_base.specs.TextOrder.{precedes}
 use Rattle.cov_base.specs.declared.position.Pos.{Pos}
-use Rattle.decision_meaning.specs.Pair.{Everywhere}
+use Rattle.cov_base.specs.Lists.{Everywhere}
 
 -- no later place comes before an earlier one
 abbrev pub AreOrdered : List Pos → Type 0

@@ -8,7 +8,8 @@ use Rattle.cov_base.specs.declared.obligations.DecEntry.{DecEntry}
 use Rattle.cov_base.specs.declared.obligations.Obligations.{Obligations}
 use Rattle.decision_meaning.specs.Expr.{Expr, size}
 use Rattle.decision_meaning.specs.Marks.{Marks, marks, same, outcome}
-use Rattle.decision_meaning.specs.Pair.{Pair, Everywhere, IsLeastPair, pair_precedes}
+use Rattle.cov_base.specs.Lists.{Everywhere}
+use Rattle.decision_meaning.specs.Pair.{Pair, IsLeastPair, pair_precedes}
 use Rattle.mcdc_verdicts.proofs.Lists.{everywhere-map, everywhere-item}
 use Rattle.annotated_report.specs.Findings.{asks_outcomes, asks_pairs, expr_of, one_if, unstarted, started_count, outcome_finding, decision_findings, pair_finding, condition_key, finding_of_condition, unpaired, findings_of, unsatisfied, covered_count, findings}
 use Rattle.annotated_report.specs.LeastPair.{kind_of, shown_pair}

@@ -3,7 +3,7 @@ use Rattle.std.proofs.Common.{◌≡◌, ◌≢◌, ◌≤◌, inl, inr, ⊎_eli
 use Rattle.std.specs.List.{AllByRecursion}
 use Rattle.std.proofs.lemmas.List.Elements.{All-from_recursion}
 use Rattle.std.proofs.lemmas.List.Kept.{AllPairs-cons}
-use Rattle.decision_meaning.specs.Pair.{Everywhere, Somewhere}
+use Rattle.cov_base.specs.Lists.{Everywhere, Somewhere}
 use Rattle.mcdc_verdicts.proofs.Lists.{everywhere-map}
 use Rattle.annotated_report.specs.declared.finding.Key.{Key}
 use Rattle.annotated_report.specs.declared.finding.PairLine.{PairLine}

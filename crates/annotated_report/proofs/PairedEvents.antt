@@ -12,7 +12,8 @@ use Rattle.cov_base.specs.declared.obligations.Obligations.{Obligations}
 use Rattle.cov_base.specs.declared.obligations.Place.{Place}
 use Rattle.decision_meaning.specs.Expr.{size}
 use Rattle.decision_meaning.specs.Marks.{marks}
-use Rattle.decision_meaning.specs.Pair.{Pair, Somewhere, Everywhere, IsLeastPair}
+use Rattle.cov_base.specs.Lists.{Somewhere, Everywhere}
+use Rattle.decision_meaning.specs.Pair.{Pair, IsLeastPair}
 use Rattle.mcdc_verdicts.proofs.Lists.{everywhere-item}
 use Rattle.annotated_report.specs.declared.finding.PairLine.{PairLine}
 use Rattle.annotated_report.specs.declared.finding.Subject.{Subject}

@@ -6,7 +6,7 @@ use Rattle.std.proofs.lemmas.Option.{slice_get-get_or}
 use Rattle.cov_base.specs.declared.event.Vector.{Vector}
 use Rattle.cov_base.specs.declared.obligations.DecEntry.{DecEntry}
 use Rattle.decision_meaning.specs.Graph.{graph}
-use Rattle.decision_meaning.specs.Pair.{Everywhere}
+use Rattle.cov_base.specs.Lists.{Everywhere}
 use Rattle.decision_meaning.specs.Path.{IsPathVector}
 use Rattle.annotated_report.specs.Caller.{IsEvaluated}
 use Rattle.annotated_report.specs.Findings.{expr_of}

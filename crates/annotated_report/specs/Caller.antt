@@ -5,7 +5,7 @@ use Rattle.cov_base.specs.declared.event.Vector.{Vector}
 use Rattle.cov_base.specs.declared.obligations.DecEntry.{DecEntry}
 use Rattle.decision_meaning.specs.Expr.{Expr, size, IsPostfixOf}
 use Rattle.decision_meaning.specs.Graph.{graph}
-use Rattle.decision_meaning.specs.Pair.{Everywhere}
+use Rattle.cov_base.specs.Lists.{Everywhere}
 use Rattle.decision_meaning.specs.Path.{IsPathVector}
 use Rattle.annotated_report.specs.Verdicts.{vectors_of}
 

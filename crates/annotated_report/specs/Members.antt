@@ -1,6 +1,6 @@
 -- Lists with the same members.
 use Rattle.std.specs.Prelude.{◌≡◌, List}
-use Rattle.decision_meaning.specs.Pair.{Somewhere}
+use Rattle.cov_base.specs.Lists.{Somewhere}
 
 -- x is in the list
 abbrev pub Has : {X : Type 0} → List X → X → Type 0

@@ -9,7 +9,8 @@ use Rattle.cov_base.specs.declared.obligations.Place.{Place}
 use Rattle.cov_base.specs.declared.position.InstId.{InstId}
 use Rattle.decision_meaning.specs.Expr.{size}
 use Rattle.decision_meaning.specs.Marks.{marks}
-use Rattle.decision_meaning.specs.Pair.{Pair, Everywhere, Somewhere, IsLeastPair}
+use Rattle.cov_base.specs.Lists.{Everywhere, Somewhere}
+use Rattle.decision_meaning.specs.Pair.{Pair, IsLeastPair}
 use Rattle.annotated_report.specs.declared.finding.PairLine.{PairLine}
 use Rattle.annotated_report.specs.Findings.{expr_of, condition_key}
 use Rattle.annotated_report.specs.LeastPair.{kind_of}

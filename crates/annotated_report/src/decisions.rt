@@ -4,7 +4,7 @@ ghost use Rattle.std.specs.Prelude.{◌≡◌, ◌++◌, ℕ, [], Some, length, 
 ghost use Rattle.cov_base.specs.declared.obligations.DecEntry.{DecEntry};
 ghost use Rattle.decision_meaning.specs.Expr.{size, IsPostfixOf};
 ghost use Rattle.decision_meaning.specs.Graph.{graph};
-ghost use Rattle.decision_meaning.specs.Pair.{Everywhere};
+ghost use Rattle.cov_base.specs.Lists.{Everywhere};
 ghost use Rattle.decision_meaning.specs.Path.{IsPathVector};
 ghost use Rattle.annotated_report.specs.Caller.{IsEvaluated};
 ghost use Rattle.annotated_report.specs.Findings.{

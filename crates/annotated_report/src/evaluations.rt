@@ -10,7 +10,7 @@ use std::alloc::{AllocError, Global};
 use std::marker::Model;
 
 /// The vectors of a decision, in the order of their events. Contracts see them as a list.
-#[derive(Debug, Drop)]
+#[derive(Drop)]
 pub(crate) struct Evaluations {
     vectors: Vec<Vector>,
 }

@@ -7,7 +7,7 @@ use cov_base::{Bytes, Pos};
 use std::alloc::AllocError;
 
 /// An obligation by its numbers: a condition by that of its decision, and its place in it.
-#[derive(Clone, Copy, Debug, PartialEq, Eq, PartialOrd, Ord)]
+#[derive(Clone, Copy, PartialEq, Eq, PartialOrd, Ord)]
 pub(crate) enum Subject {
     /// A statement.
     Statement(usize),
@@ -18,14 +18,14 @@ pub(crate) enum Subject {
 }
 
 /// Where an obligation stands, and which it is. Lines of a report are in this order.
-#[derive(Clone, Copy, Debug, PartialEq, Eq, PartialOrd, Ord)]
+#[derive(Clone, Copy, PartialEq, Eq, PartialOrd, Ord)]
 pub(crate) struct Key {
     pub(crate) pos: Pos,
     pub(crate) subject: Subject,
 }
 
 /// What is missing of an obligation that is not covered.
-#[derive(Clone, Copy, Debug, PartialEq, Eq)]
+#[derive(Clone, Copy, PartialEq, Eq)]
 pub(crate) enum Missing {
     /// The statement was not executed.
     Execution,
@@ -38,7 +38,7 @@ pub(crate) enum Missing {
 }
 
 /// An obligation that is not covered, and what is missing.
-#[derive(Clone, Copy, Debug, PartialEq, Eq)]
+#[derive(Clone, Copy, PartialEq, Eq)]
 pub(crate) struct Finding {
     pub(crate) key: Key,
     pub(crate) missing: Missing,
@@ -46,7 +46,7 @@ pub(crate) struct Finding {
 
 /// A pair of vectors that shows a condition to matter: where the condition stands, and the vectors as
 /// text.
-#[derive(Debug, Drop)]
+#[derive(Drop)]
 pub(crate) struct PairLine {
     pub(crate) key: Key,
     pub(crate) text: Bytes,

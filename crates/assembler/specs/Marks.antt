@@ -1,21 +1,15 @@
 -- What the marks of a piece have to be.
 use Rattle.std.specs.Prelude.{◌≡◌, ℕ, ◌+◌, ◌≤◌, ◌<◌, Bool, true, false, List, [], ◌∷◌, length, if◌then◌else◌}
-use Rattle.rv_isa.specs.declared.instr.Instr.{Instr}
-use Rattle.rv_isa.specs.declared.instr.Instr.TheVariants.{Branch}
+use Rattle.rv_isa.specs.Control.{is_branch}
 use Rattle.assembler.specs.declared.piece.Item.{Item}
 use Rattle.assembler.specs.declared.piece.Item.TheVariants.{Plain, Branch as BranchTo}
 use Rattle.assembler.specs.declared.piece.Mark.{Mark}
 use Rattle.assembler.specs.declared.piece.Mark.TheVariants.{Row, Role}
 use Rattle.assembler.specs.declared.piece.Piece.{Piece}
 
--- an instruction is a conditional branch
-abbrev pub branches : Instr → Bool
-branches (Branch op rs1 rs2 halves) = true
-branches _ = false
-
--- an item is one
+-- whether an item is a conditional branch
 abbrev pub is_branch_item : Item → Bool
-is_branch_item (Plain i) = branches i
+is_branch_item (Plain i) = is_branch i
 is_branch_item (BranchTo op rs1 rs2 to) = true
 is_branch_item _ = false
 

@@ -4,7 +4,7 @@ use cov_base::{Annotation, Level, Seq};
 use thiserror::Error;
 
 /// What the words ask for. Names are names of files, but for `main`, the main unit's.
-#[derive(Debug, Drop)]
+#[derive(Drop)]
 pub enum Command<'a> {
     /// `compile --main=MAIN -o OBJECT SOURCE`
     Compile {

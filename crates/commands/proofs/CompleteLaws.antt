@@ -7,7 +7,7 @@ use Rattle.compiler.specs.Behaves.{number_of}
 use Rattle.cov_io.specs.Outside.{Held}
 use Rattle.coverage_set.proofs.OwnTraces.{own_fits, own_follows}
 use Rattle.decision_map.specs.Fits.{fault_of}
-use Rattle.decision_meaning.specs.Pair.{Everywhere}
+use Rattle.cov_base.specs.Lists.{Everywhere}
 use Rattle.commands.specs.Complete.{NothingFails, IsDone, LegalSourcesCompile, ProgramsRun, ProgramsDoNotTrap, TracesAreCovered}
 use Rattle.commands.specs.Content.{IsFileOf, IsTraceFor, sources_of, IsInputOf, RefusesSource, RefusesTrace, StopsRun, trace_file, Follows}
 use Rattle.commands.specs.declared.status.FileRef.TheVariants.{Word}

@@ -4,7 +4,7 @@ use Rattle.annotated_report.specs.Report.{report_text}
 use Rattle.cov_base.specs.declared.event.Event.{Event}
 use Rattle.cov_base.specs.declared.level.Level.{Level}
 use Rattle.coverage_set.specs.Covered.{Covered, Has, HasRun, IsCountOfRuns}
-use Rattle.decision_meaning.specs.Pair.{Somewhere}
+use Rattle.cov_base.specs.Lists.{Somewhere}
 use Rattle.commands.specs.Content.{RefusesTrace, Shows, ClosesWith, IsReport}
 use Rattle.commands.specs.Covering.{Adds, IsBadFit}
 use Rattle.commands.specs.declared.status.Status.{Status}

@@ -14,7 +14,7 @@ use Rattle.coverage_set.specs.Covered.{Covered, Has}
 use Rattle.decision_map.proofs.Needed.{graph_of_spelled}
 use Rattle.decision_map.specs.Decisions.{graph_at}
 use Rattle.decision_meaning.specs.Graph.{Edges}
-use Rattle.decision_meaning.specs.Pair.{Somewhere, Everywhere}
+use Rattle.cov_base.specs.Lists.{Somewhere, Everywhere}
 use Rattle.decision_meaning.specs.Path.{IsPathVector}
 use Rattle.commands.specs.Content.{Shows}
 use Rattle.commands.specs.Covering.{Adds, HasPaths}

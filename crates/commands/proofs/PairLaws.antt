@@ -9,7 +9,7 @@ use Rattle.command_words.specs.Task.{Task, Coverage}
 use Rattle.cov_base.specs.declared.event.Event.{Event}
 use Rattle.cov_base.specs.declared.obligations.SourceFile.{SourceFile}
 use Rattle.cov_io.specs.Outside.{WhereTold, Appends}
-use Rattle.decision_meaning.specs.Pair.{Somewhere}
+use Rattle.cov_base.specs.Lists.{Somewhere}
 use Rattle.commands.specs.declared.status.Status.{Status}
 use Rattle.commands.specs.declared.status.Status.TheVariants.{Done}
 use Rattle.commands.specs.Headline.{Occurs}

@@ -9,7 +9,7 @@ use Rattle.cov_base.specs.declared.level.Annotation.{Annotation}
 use Rattle.cov_base.specs.declared.level.Level.{Level}
 use Rattle.cov_io.specs.Outside.{Held, WhereTold, Appends}
 use Rattle.coverage_set.proofs.RunLaw.{run_law}
-use Rattle.decision_meaning.specs.Pair.{Everywhere, Somewhere}
+use Rattle.cov_base.specs.Lists.{Everywhere, Somewhere}
 use Rattle.commands.specs.Content.{IsFileOf, Shows, ClosesWith, Reports, trace_file}
 use Rattle.commands.specs.declared.status.Status.{Status}
 use Rattle.commands.specs.declared.status.Status.TheVariants.{Done}

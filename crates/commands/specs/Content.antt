@@ -13,7 +13,7 @@ use Rattle.cov_base.specs.declared.level.Level.{Level}
 use Rattle.cov_base.specs.declared.obligations.SourceFile.{SourceFile}
 use Rattle.decision_map.specs.declared.fault.FitFault.{FitFault}
 use Rattle.decision_map.specs.Fits.{fault_of}
-use Rattle.decision_meaning.specs.Pair.{Somewhere}
+use Rattle.cov_base.specs.Lists.{Somewhere}
 use Rattle.compiler.specs.declared.fault.SourceFault.{SourceFault}
 use Rattle.commands.specs.declared.status.Status.{Status}
 use Rattle.commands.specs.declared.status.Status.TheVariants.{SourceRefused, ObjectRefused, TraceRefused, InputRefused, OverBudget, Trap}

@@ -10,7 +10,7 @@ use Rattle.coverage_set.specs.Covered.{Covered, Has, HasRun}
 use Rattle.decision_map.specs.declared.fault.FitFault.{FitFault}
 use Rattle.decision_map.specs.Decisions.{graph_at}
 use Rattle.decision_map.specs.Fits.{fault_of}
-use Rattle.decision_meaning.specs.Pair.{Somewhere}
+use Rattle.cov_base.specs.Lists.{Somewhere}
 use Rattle.decision_meaning.specs.Path.{IsPathVector}
 use Rattle.commands.specs.Content.{FailsAlone, Shows, ClosesWith, IsReport}
 use Rattle.commands.specs.declared.status.Status.{Status}

@@ -22,14 +22,14 @@ mod coverage;
 mod run;
 
 /// A file to be written.
-#[derive(Debug, Drop)]
+#[derive(Drop)]
 pub struct ReadyFile<'a> {
     pub name: &'a str,
     pub bytes: Vec<u8>,
 }
 
 /// What a command made: the file that it writes, if it does, and the text that it puts.
-#[derive(Debug, Drop)]
+#[derive(Drop)]
 pub struct Ready<'a> {
     pub file: Option<ReadyFile<'a>>,
     pub text: Vec<u8>,

@@ -8,7 +8,7 @@ use Rattle.assembler.specs.declared.piece.Mark.TheVariants.{Row as RowMark, Role
 use Rattle.assembler.specs.declared.piece.Piece.{Piece}
 use Rattle.assembler.specs.Marks.{role_places, branch_places, is_branch_item}
 use Rattle.assembler.specs.Placed.{words_of, labels_of, labels_from, labels_at, labels}
-use Rattle.decision_meaning.specs.Pair.{Everywhere}
+use Rattle.cov_base.specs.Lists.{Everywhere}
 use Rattle.kernel_code.specs.Marked.{conditions_marked}
 use Rattle.kernel_code.specs.Pieces.{conditions_of_pieces}
 use Rattle.kernel_ir.specs.Obligations.{Condition}

@@ -14,7 +14,7 @@ use Rattle.decision_map.specs.Decisions.{graph_at}
 use Rattle.decision_meaning.specs.Expr as logic
 use Rattle.decision_meaning.specs.Expr.{Expr, postfix_of, IsPostfixOf}
 use Rattle.decision_meaning.specs.Graph.{Edges, graph}
-use Rattle.decision_meaning.specs.Pair.{Everywhere}
+use Rattle.cov_base.specs.Lists.{Everywhere}
 use Rattle.object_format.specs.Decisions.{AreExpression}
 use Rattle.object_format.specs.Fields.{condition_count}
 use Rattle.object_format.specs.declared.object.Object.{Object}

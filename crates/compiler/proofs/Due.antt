@@ -12,7 +12,7 @@ use Rattle.compiler.proofs.Conditions.{named}
 use Rattle.compiler.proofs.Counts.{of_item, of_each_item, both_lists, sum_of_map, sum_of_ones, Tells, hits_itself, counted_there, there_counted, none_twice}
 use Rattle.compiler.proofs.DecisionEntries.{size_positive, numbered_from, first_number, numbers_behind, count_at}
 use Rattle.cov_base.specs.declared.obligations.DecEntry.{DecEntry}
-use Rattle.decision_meaning.specs.Pair.{Everywhere}
+use Rattle.cov_base.specs.Lists.{Everywhere}
 use Rattle.kernel_ir.specs.Obligations.{Condition}
 use Rattle.lower.specs.Marked as marked
 use Rattle.object_format.specs.Fields.{condition_count}

@@ -17,7 +17,7 @@ use Rattle.compiler.proofs.ListedLaws.{places_law, conditions_law, few_law, once
 use Rattle.compiler.proofs.Numbered.{numbered_law, stay_law, decisions_stay_law, decision_places_law, obligations_law}
 use Rattle.compiler.proofs.Order.{found_rise, found_ordered}
 use Rattle.compiler.proofs.PlainPrograms.{structured_law, limit_law}
-use Rattle.decision_meaning.specs.Pair.{Everywhere}
+use Rattle.cov_base.specs.Lists.{Everywhere}
 use Rattle.compiler.specs.Listed.{entry_at, obligations_at}
 use Rattle.ada_places.specs.Rising.{StatementsRise, DecisionsRise}
 use Rattle.object_format.specs.Fields.{are_statements, are_decisions}

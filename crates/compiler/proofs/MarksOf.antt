@@ -10,7 +10,7 @@ use Rattle.compiler.proofs.Sound.{starts_law, found_law, entries_long}
 use Rattle.compiler.specs.Made.{IsCompilable, IsMadeOf}
 use Rattle.compiler.specs.Source.{IsRowOf, IsRoleOf, IsCondition, HasItsMarks}
 use Rattle.cov_base.specs.declared.obligations.DecEntry.{DecEntry}
-use Rattle.decision_meaning.specs.Pair.{Everywhere, Somewhere}
+use Rattle.cov_base.specs.Lists.{Everywhere, Somewhere}
 use Rattle.line_table.specs.declared.roles.Role.{Role}
 use Rattle.line_table.specs.declared.rows.Row.{Row}
 use Rattle.object_format.specs.declared.object.Object.{Object}

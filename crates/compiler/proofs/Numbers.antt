@@ -1,6 +1,6 @@
 -- Numbers that follow one another.
 use Rattle.std.proofs.Common.{◌≡◌, ℕ, zero, suc, ◌+◌, ◌<◌, List, ◌∷◌, ◌++◌, ap, ◌∙◌, arith}
-use Rattle.decision_meaning.specs.Pair.{Everywhere}
+use Rattle.cov_base.specs.Lists.{Everywhere}
 use Rattle.ada_meaning.specs.Objects.{AreDistinct}
 use Rattle.ada_meaning.specs.Obligations.{numbers}
 

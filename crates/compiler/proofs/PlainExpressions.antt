@@ -5,7 +5,7 @@ use Rattle.std.proofs.lemmas.Bool.Decides.{nat_tests}
 use Rattle.std.proofs.lemmas.Option.{IfSome_then}
 use Rattle.std.specs.Option.{option_and_then}
 use Rattle.cov_base.specs.declared.position.Pos.{Pos}
-use Rattle.decision_meaning.specs.Pair.{Everywhere}
+use Rattle.cov_base.specs.Lists.{Everywhere}
 use Rattle.ada_syntax.specs.Nodes.{logical_operator_nodes, expr_nodes, exprs_nodes, name_nodes}
 use Rattle.ada_syntax.specs.Tree as source
 use Rattle.ada_syntax.specs.declared.expr.UnaryOperator.{UnaryOperator}

@@ -15,7 +15,7 @@ use Rattle.compiler.proofs.Counts.{of_item}
 use Rattle.compiler.proofs.Due.{IsOf, HaveConditions}
 use Rattle.compiler.specs.Held.{HoldsImage}
 use Rattle.cov_base.specs.declared.obligations.DecEntry.{DecEntry}
-use Rattle.decision_meaning.specs.Pair.{Everywhere}
+use Rattle.cov_base.specs.Lists.{Everywhere}
 use Rattle.kernel_code.proofs.PieceLaws.{pieces_are_marked}
 use Rattle.kernel_code.specs.Calls.{first_layout, setting}
 use Rattle.kernel_code.specs.Code.{start_lines, body_lines}
@@ -29,8 +29,9 @@ use Rattle.line_table.specs.declared.roles.Role.{Role}
 use Rattle.linker.proofs.Roles.{roles_are_branches}
 use Rattle.linker.specs.Linked.{role_of, roles_from, linked}
 use Rattle.object_format.specs.Fields.{is_role, is_other_role, is_condition_role, condition_count}
-use Rattle.object_format.specs.RoleCheck.{is_branch, branches_from, is_condition, condition_of, conditions_of, AreWhole, PassesRole}
+use Rattle.object_format.specs.RoleCheck.{branches_from, is_condition, condition_of, conditions_of, AreWhole, PassesRole}
 use Rattle.object_format.specs.declared.object.Object.{Object}
+use Rattle.rv_isa.specs.Control.{is_branch, holds}
 use Rattle.rv_isa.specs.Decoding.{instr_of}
 
 both_hold : (a b : Bool) → a ≡ true → b ≡ true → (a && b) ≡ true
@@ -174,7 +175,7 @@ module _ (entries : List DecEntry) where
 
 branches_few : (address : ℕ) (words : List ℕ) → length (branches_from address words) ≤ length words
 branches_few address [] = omega arith
-branches_few address (word ∷ words) = by_test (is_branch (instr_of word)) (branches_few (address + 4) words)
+branches_few address (word ∷ words) = by_test (holds is_branch (instr_of word)) (branches_few (address + 4) words)
   where
     by_test : (b : Bool) → length (branches_from (address + 4) words) ≤ length words
         → length (if b then address ∷ branches_from (address + 4) words else branches_from (address + 4) words) ≤ length (word ∷ words)

@@ -20,7 +20,7 @@ use Rattle.compiler.proofs.RowStarts.{named, start_at, starts_of_linked, starts_
 use Rattle.compiler.specs.Made.{places_in, IsCompilable, IsMadeOf}
 use Rattle.cov_base.specs.declared.obligations.Obligations.{Obligations}
 use Rattle.cov_base.specs.declared.position.Pos.{Pos}
-use Rattle.decision_meaning.specs.Pair.{Everywhere}
+use Rattle.cov_base.specs.Lists.{Everywhere}
 use Rattle.kernel_code.proofs.PieceLaws.{pieces_are_marked}
 use Rattle.kernel_code.specs.Pieces.{kernel_pieces}
 use Rattle.kernel_ir.specs.Obligations.{conditions}

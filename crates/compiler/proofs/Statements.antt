@@ -16,7 +16,7 @@ use Rattle.cov_base.specs.declared.obligations.DecEntry.{DecEntry}
 use Rattle.cov_base.specs.declared.obligations.Place.{Place}
 use Rattle.cov_base.specs.declared.obligations.StmtEntry.{StmtEntry}
 use Rattle.cov_base.specs.declared.position.Pos.{Pos}
-use Rattle.decision_meaning.specs.Pair.{Everywhere}
+use Rattle.cov_base.specs.Lists.{Everywhere}
 use Rattle.compiler.specs.Listed.{entry_at}
 use Rattle.cov_base.specs.TextOrder.{is_followed, rise}
 use Rattle.object_format.specs.Fields.{is_counted, is_statement, statement_key, are_statements, is_letter, is_decision, decision_key, are_decisions}

@@ -8,7 +8,7 @@ use Rattle.ada_meaning.specs.Tree.{shape_of, conditions_of}
 use Rattle.decision_meaning.specs.Expr.{negates_once}
 use Rattle.compiler.specs.Held.{HoldsImage}
 use Rattle.cov_base.specs.declared.position.Pos.{Pos}
-use Rattle.decision_meaning.specs.Pair.{Everywhere}
+use Rattle.cov_base.specs.Lists.{Everywhere}
 use Rattle.compiler.specs.Listed.{obligations_at}
 use Rattle.lower.specs.Lowered.{kernel_of}
 use Rattle.lower.specs.Sizes.{all_nodes}

@@ -7,7 +7,7 @@ use Rattle.compiler.specs.Behaves.{Behaves, EndsInTime}
 use Rattle.compiler.specs.Legal.{IsLegal}
 use Rattle.cov_base.specs.declared.obligations.DecEntry.{DecEntry}
 use Rattle.cov_base.specs.declared.obligations.SourceFile.{SourceFile}
-use Rattle.decision_meaning.specs.Pair.{Somewhere}
+use Rattle.cov_base.specs.Lists.{Somewhere}
 use Rattle.line_table.specs.declared.roles.Role.{Role}
 use Rattle.line_table.specs.declared.rows.Row.{Row}
 use Rattle.object_format.specs.declared.object.FileEntry.{FileEntry}

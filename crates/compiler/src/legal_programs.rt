@@ -5,7 +5,7 @@ ghost use Rattle.std.specs.Prelude.{◌≡◌, ◌≤◌, ◌<◌, ◌+◌, ◌-
 ghost use Rattle.ada_syntax.specs.Nodes.{capped, unit_nodes};
 ghost use Rattle.ada_syntax.specs.declared.unit.Unit.{Unit as LibraryUnit};
 ghost use Rattle.cov_base.specs.declared.obligations.Region.{Region};
-ghost use Rattle.decision_meaning.specs.Pair.{Everywhere};
+ghost use Rattle.cov_base.specs.Lists.{Everywhere};
 ghost use Rattle.ada_meaning.specs.Collected as collected;
 ghost use Rattle.ada_meaning.specs.Collected.{labels_of, decisions_of};
 ghost use Rattle.ada_meaning.specs.Objects.{IsDeclaredOnce};

@@ -18,7 +18,7 @@ use std::marker::Model;
 
 /// The condition graph of a decision: a node for each condition, in their order, and two leaves,
 /// the outcomes. Contracts see where the edges of each node lead.
-#[derive(Debug, Drop)]
+#[derive(Drop)]
 pub struct Graph {
     nodes: Vec<Exits>,
 }

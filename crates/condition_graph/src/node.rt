@@ -6,7 +6,7 @@ ghost use Rattle.decision_meaning.specs.Graph.{target};
 use cov_base::CondIx;
 
 /// Where an edge leads.
-#[derive(Clone, Copy, Debug, PartialEq, Eq)]
+#[derive(Clone, Copy, PartialEq, Eq)]
 pub enum Next {
     /// To the node of a condition.
     Node(CondIx),
@@ -15,14 +15,14 @@ pub enum Next {
 }
 
 /// Where the two edges of a node lead.
-#[derive(Clone, Copy, Debug, PartialEq, Eq)]
+#[derive(Clone, Copy, PartialEq, Eq)]
 pub struct Exits {
     pub on_true: Next,
     pub on_false: Next,
 }
 
 /// A step of a path: a node, and the value by which it is left.
-#[derive(Clone, Copy, Debug, PartialEq, Eq)]
+#[derive(Clone, Copy, PartialEq, Eq)]
 pub(crate) struct Step {
     pub(crate) node: CondIx,
     pub(crate) value: bool,

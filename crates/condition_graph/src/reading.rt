@@ -18,7 +18,7 @@ const OR_ELSE: u8 = 34;
 
 /// An expression that is still to be read: where its outcomes lead. If `goes_on` is a value, then
 /// that outcome leads to the first node that has been read once the expression begins.
-#[derive(Clone, Copy, Debug, PartialEq, Eq)]
+#[derive(Clone, Copy, PartialEq, Eq)]
 pub(crate) struct Pending {
     pub(crate) exits: Exits,
     pub(crate) goes_on: Option<bool>,

@@ -11,14 +11,14 @@ pub type Digest = [u8; 32];
 pub type ExceptionName = Bytes;
 
 /// A source file: its name, and its bytes.
-#[derive(Debug, Drop)]
+#[derive(Drop)]
 pub struct SourceFile {
     pub name: Bytes,
     pub bytes: Bytes,
 }
 
 /// A statement obligation: where the statement begins.
-#[derive(Clone, Copy, Debug, PartialEq, Eq, PartialOrd, Ord)]
+#[derive(Clone, Copy, PartialEq, Eq, PartialOrd, Ord)]
 pub struct StmtEntry {
     pub file: u32,
     pub line: u32,
@@ -26,14 +26,14 @@ pub struct StmtEntry {
 }
 
 /// A line and a column of a file that is known from elsewhere.
-#[derive(Clone, Copy, Debug, PartialEq, Eq, PartialOrd, Ord)]
+#[derive(Clone, Copy, PartialEq, Eq, PartialOrd, Ord)]
 pub struct Place {
     pub line: u32,
     pub column: u32,
 }
 
 /// The letter that says where a decision stands.
-#[derive(Clone, Copy, Debug, PartialEq, Eq, PartialOrd, Ord)]
+#[derive(Clone, Copy, PartialEq, Eq, PartialOrd, Ord)]
 pub struct Letter(pub u8);
 
 impl Letter {
@@ -49,14 +49,14 @@ impl Letter {
 
 /// A decision's expression in postfix form, a byte for each part: 0 to 31 is that condition, 32 is
 /// `not`, 33 `and then`, 34 `or else`.
-#[derive(Debug, Drop)]
+#[derive(Drop)]
 pub struct DecisionExpr {
     pub postfix: Bytes,
 }
 
 /// A decision: the statement that holds it, where it begins, its letter, its expression, and where
 /// each of its conditions begins.
-#[derive(Debug, Drop)]
+#[derive(Drop)]
 pub struct DecEntry {
     pub statement: StmtId,
     pub file: u32,
@@ -68,7 +68,7 @@ pub struct DecEntry {
 }
 
 /// A region that is exempt from coverage, from its On pragma to its Off pragma, and why.
-#[derive(Debug, Drop)]
+#[derive(Drop)]
 pub struct Region {
     pub file: u32,
     pub from_line: u32,
@@ -80,7 +80,7 @@ pub struct Region {
 
 /// An instance of a generic: its name, and where it is instantiated. The first of a program is all
 /// that stands in no generic: it has an empty name and zeros.
-#[derive(Debug, Drop)]
+#[derive(Drop)]
 pub struct InstanceEntry {
     pub name: Bytes,
     pub file: u32,
@@ -91,7 +91,7 @@ pub struct InstanceEntry {
 /// What coverage has to show of a program. Statements rise strictly by file, line and column,
 /// decisions don't fall by them, and instances and exceptions are numbered by their order, the
 /// exceptions from 1.
-#[derive(Debug, Drop)]
+#[derive(Drop)]
 pub struct Obligations {
     pub statements: Seq<StmtEntry>,
     pub decisions: Seq<DecEntry>,

@@ -6,7 +6,7 @@ use Rattle.decision_map.specs.Fits.{foreign, beyond_exceptions, not_a_block, wro
 use Rattle.decision_map.specs.Kinds.{kinds_of_text}
 use Rattle.decision_map.specs.Roles.{needs_history}
 use Rattle.decision_map.specs.declared.fault.FitFault.TheVariants.{HistoryAddress}
-use Rattle.decision_meaning.specs.Pair.{Everywhere}
+use Rattle.cov_base.specs.Lists.{Everywhere}
 use Rattle.object_format.specs.declared.object.Object.{Object}
 use Rattle.trace_format.specs.declared.trace.HistoryEntry.{HistoryEntry}
 use Rattle.trace_format.specs.Trace.{TraceFile}

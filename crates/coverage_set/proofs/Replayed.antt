@@ -8,7 +8,7 @@ use Rattle.cov_base.specs.declared.event.Event.{Event}
 use Rattle.decision_map.specs.Decisions.{is_tree_at}
 use Rattle.decision_map.specs.Roles.{condition_at, needs_history}
 use Rattle.decision_map.specs.declared.condition.Condition.{Condition as Decided}
-use Rattle.decision_meaning.specs.Pair.{Somewhere, Everywhere}
+use Rattle.cov_base.specs.Lists.{Somewhere, Everywhere}
 use Rattle.object_facts.specs.Object.{facts_of, condition_of}
 use Rattle.object_format.specs.declared.object.Object.{Object}
 use Rattle.trace_format.specs.declared.trace.HistoryEntry.{HistoryEntry}

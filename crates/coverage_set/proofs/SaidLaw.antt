@@ -6,7 +6,7 @@ use Rattle.cov_base.specs.declared.event.Vector.{Vector}
 use Rattle.cov_base.specs.declared.position.DecId.{DecId}
 use Rattle.cov_base.specs.declared.position.StmtId.{StmtId}
 use Rattle.cov_base.specs.declared.position.InstId.{InstId}
-use Rattle.decision_meaning.specs.Pair.{Somewhere, Everywhere}
+use Rattle.cov_base.specs.Lists.{Somewhere, Everywhere}
 use Rattle.line_table.specs.declared.rows.Row.{Row}
 use Rattle.object_facts.proofs.Fair.{fair}
 use Rattle.object_facts.specs.Object.{facts_of}

@@ -8,7 +8,7 @@ use Rattle.cov_base.specs.declared.event.Event.{Event}
 use Rattle.cov_base.specs.declared.event.Event.TheVariants.{Start}
 use Rattle.cov_base.specs.declared.position.StmtId.{StmtId}
 use Rattle.cov_base.specs.declared.position.InstId.{InstId}
-use Rattle.decision_meaning.specs.Pair.{Somewhere, Everywhere}
+use Rattle.cov_base.specs.Lists.{Somewhere, Everywhere}
 use Rattle.line_table.specs.declared.rows.Row.{Row}
 use Rattle.object_facts.specs.Object.{row_of, facts_of}
 use Rattle.object_format.specs.Checked.{IsSound}

@@ -1,7 +1,7 @@
 -- What a coverage stands for.
 use Rattle.std.specs.Prelude.{◌≡◌, ◌≢◌, ◌↔◌, ◌⊎◌, ℕ, List, length, AllPairs}
 use Rattle.cov_base.specs.declared.event.Event.{Event}
-use Rattle.decision_meaning.specs.Pair.{Somewhere}
+use Rattle.cov_base.specs.Lists.{Somewhere}
 use Rattle.object_format.specs.declared.object.Object.{Object}
 
 -- an object, the closing digests of the traces of its runs, and the events of these runs

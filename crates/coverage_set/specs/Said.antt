@@ -5,7 +5,7 @@ use Rattle.cov_base.specs.declared.event.Event.{Event}
 use Rattle.cov_base.specs.declared.event.Event.TheVariants.{Start}
 use Rattle.cov_base.specs.declared.failure.Failure.{Failure}
 use Rattle.cov_base.specs.declared.failure.Failure.TheVariants.{Fault, WantOfMemory}
-use Rattle.decision_meaning.specs.Pair.{Everywhere}
+use Rattle.cov_base.specs.Lists.{Everywhere}
 use Rattle.line_table.specs.declared.rows.Row.{Row}
 use Rattle.trace_format.specs.declared.trace.Block.{Block}
 use Rattle.transcript.specs.Facts.{Facts}

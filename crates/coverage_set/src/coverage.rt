@@ -4,7 +4,7 @@ ghost use Rattle.std.specs.Prelude.{◌≡◌, ◌≢◌, ◌↔◌, ◌⊎◌, 
 ghost use Rattle.std.specs.List.Sorted.{IsStrictlySortedBy};
 ghost use Rattle.cov_base.specs.declared.event.Event.{Event};
 ghost use Rattle.decision_map.specs.Fits.{fault_of};
-ghost use Rattle.decision_meaning.specs.Pair.{Somewhere};
+ghost use Rattle.cov_base.specs.Lists.{Somewhere};
 ghost use Rattle.object_facts.specs.Object.{facts_of};
 ghost use Rattle.object_format.specs.Checked.{IsSound};
 ghost use Rattle.trace_format.specs.Checks.{IsClosed};

@@ -1,7 +1,7 @@
 //! Items that are gathered one by one, of which most stand there already.
 
 ghost use Rattle.std.specs.Prelude.{◌≡◌, ◌↔◌, ◌⊎◌, [], OnOk};
-ghost use Rattle.decision_meaning.specs.Pair.{Somewhere};
+ghost use Rattle.cov_base.specs.Lists.{Somewhere};
 
 use crate::exact::Exact;
 use crate::set::SortedSet;

@@ -3,7 +3,7 @@
 ghost use Rattle.std.specs.Prelude.{◌≡◌, ◌↔◌, ◌⊎◌, [], IfOk, IfErr, OnOk, option_to_list, true};
 ghost use Rattle.cov_base.specs.declared.event.Event.{Event};
 ghost use Rattle.decision_map.specs.Roles.{needs_history};
-ghost use Rattle.decision_meaning.specs.Pair.{Somewhere, Everywhere};
+ghost use Rattle.cov_base.specs.Lists.{Somewhere, Everywhere};
 ghost use Rattle.object_facts.specs.Object.{facts_of};
 ghost use Rattle.object_format.specs.Checked.{IsSound};
 ghost use Rattle.trace_format.specs.declared.trace.HistoryEntry.{HistoryEntry};

@@ -3,7 +3,7 @@
 ghost use Rattle.std.specs.Prelude.{◌≡◌, ◌≢◌, ◌↔◌, ◌⊎◌, ◌++◌, ◌∷◌, ◌+◌, ◌<◌, [], length, IfOk, IfSome, MatchOption, AllPairs, true};
 ghost use Rattle.std.specs.List.Sorted.{IsStrictlySortedBy};
 ghost use Rattle.std.specs.Set.{sorted_merge};
-ghost use Rattle.decision_meaning.specs.Pair.{Somewhere};
+ghost use Rattle.cov_base.specs.Lists.{Somewhere};
 
 use crate::exact::Exact;
 use std::alloc::{AllocError, Global};

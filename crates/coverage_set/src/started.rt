@@ -3,7 +3,7 @@
 ghost use Rattle.std.specs.Prelude.{◌≡◌, ◌≤◌, ◌++◌, [], ◌∷◌, List, length, slice_get, drop, IfOk, IfSome, OnOk, if◌then◌else◌};
 ghost use Rattle.std.specs.List.{list_any};
 ghost use Rattle.cov_base.specs.declared.event.Event.TheVariants.{Start};
-ghost use Rattle.decision_meaning.specs.Pair.{Everywhere};
+ghost use Rattle.cov_base.specs.Lists.{Everywhere};
 ghost use Rattle.line_table.specs.declared.rows.Row.{Row};
 ghost use Rattle.object_format.specs.Checked.{IsSound};
 ghost use Rattle.coverage_set.specs.Said.{covers, starts_in, AreFrom};

@@ -11,16 +11,17 @@ use Rattle.object_format.specs.declared.object.Object.{Object}
 use Rattle.object_format.specs.Checked.{IsSound}
 use Rattle.object_format.specs.Decisions.{AreExpression, PassesDecision}
 use Rattle.object_format.specs.Fields.{passes_field}
-use Rattle.object_format.specs.RoleCheck.{is_branch, branches_from, PassesRole}
+use Rattle.object_format.specs.RoleCheck.{branches_from, PassesRole}
 use Rattle.rv_isa.specs.declared.instr.Instr.{Instr}
 use Rattle.rv_isa.specs.declared.instr.Instr.TheVariants.{Upper, Jal, Jalr, Branch as ConditionalBranch, Load, Store, Immediate, Shift, Register, Fence, Ecall, Ebreak}
 use Rattle.rv_isa.specs.Decoding.{instr_of}
+use Rattle.rv_isa.specs.Control.{is_branch, holds}
 use Rattle.decision_map.specs.declared.kind.WordKind.TheVariants.{Branch, Stop}
 use Rattle.decision_map.specs.Kinds.{kind_of_instr, kind_of_word, kind_in, kinds_of_text}
 use Rattle.decision_map.specs.Roles.{IsMappable}
 use Rattle.decision_map.proofs.Standing.{place_of_address}
 
-kind_of_branch : (i : Option Instr) → is_branch i ≡ true → kind_of_instr i ≡ Branch
+kind_of_branch : (i : Option Instr) → holds is_branch i ≡ true → kind_of_instr i ≡ Branch
 kind_of_branch None is = cc
 kind_of_branch (Some (Upper op rd imm)) is = cc
 kind_of_branch (Some (Jal rd halves)) is = cc
@@ -35,7 +36,7 @@ kind_of_branch (Some (Fence rd rs1 imm)) is = cc
 kind_of_branch (Some Ecall) is = cc
 kind_of_branch (Some Ebreak) is = cc
 
-branch_word : (word : ℕ) → is_branch (instr_of word) ≡ true → kind_of_word word ≡ Branch
+branch_word : (word : ℕ) → holds is_branch (instr_of word) ≡ true → kind_of_word word ≡ Branch
 unfolding kind_of_word
 branch_word word is = kind_of_branch (instr_of word) is
 
@@ -56,9 +57,9 @@ later from word words address at = record {
 
 each_branch : (from : ℕ) (words : List ℕ) (i : ℕ) → i < length (branches_from from words) → BranchAt from words (get_or (branches_from from words) i 0)
 each_branch from [] i within = absurd (omega arith)
-each_branch from (word ∷ words) i within = by_word (is_branch (instr_of word)) refl i within (each_branch (from + 4) words)
+each_branch from (word ∷ words) i within = by_word (holds is_branch (instr_of word)) refl i within (each_branch (from + 4) words)
   where
-    by_word : (b : Bool) → is_branch (instr_of word) ≡ b → (i : ℕ) → i < length (cond b (from ∷ branches_from (from + 4) words) (branches_from (from + 4) words))
+    by_word : (b : Bool) → holds is_branch (instr_of word) ≡ b → (i : ℕ) → i < length (cond b (from ∷ branches_from (from + 4) words) (branches_from (from + 4) words))
         → ((j : ℕ) → j < length (branches_from (from + 4) words) → BranchAt (from + 4) words (get_or (branches_from (from + 4) words) j 0))
         → BranchAt from (word ∷ words) (get_or (cond b (from ∷ branches_from (from + 4) words) (branches_from (from + 4) words)) i 0)
     by_word true is zero within each = record { place = zero; is = omega arith; within = omega arith; branch = branch_word word is }
@@ -68,7 +69,7 @@ each_branch from (word ∷ words) i within = by_word (is_branch (instr_of word))
 branches_rise : (from : ℕ) (words : List ℕ) (i j : ℕ) → i < j → j < length (branches_from from words)
     → get_or (branches_from from words) i 0 < get_or (branches_from from words) j 0
 branches_rise from [] i j before within = absurd (omega arith)
-branches_rise from (word ∷ words) i j before within = by_word (is_branch (instr_of word)) i j before within (branches_rise (from + 4) words)
+branches_rise from (word ∷ words) i j before within = by_word (holds is_branch (instr_of word)) i j before within (branches_rise (from + 4) words)
   where
     by_word : (b : Bool) (i j : ℕ) → i < j → j < length (cond b (from ∷ branches_from (from + 4) words) (branches_from (from + 4) words))
         → ((i j : ℕ) → i < j → j < length (branches_from (from + 4) words) → get_or (branches_from (from + 4) words) i 0 < get_or (branches_from (from + 4) words) j 0)

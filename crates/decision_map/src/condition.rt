@@ -8,7 +8,7 @@ use line_table::{Role, RoleKind};
 
 /// A condition of a decision, as a conditional branch decides it: which value it has where the branch
 /// is taken, and in which instance.
-#[derive(Clone, Copy, Debug, PartialEq, Eq)]
+#[derive(Clone, Copy, PartialEq, Eq)]
 pub struct Condition {
     pub decision: DecId,
     pub condition: CondIx,

@@ -11,7 +11,7 @@ use cov_base::DecEntry;
 use std::alloc::{AllocError, Global};
 
 /// The graph of a decision, and whether it is a tree.
-#[derive(Debug, Drop)]
+#[derive(Drop)]
 pub(crate) struct DecisionGraph {
     pub(crate) graph: Graph,
     pub(crate) is_tree: bool,

@@ -29,7 +29,7 @@ use trace_format::TraceView;
 
 /// What the words and branches of an object mean. Contracts see the object, since all else is a
 /// function of it.
-#[derive(Debug, Drop)]
+#[derive(Drop)]
 pub struct DecisionMap<'a> {
     object: &'a Object,
     kinds: Vec<WordKind>,

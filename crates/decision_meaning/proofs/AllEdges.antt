@@ -6,7 +6,8 @@ use Rattle.decision_meaning.specs.Expr.{Expr, size}
 use Rattle.decision_meaning.specs.Graph.{Next, node, leaf, graph, next_in, IsTree}
 use Rattle.decision_meaning.specs.Marks.{Marks, marks, bit, same, outcome}
 use Rattle.decision_meaning.specs.Path.{Step, LeadsTo, vector_of, IsPathVector}
-use Rattle.decision_meaning.specs.Pair.{turns, agrees, others_agree, is_unique_cause, is_masking, Pair, Everywhere, Somewhere}
+use Rattle.cov_base.specs.Lists.{Everywhere, Somewhere}
+use Rattle.decision_meaning.specs.Pair.{turns, agrees, others_agree, is_unique_cause, is_masking, Pair}
 use Rattle.decision_meaning.specs.Verdict.{TakesEdge, TakesAllEdges, HasPair}
 use Rattle.decision_meaning.proofs.Edges.{edges_rise}
 use Rattle.decision_meaning.proofs.Bits.{some_step, is_at, is_true_at, bit_seen, bit_value}

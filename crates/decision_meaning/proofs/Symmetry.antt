@@ -3,7 +3,8 @@ use Rattle.std.proofs.Common.{◌≡◌, ℕ, zero, suc, Bool, true, false, not,
 use Rattle.cov_base.specs.declared.event.Vector.{Vector}
 use Rattle.decision_meaning.specs.Expr.{Expr, size}
 use Rattle.decision_meaning.specs.Marks.{Marks, marks, outcome, unmasked, precedes}
-use Rattle.decision_meaning.specs.Pair.{turns, others_agree, is_unique_cause, is_masking, Pair, pair_precedes, Everywhere, Somewhere, IsLeastPair}
+use Rattle.cov_base.specs.Lists.{Everywhere, Somewhere}
+use Rattle.decision_meaning.specs.Pair.{turns, others_agree, is_unique_cause, is_masking, Pair, pair_precedes, IsLeastPair}
 use Rattle.decision_meaning.proofs.Pairs.{same_swap, and_swap, agrees_swap}
 
 turns_swap : (c : ℕ) (v w : Marks) → turns c v w ≡ turns c w v

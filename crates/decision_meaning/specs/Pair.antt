@@ -1,6 +1,7 @@
 -- Pairs of vectors that show that a condition matters.
 use Rattle.std.specs.Prelude.{◌≡◌, ℕ, zero, suc, nat_eq, Bool, true, false, not, ◌&&◌, ◌||◌, ◌⊎◌, List, [], ◌∷◌, Option, Some, None}
 use Rattle.cov_base.specs.declared.event.Vector.{Vector}
+use Rattle.cov_base.specs.Lists.{Everywhere, Somewhere}
 use Rattle.decision_meaning.specs.Expr.{Expr, size}
 use Rattle.decision_meaning.specs.Marks.{Marks, marks, same, outcome, unmasked, precedes}
 
@@ -35,16 +36,6 @@ pub record Pair : Type 0 where
 abbrev pub pair_precedes : ℕ → (v w : Marks) → (first second : Marks) → Bool
 pair_precedes conditions v w first second =
     precedes conditions v first || not (precedes conditions first v) && precedes conditions w second
-
--- each item of the list is so
-abbrev pub Everywhere : {X : Type 0} → (X → Type 0) → List X → Type 0
-Everywhere P [] = Unit {0}
-Everywhere P (x ∷ xs) = P x × Everywhere P xs
-
--- some item of the list is so
-abbrev pub Somewhere : {X : Type 0} → (X → Type 0) → List X → Type 0
-Somewhere P [] = ⊥
-Somewhere P (x ∷ xs) = P x ⊎ Somewhere P xs
 
 -- a pair of two vectors of the list that passes the test
 pub record IsPairOf (test : Marks → Marks → Bool) (vectors : List Vector) (p : Pair) : Type 0 where

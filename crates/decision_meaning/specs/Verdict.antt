@@ -6,7 +6,8 @@ use Rattle.decision_meaning.specs.Expr.{Expr, size}
 use Rattle.decision_meaning.specs.Graph.{graph}
 use Rattle.decision_meaning.specs.Marks.{Marks, marks, bit, outcome}
 use Rattle.decision_meaning.specs.Path.{IsPathVector}
-use Rattle.decision_meaning.specs.Pair.{Pair, Somewhere, IsPairOf}
+use Rattle.cov_base.specs.Lists.{Somewhere}
+use Rattle.decision_meaning.specs.Pair.{Pair, IsPairOf}
 
 -- a statement is covered where it was started
 abbrev pub IsStarted : List StmtId → StmtId → Type 0

@@ -9,7 +9,8 @@ ghost use Rattle.decision_meaning.specs.Expr.{Expr, size, value_of, IsPostfixOf}
 ghost use Rattle.decision_meaning.specs.Expression.{expression_of};
 ghost use Rattle.decision_meaning.specs.Graph.{graph, node, leaf, next_in, IsTree};
 ghost use Rattle.decision_meaning.specs.Marks.{Marks, marks, outcome, unmasked, precedes};
-ghost use Rattle.decision_meaning.specs.Pair.{is_unique_cause, is_masking, Pair, Everywhere, IsLeastPair};
+ghost use Rattle.cov_base.specs.Lists.{Everywhere};
+ghost use Rattle.decision_meaning.specs.Pair.{is_unique_cause, is_masking, Pair, IsLeastPair};
 ghost use Rattle.decision_meaning.specs.Path.{Step, LeadsTo, vector_of, IsPathVector, walked};
 ghost use Rattle.decision_meaning.specs.Turn.{can_turn};
 ghost use Rattle.decision_meaning.specs.Verdict.{TakesAllEdges, HasPair};

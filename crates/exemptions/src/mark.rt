@@ -19,7 +19,7 @@ use cov_base::{Bytes, Pos};
 use std::alloc::{AllocError, Global};
 
 /// What an exemption pragma marks, and where it stands.
-#[derive(Debug, Drop)]
+#[derive(Drop)]
 pub enum Mark {
     /// A region begins, with its justification.
     On(Pos, Bytes),

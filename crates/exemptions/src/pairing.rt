@@ -38,7 +38,7 @@ impl From<Unpaired> for Failure<Unpaired> {
 }
 
 /// What is open behind some pragmas.
-#[derive(Debug, Drop)]
+#[derive(Drop)]
 enum Open {
     /// No region.
     Nothing,

@@ -5,7 +5,7 @@ ghost use Rattle.expression_parser.specs.Extents.{opens, rank};
 
 /// How much of the grammar is open. Each extent has the productions of those before it. A production
 /// that is closed derives nothing.
-#[derive(Clone, Copy, Debug, PartialEq, Eq)]
+#[derive(Clone, Copy, PartialEq, Eq)]
 pub enum Extent {
     /// Library procedures of `null;`, `return;` and calls whose actuals are numerals.
     StraightLine,

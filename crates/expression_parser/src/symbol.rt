@@ -6,7 +6,7 @@ ghost use Rattle.expression_parser.specs.Symbols.{symbol_of};
 use ada_lexer::Lexeme;
 
 /// A lexeme without a numeral's value. The reserved words that stand in no production are `Other`.
-#[derive(Clone, Copy, Debug, PartialEq, Eq)]
+#[derive(Clone, Copy, PartialEq, Eq)]
 pub enum Symbol {
     Identifier,
     Numeral,

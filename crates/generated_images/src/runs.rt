@@ -11,7 +11,7 @@ use rv_semantics::{MEMORY_BYTES, TEXT_START};
 use std::alloc::{AllocError, Global};
 
 /// What an executed instruction tells.
-#[derive(Clone, Copy, Debug, PartialEq, Eq)]
+#[derive(Clone, Copy, PartialEq, Eq)]
 pub enum Told {
     /// A statement starts.
     Starts {
@@ -27,7 +27,7 @@ pub enum Told {
 
 /// What a run leaves: the number that it ended with, where it neither trapped nor went over its
 /// budget; the words that were put; what its instructions told, in order; and how many were executed.
-#[derive(Debug, Drop)]
+#[derive(Drop)]
 pub struct Shown {
     pub ending: Option<u32>,
     pub put: Seq<i32>,

@@ -1,7 +1,7 @@
 -- The components of a layout: a list of them, and so many times the same.
 use Rattle.std.proofs.Common.{◌≡◌, ℕ, zero, suc, ◌+◌, ◌-◌, ◌*◌, ◌/◌, ◌^◌, ◌==◌, ◌≤◌, ◌<◌, true, false, List, [], ◌∷◌, ◌++◌, map, length, Some, None, refl, sym, ap, ap₂, subst, ◌∙◌, arith, lit≤, length-append}
 use Rattle.std.proofs.lemmas.Bool.Decides.{nat_tests}
-use Rattle.decision_meaning.specs.Pair.{Everywhere}
+use Rattle.cov_base.specs.Lists.{Everywhere}
 use Rattle.rv_isa.specs.declared.ops.UpperOp.TheVariants.{Lui}
 use Rattle.rv_isa.specs.declared.ops.BranchOp.TheVariants.{Beq}
 use Rattle.rv_isa.specs.declared.ops.ImmediateOp.TheVariants.{Addi}

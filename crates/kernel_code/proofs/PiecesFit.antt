@@ -3,7 +3,7 @@ use Rattle.std.proofs.Common.{◌≡◌, ℕ, suc, ◌+◌, ◌≤◌, ◌<◌, 
 use Rattle.std.specs.List.{AllByRecursion}
 use Rattle.cov_base.specs.declared.position.DecId.{DecId}
 use Rattle.decision_meaning.specs.Graph.{Edges}
-use Rattle.decision_meaning.specs.Pair.{Everywhere}
+use Rattle.cov_base.specs.Lists.{Everywhere}
 use Rattle.assembler.proofs.Codes.{all_append}
 use Rattle.kernel_ir.specs.declared.kernel.Body.{Body}
 use Rattle.kernel_ir.specs.declared.kernel.Kernel.{Kernel}

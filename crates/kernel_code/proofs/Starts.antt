@@ -1,7 +1,7 @@
 -- From the start of a run to its end.
 use Rattle.std.proofs.Common.{◌≡◌, ℕ, zero, suc, ◌+◌, ◌-◌, ◌*◌, ◌/◌, ◌^◌, ◌&&◌, ◌≤◌, ◌<◌, Bool, true, false, cond, nat_lt, nat_le, ℤ, List, [], ◌∷◌, ◌++◌, map, length, slice_index, reverse, None, refl, sym, ap, subst, ◌∙◌, arith, lit≤, lit<}
 use Rattle.std.proofs.lemmas.Bool.Decides.{nat_tests}
-use Rattle.decision_meaning.specs.Pair.{Everywhere}
+use Rattle.cov_base.specs.Lists.{Everywhere}
 use Rattle.rv_isa.specs.declared.ops.UpperOp.TheVariants.{Lui}
 use Rattle.rv_isa.specs.declared.ops.ImmediateOp.TheVariants.{Addi}
 use Rattle.rv_isa.specs.declared.instr.Instr.{Instr}

@@ -5,7 +5,7 @@ use Rattle.std.proofs.lemmas.Bool.Decides.{nat_tests}
 use Rattle.cov_base.specs.declared.position.DecId.{DecId}
 use Rattle.cov_base.specs.declared.position.InstId.{InstId}
 use Rattle.decision_meaning.specs.Graph.{Edges}
-use Rattle.decision_meaning.specs.Pair.{Everywhere}
+use Rattle.cov_base.specs.Lists.{Everywhere}
 use Rattle.decision_meaning.specs.Path.{Step}
 use Rattle.ada_meaning.specs.Types as ada
 use Rattle.ada_meaning.specs.Arithmetic.{base_range, is_within, exact, is_true, natural}

@@ -4,7 +4,7 @@ use Rattle.std.specs.Int.{w32}
 use Rattle.std.specs.Int.RustNames.{FitsSigned}
 use Rattle.cov_base.specs.declared.position.DecId.{DecId}
 use Rattle.decision_meaning.specs.Graph.{Next, node, leaf, Edges}
-use Rattle.decision_meaning.specs.Pair.{Everywhere}
+use Rattle.cov_base.specs.Lists.{Everywhere}
 use Rattle.kernel_ir.specs.declared.code.Edge.{Edge}
 use Rattle.kernel_ir.specs.declared.code.Edge.TheVariants as edge
 use Rattle.kernel_ir.specs.declared.kernel.Body.{Body}

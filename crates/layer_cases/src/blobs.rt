@@ -7,14 +7,14 @@ use sha2::{Digest, Sha256};
 use std::alloc::{AllocError, Global};
 
 /// Bytes under a name.
-#[derive(Debug, Drop)]
+#[derive(Drop)]
 struct Blob {
     name: String,
     bytes: Vec<u8>,
 }
 
 /// The blobs that were begun, the latest last.
-#[derive(Debug, Drop)]
+#[derive(Drop)]
 pub(crate) struct Blobs {
     blobs: Vec<Blob>,
 }

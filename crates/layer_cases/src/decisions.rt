@@ -12,7 +12,7 @@
 
 ghost use Rattle.std.specs.Prelude.{◌≡◌, ◌<◌, IsTrue, length};
 ghost use Rattle.decision_meaning.specs.Expr.{Expr, IsPostfixOf};
-ghost use Rattle.decision_meaning.specs.Pair.{Everywhere};
+ghost use Rattle.cov_base.specs.Lists.{Everywhere};
 ghost use Rattle.decision_meaning.specs.Path.{IsPathVector};
 
 use crate::fault::{Answer, CaseFault};

@@ -137,7 +137,7 @@ fn add_ending(
 }
 
 /// What a run leaves: how it came to its end, the words that it put, and, where it ended, its trace.
-#[derive(Debug, Drop)]
+#[derive(Drop)]
 struct Left {
     answer: Result<Ending, RunFault>,
     put: Vec<i32>,

@@ -7,7 +7,7 @@ use cov_base::{CondIx, DecId, InstId};
 use std::marker::Model;
 
 /// What a conditional branch is there for.
-#[derive(Clone, Copy, Debug, PartialEq, Eq, PartialOrd, Ord)]
+#[derive(Clone, Copy, PartialEq, Eq, PartialOrd, Ord)]
 pub struct RoleKind(pub u8);
 
 impl RoleKind {
@@ -22,7 +22,7 @@ impl RoleKind {
 /// The conditional branch at `address` has this kind. Where it is a condition, it is taken exactly
 /// if that condition has `value`: 1 for True, 0 for False. The other kinds have zeros for decision,
 /// condition, value and instance.
-#[derive(Clone, Copy, Debug, PartialEq, Eq)]
+#[derive(Clone, Copy, PartialEq, Eq)]
 pub struct Role {
     pub address: u32,
     pub kind: RoleKind,
@@ -33,7 +33,7 @@ pub struct Role {
 }
 
 /// The roles of an object. Contracts see them as a list.
-#[derive(Debug, Drop)]
+#[derive(Drop)]
 pub struct Roles {
     roles: Vec<Role>,
 }

@@ -7,7 +7,7 @@ use cov_base::{InstId, StmtId};
 use std::marker::Model;
 
 /// The instruction at `address` is executed once for each start of the statement in the instance.
-#[derive(Clone, Copy, Debug, PartialEq, Eq)]
+#[derive(Clone, Copy, PartialEq, Eq)]
 pub struct Row {
     pub address: u32,
     pub statement: StmtId,
@@ -15,7 +15,7 @@ pub struct Row {
 }
 
 /// The rows of an object. Contracts see them as a list.
-#[derive(Debug, Drop)]
+#[derive(Drop)]
 pub struct Rows {
     rows: Vec<Row>,
 }

@@ -7,8 +7,9 @@ use Rattle.rv_isa.specs.declared.instr.Instr.{Instr}
 use Rattle.rv_isa.specs.declared.instr.Instr.TheVariants.{Branch, Jal}
 use Rattle.rv_isa.specs.Rows.{word, IsInstr}
 use Rattle.rv_isa.specs.Decoding.{instr_of}
+use Rattle.rv_isa.specs.Control.{is_branch, holds}
 use Rattle.rv_isa.proofs.Laws.{again}
-use Rattle.object_format.specs.RoleCheck.{is_branch, branches_from}
+use Rattle.object_format.specs.RoleCheck.{branches_from}
 use Rattle.placed_code.specs.Reach.{branch_halves, jump_halves}
 use Rattle.assembler.specs.declared.piece.Item.{Item}
 use Rattle.assembler.specs.declared.piece.Item.TheVariants.{Plain, Branch as BranchTo, Jump, Call}
@@ -17,7 +18,7 @@ use Rattle.assembler.specs.declared.piece.Mark.TheVariants.{Row as RowMark, Role
 use Rattle.assembler.specs.declared.piece.Piece.{Piece}
 use Rattle.assembler.specs.Placed.{width, words_of, labels_of, labels_from, labels_at, address_of, item_code, items_code, pieces_code, labels}
 use Rattle.assembler.specs.Reach.{IsItem, AreItems}
-use Rattle.assembler.specs.Marks.{branches, is_branch_item, branch_places, role_places}
+use Rattle.assembler.specs.Marks.{is_branch_item, branch_places, role_places}
 use Rattle.assembler.proofs.Codes.{item_length, items_length}
 use Rattle.linker.specs.Linked.{role_of, roles_from}
 use Rattle.linker.specs.Laws.{AllMarked, RolesAreBranches}
@@ -37,12 +38,8 @@ own_labels_are all own first rest e = ap (λ o. unwrap_or o []) (drop_splits all
 
 -- the branches of words
 
-branch_test : (i : Instr) → is_branch (Some i) ≡ branches i
-branch_test (Branch op rs1 rs2 halves) = refl
-branch_test _ = refl
-
-word_test : (i : Instr) → IsInstr i → is_branch (instr_of (word i)) ≡ branches i
-word_test i fits = ap is_branch (again i fits) ∙ branch_test i
+word_test : (i : Instr) → IsInstr i → holds is_branch (instr_of (word i)) ≡ is_branch i
+word_test i fits = ap (holds is_branch) (again i fits)
 
 if_append : (b : Bool) (a : ℕ) (r s : List ℕ) → (if b then a ∷ (r ++ s) else (r ++ s)) ≡ (if b then a ∷ r else r) ++ s
 if_append true a r s = refl
@@ -51,7 +48,7 @@ if_append false a r s = refl
 branches_append : (address : ℕ) (xs ys : List ℕ) → branches_from address (xs ++ ys) ≡ branches_from address xs ++ branches_from (address + 4 * length xs) ys
 branches_append address [] ys = ap (λ a. branches_from a ys) (let e : address ≡ address + 4 * 0 = omega arith in e)
 branches_append address (x ∷ xs) ys =
-    let b = is_branch (instr_of x) in
+    let b = holds is_branch (instr_of x) in
     let next : address + 4 + 4 * length xs ≡ address + 4 * length (x ∷ xs) = omega arith in
     ap (λ r. if b then address ∷ r else r) (branches_append (address + 4) xs ys)
     ∙ (if_append b address (branches_from (address + 4) xs) (branches_from (address + 4 + 4 * length xs) ys)
@@ -59,7 +56,7 @@ branches_append address (x ∷ xs) ys =
 
 -- the branches of items
 
-one_branch : (address : ℕ) (i : Instr) → IsInstr i → branches_from address (word i ∷ []) ≡ (if branches i then address ∷ [] else [])
+one_branch : (address : ℕ) (i : Instr) → IsInstr i → branches_from address (word i ∷ []) ≡ (if is_branch i then address ∷ [] else [])
 one_branch address i fits = ap (λ b. if b then address ∷ [] else []) (word_test i fits)
 
 item_branches : (all : List (List ℕ)) (own address : ℕ) (item : Item) → IsItem item → branches_from address (map word (item_code all own address item)) ≡ (if is_branch_item item then address ∷ [] else [])

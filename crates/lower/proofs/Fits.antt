@@ -14,7 +14,7 @@ use Rattle.ada_meaning.specs.Types as type
 use Rattle.cov_base.specs.declared.position.DecId.{DecId}
 use Rattle.decision_meaning.specs.Graph as logic
 use Rattle.decision_meaning.specs.Graph.{Next, Edges}
-use Rattle.decision_meaning.specs.Pair.{Everywhere}
+use Rattle.cov_base.specs.Lists.{Everywhere}
 use Rattle.kernel_ir.proofs.Joining.{joined_fits, joined_lacks}
 use Rattle.kernel_ir.specs.declared.code.Edge.{Edge}
 use Rattle.kernel_ir.specs.declared.code.Edge.TheVariants as edge

@@ -8,7 +8,7 @@ use Rattle.ada_meaning.specs.State as state
 use Rattle.ada_meaning.specs.State.{World, Outcome, Gives, Raises, OutOfFuel, goes_to, give}
 use Rattle.ada_meaning.specs.Statements.{Flow}
 use Rattle.ada_meaning.specs.Tree as tree
-use Rattle.decision_meaning.specs.Pair.{Everywhere}
+use Rattle.cov_base.specs.Lists.{Everywhere}
 use Rattle.kernel_ir.specs.declared.kernel.Body.{Body}
 use Rattle.kernel_ir.specs.Limits.{IsWithin, most_arguments, widest}
 use Rattle.kernel_ir.specs.Meaning as code

@@ -10,7 +10,7 @@ use Rattle.ada_meaning.specs.Program.{Subprogram, Program}
 use Rattle.ada_meaning.specs.Tree as tree
 use Rattle.ada_meaning.specs.Types as type
 use Rattle.ada_meaning.specs.Resolved.{number_in, bounds_in}
-use Rattle.decision_meaning.specs.Pair.{Everywhere}
+use Rattle.cov_base.specs.Lists.{Everywhere}
 use Rattle.kernel_ir.proofs.Joining.{joined_rows, joined_conditions}
 use Rattle.kernel_ir.specs.declared.code.Edge.{Edge}
 use Rattle.kernel_ir.specs.declared.code.Edge.TheVariants as edge

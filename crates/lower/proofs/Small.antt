@@ -6,7 +6,7 @@ use Rattle.ada_meaning.specs.Program.{Subprogram, Program}
 use Rattle.ada_meaning.specs.Resolved.{number_in, bounds_in}
 use Rattle.ada_meaning.specs.Tree as tree
 use Rattle.ada_meaning.specs.Types as type
-use Rattle.decision_meaning.specs.Pair.{Everywhere}
+use Rattle.cov_base.specs.Lists.{Everywhere}
 use Rattle.kernel_ir.proofs.Joining.{joined_instructions}
 use Rattle.kernel_ir.specs.declared.code.Edge.{Edge}
 use Rattle.kernel_ir.specs.declared.code.Edge.TheVariants as edge

@@ -6,7 +6,7 @@ use Rattle.ada_meaning.specs.Program.{Bounds, Subprogram, Program}
 use Rattle.ada_meaning.specs.Resolved.{number_in, bounds_in}
 use Rattle.ada_meaning.specs.Tree as tree
 use Rattle.ada_meaning.specs.Types as type
-use Rattle.decision_meaning.specs.Pair.{Everywhere, Somewhere}
+use Rattle.cov_base.specs.Lists.{Everywhere, Somewhere}
 
 -- the most objects of a procedure, with those of its blocks
 abbrev pub most_objects : ℕ

@@ -9,7 +9,7 @@ ghost use Rattle.ada_meaning.specs.Obligations.{numbers};
 ghost use Rattle.ada_meaning.specs.Tree.{shape_of, conditions_of};
 ghost use Rattle.decision_meaning.specs.Graph.{Edges};
 ghost use Rattle.decision_meaning.specs.Graph as logic;
-ghost use Rattle.decision_meaning.specs.Pair.{Everywhere};
+ghost use Rattle.cov_base.specs.Lists.{Everywhere};
 ghost use Rattle.kernel_ir.specs.Limits.{IsWellFormed, IsWithin, kernel_instructions};
 ghost use Rattle.kernel_ir.specs.Meaning as code;
 ghost use Rattle.kernel_ir.specs.Obligations.{Condition, rows, conditions};

@@ -1,6 +1,6 @@
 -- What holds everywhere or somewhere in a list.
 use Rattle.std.proofs.Common.{◌≡◌, List, [], ◌∷◌, inl, inr, refl, subst}
-use Rattle.decision_meaning.specs.Pair.{Everywhere, Somewhere}
+use Rattle.cov_base.specs.Lists.{Everywhere, Somewhere}
 
 pub everywhere-map : {X : Type 0} (P Q : X → Type 0) → ((x : X) → P x → Q x) → (xs : List X) → Everywhere P xs → Everywhere Q xs
 everywhere-map P Q f [] h = tt

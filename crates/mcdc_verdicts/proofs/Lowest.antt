@@ -6,7 +6,8 @@ use Rattle.cov_base.specs.declared.event.Vector.{Vector}
 use Rattle.decision_meaning.specs.Expr.{Expr, size}
 use Rattle.decision_meaning.specs.Graph.{graph}
 use Rattle.decision_meaning.specs.Marks.{Marks, marks, bit, same, unmasked, precedes}
-use Rattle.decision_meaning.specs.Pair.{Pair, pair_precedes, is_masking, Everywhere, Somewhere, IsLeastPair}
+use Rattle.cov_base.specs.Lists.{Everywhere, Somewhere}
+use Rattle.decision_meaning.specs.Pair.{Pair, pair_precedes, is_masking, IsLeastPair}
 use Rattle.decision_meaning.specs.Path.{IsPathVector}
 use Rattle.mcdc_verdicts.specs.Search.{widest, IsWord, shows, precedes_least, lower, lowest, pair_of}
 use Rattle.mcdc_verdicts.proofs.Lists.{itself}

@@ -7,7 +7,8 @@ use Rattle.decision_meaning.specs.Marks.{Marks, marks, bit, same, unmasked, prec
 use Rattle.decision_meaning.specs.Expr.{Expr, size}
 use Rattle.decision_meaning.specs.Graph.{graph}
 use Rattle.decision_meaning.specs.Path.{IsPathVector}
-use Rattle.decision_meaning.specs.Pair.{Pair, pair_precedes, is_unique_cause, is_masking, Everywhere, Somewhere, IsPairOf, IsLeastPair}
+use Rattle.cov_base.specs.Lists.{Everywhere, Somewhere}
+use Rattle.decision_meaning.specs.Pair.{Pair, pair_precedes, is_unique_cause, is_masking, IsPairOf, IsLeastPair}
 use Rattle.decision_meaning.proofs.Pairs.{unique_masks}
 use Rattle.mcdc_verdicts.specs.Search.{widest, IsWord, improves, is_behind, lesser, best_with, best_of}
 use Rattle.mcdc_verdicts.proofs.Lists.{everywhere-map, everywhere-item, itself}

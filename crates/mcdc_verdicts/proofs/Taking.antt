@@ -6,7 +6,8 @@ use Rattle.decision_meaning.specs.Expr.{Expr, size}
 use Rattle.decision_meaning.specs.Graph.{graph, IsTree}
 use Rattle.decision_meaning.specs.Marks.{Marks, bit}
 use Rattle.decision_meaning.specs.Path.{IsPathVector}
-use Rattle.decision_meaning.specs.Pair.{Everywhere, Somewhere, is_unique_cause, is_masking}
+use Rattle.cov_base.specs.Lists.{Everywhere, Somewhere}
+use Rattle.decision_meaning.specs.Pair.{is_unique_cause, is_masking}
 use Rattle.decision_meaning.specs.Verdict.{TakesEdge, TakesAllEdges, PathTakesEdge, PathsTakeAllEdges, HasPair, HasPairOfPaths}
 use Rattle.decision_meaning.proofs.AllEdges.{all_edges_law}
 use Rattle.mcdc_verdicts.proofs.Lists.{everywhere-item}

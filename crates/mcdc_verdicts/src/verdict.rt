@@ -9,7 +9,7 @@ use condition_graph::Graph;
 use cov_base::{StmtId, Vector};
 
 /// Which outcomes the evaluations of a decision gave.
-#[derive(Clone, Copy, Debug, PartialEq, Eq)]
+#[derive(Clone, Copy, PartialEq, Eq)]
 pub struct Outcomes {
     pub given_false: bool,
     pub given_true: bool,

@@ -11,10 +11,10 @@ use Rattle.rv_semantics.specs.State.{Image, State, given}
 use Rattle.rv_semantics.specs.Step.{Answer, fetched, decoded, act, step}
 use Rattle.rv_semantics.specs.Run.{Run, after, runs}
 use Rattle.rv_semantics.specs.Run.Outcome.{Ended}
-use Rattle.decision_meaning.specs.Pair.{Everywhere}
+use Rattle.cov_base.specs.Lists.{Everywhere}
 use Rattle.object_format.specs.declared.object.Object.{Object}
 use Rattle.object_format.specs.Checked.{IsSound}
-use Rattle.object_facts.specs.Held.{is_branch, is_transfer}
+use Rattle.rv_isa.specs.Control.{is_branch, is_transfer}
 use Rattle.object_facts.proofs.Steps.{Shows, acts_so}
 use Rattle.object_facts.proofs.Runs.{runs_good}
 use Rattle.transcript.specs.Pieces.{IsEnded}

@@ -15,7 +15,8 @@ use Rattle.rv_semantics.specs.Run.Outcome.{Ended, Trapped}
 use Rattle.transcript.specs.Facts.{Facts}
 use Rattle.transcript.specs.Pieces.{Piece, lengthened, open_after, left_open, GoesOn, RunsOnFrom}
 use Rattle.transcript.specs.Trace.{HasEdges}
-use Rattle.object_facts.specs.Held.{is_branch, is_transfer, holds, instruction_at, AreHeld}
+use Rattle.rv_isa.specs.Control.{is_branch, is_transfer, holds}
+use Rattle.object_facts.specs.Held.{instruction_at, AreHeld}
 use Rattle.object_facts.proofs.Steps.{GoesOn as StepsOn, Shows, acts_so}
 
 -- what is promised of a run that goes on with an open piece

@@ -10,7 +10,7 @@ use Rattle.rv_semantics.specs.State.{Image, State}
 use Rattle.rv_semantics.specs.Bytes.{load_size, store_size, loaded, stored}
 use Rattle.rv_semantics.specs.Layout.{memory_bytes, in_text}
 use Rattle.rv_semantics.specs.Step.{Answer, next_pc, writes, puts, jumps, branches, loads, stores, calls, act}
-use Rattle.object_facts.specs.Held.{is_branch, is_transfer}
+use Rattle.rv_isa.specs.Control.{is_branch, is_transfer}
 
 -- the instruction was seen where it stands, with an edge just if it is a branch, and the next one follows unless it is a transfer
 pub record GoesOn (transfer branch : Bool) (s after : State) (seen : Seen) : Type 0 where

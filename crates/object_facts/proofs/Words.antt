@@ -6,7 +6,7 @@ use Rattle.rv_isa.specs.declared.instr.Instr.{Instr}
 use Rattle.rv_isa.specs.declared.instr.Instr.TheVariants.{Upper, Jal, Jalr, Branch as ConditionalBranch, Load, Store, Immediate, Shift, Register, Fence, Ecall, Ebreak}
 use Rattle.rv_isa.specs.Decoding.{instr_of}
 use Rattle.rv_semantics.specs.Layout.{text_place, text_word}
-use Rattle.object_facts.specs.Held.{is_branch, is_transfer, holds}
+use Rattle.rv_isa.specs.Control.{is_branch, is_transfer, holds}
 use Rattle.decision_map.specs.declared.kind.WordKind.{WordKind}
 use Rattle.decision_map.specs.declared.kind.WordKind.TheVariants.{Stop}
 use Rattle.decision_map.specs.Kinds.{kind_of_instr, kind_of_word, has_edges, place_of, kind_in, kinds_of_text}

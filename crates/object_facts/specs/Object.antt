@@ -4,10 +4,11 @@ use Rattle.decision_map.specs.Decisions.{graph_at, is_tree_at}
 use Rattle.decision_map.specs.Kinds.{kind_in, kinds_of_text}
 use Rattle.decision_map.specs.Roles.{condition_at}
 use Rattle.decision_map.specs.declared.condition.Condition.{Condition as Decided}
-use Rattle.decision_meaning.specs.Pair.{Everywhere}
+use Rattle.cov_base.specs.Lists.{Everywhere}
 use Rattle.line_table.specs.declared.rows.Row.{Row as Line}
 use Rattle.object_format.specs.declared.object.Object.{Object}
-use Rattle.object_facts.specs.Held.{is_branch, is_transfer, holds, instruction_at}
+use Rattle.rv_isa.specs.Control.{is_branch, is_transfer, holds}
+use Rattle.object_facts.specs.Held.{instruction_at}
 use Rattle.rv_semantics.specs.declared.stepped.Seen.{Seen}
 use Rattle.rv_machine.specs.Objects.{object_image}
 use Rattle.transcript.specs.Facts.{Facts, Row, Condition}

@@ -2,22 +2,16 @@
 use Rattle.std.specs.Prelude.{◌≡◌, ◌≢◌, ℕ, ◌+◌, ◌<◌, Bool, true, false, ◌==◌, List, [], ◌∷◌, map, nat_lt, Option, Some, slice_get, filter, AllPairs, Contains, if◌then◌else◌}
 use Rattle.cov_base.specs.declared.obligations.DecEntry.{DecEntry}
 use Rattle.line_table.specs.declared.roles.Role.{Role}
-use Rattle.rv_isa.specs.declared.instr.Instr.{Instr}
-use Rattle.rv_isa.specs.declared.instr.Instr.TheVariants.{Branch}
 use Rattle.rv_isa.specs.Decoding.{instr_of}
+use Rattle.rv_isa.specs.Control.{is_branch, holds}
 use Rattle.object_format.specs.declared.object.Object.{Object}
 use Rattle.object_format.specs.Fields.{condition_count}
-
--- the instruction is a conditional branch
-abbrev pub is_branch : Option Instr → Bool
-is_branch (Some (Branch op rs1 rs2 halves)) = true
-is_branch _ = false
 
 -- the addresses of the conditional branches among words that stand from an address on
 abbrev pub branches_from : ℕ → List ℕ → List ℕ
 branches_from address [] = []
 branches_from address (word ∷ words) =
-    if is_branch (instr_of word) then address ∷ branches_from (address + 4) words else branches_from (address + 4) words
+    if holds is_branch (instr_of word) then address ∷ branches_from (address + 4) words else branches_from (address + 4) words
 
 -- the role is that of a condition
 abbrev pub is_condition : Role → Bool

@@ -10,7 +10,7 @@ pub const TEXT_START: u32 = 0x0001_0000;
 pub const MEMORY_END: u32 = 0x0200_0000;
 
 /// A source file as an object names it: its name, and the SHA-256 of its bytes.
-#[derive(Debug, Drop)]
+#[derive(Drop)]
 pub struct FileEntry {
     pub name: Bytes,
     pub sha256: Digest,
@@ -19,7 +19,7 @@ pub struct FileEntry {
 /// What an object file holds: the address of the first instruction, the words of text, which stand
 /// at [`TEXT_START`], the words of data and their address, the sources, what coverage has to show of
 /// them, the rows and roles of the text, and the digest at the file's end.
-#[derive(Debug, Drop)]
+#[derive(Drop)]
 pub struct Object {
     pub entry: u32,
     pub text: Seq<u32>,

@@ -13,7 +13,7 @@ use spelling::{Formatted, Readable, Short};
 use std::alloc::Global;
 
 /// What an object's file holds between its version and its digest.
-#[derive(Debug, Drop)]
+#[derive(Drop)]
 pub struct Parts {
     pub entry: u32,
     pub text: Seq<u32>,

@@ -16,7 +16,7 @@ use trace_record::Recorder;
 
 /// What one instruction came to: the run goes on with the words that were not read yet, it ended
 /// with a number, or it trapped.
-#[derive(Clone, Copy, Debug, PartialEq, Eq)]
+#[derive(Clone, Copy, PartialEq, Eq)]
 pub enum Turn<'a> {
     On(&'a [i32]),
     End(u32),

@@ -5,7 +5,7 @@ ghost use Rattle.rv_isa.specs.Immediates.{sign_12, branch_offset, jump_offset, u
 use std::marker::Model;
 
 /// One of the integer registers `x0` to `x31`.
-#[derive(Clone, Copy, Debug, PartialEq, Eq)]
+#[derive(Clone, Copy, PartialEq, Eq)]
 pub struct Reg {
     number: u8,
 }
@@ -86,7 +86,7 @@ impl Reg {
 }
 
 /// How far a shift by a constant goes, below 32.
-#[derive(Clone, Copy, Debug, PartialEq, Eq)]
+#[derive(Clone, Copy, PartialEq, Eq)]
 pub struct ShiftAmount {
     amount: u8,
 }
@@ -119,7 +119,7 @@ impl ShiftAmount {
 
 /// The raw 12 bits of an immediate: a signed number in forms I and S, and a signed number of
 /// half-words in form B.
-#[derive(Clone, Copy, Debug, PartialEq, Eq)]
+#[derive(Clone, Copy, PartialEq, Eq)]
 pub struct Imm12 {
     bits: u16,
 }
@@ -211,7 +211,7 @@ impl Imm12 {
 
 /// The raw 20 bits of an immediate: the upper bits of a value in form U, and a signed number of
 /// half-words in form J.
-#[derive(Clone, Copy, Debug, PartialEq, Eq)]
+#[derive(Clone, Copy, PartialEq, Eq)]
 pub struct Imm20 {
     bits: u32,
 }

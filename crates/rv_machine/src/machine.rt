@@ -27,7 +27,7 @@ const CALL_PUT: u32 = 2;
 const CALL_END: u32 = 3;
 
 /// A machine with the text of an object: the program counter, the registers and the memory.
-#[derive(Debug, Drop)]
+#[derive(Drop)]
 pub struct Machine<'a> {
     text: DecodedText<'a>,
     exceptions: usize,

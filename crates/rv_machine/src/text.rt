@@ -11,7 +11,7 @@ use std::marker::Model;
 
 /// The words of a text, and the instruction that each of them holds, if it holds one. Contracts see
 /// the words.
-#[derive(Debug, Drop)]
+#[derive(Drop)]
 pub struct DecodedText<'a> {
     words: &'a [u32],
     instructions: Vec<Option<Instr>>,

@@ -26,7 +26,7 @@ const ENTRY: usize = 9;
 
 /// A run of instructions that are executed one after another, from `start` to the control transfer
 /// at `last`. The flags say which edges of that transfer were taken in the run.
-#[derive(Clone, Copy, Debug, PartialEq, Eq)]
+#[derive(Clone, Copy, PartialEq, Eq)]
 pub struct Block {
     pub start: u32,
     pub last: u32,
@@ -35,7 +35,7 @@ pub struct Block {
 
 /// One execution of a condition's branch: where the branch stands, the frame pointer, and 1 where
 /// it was taken.
-#[derive(Clone, Copy, Debug, PartialEq, Eq)]
+#[derive(Clone, Copy, PartialEq, Eq)]
 pub struct HistoryEntry {
     pub address: u32,
     pub x8: u32,
@@ -44,7 +44,7 @@ pub struct HistoryEntry {
 
 /// What a trace file holds: the closing digest of the object that was run, how the run ended (0 for
 /// return, else the number of an exception), its blocks and its history.
-#[derive(Debug, Drop)]
+#[derive(Drop)]
 pub struct Trace {
     pub object: Digest,
     pub ending: u32,
@@ -126,7 +126,7 @@ fn entry_at(bytes: &[u8]) -> (u32, u32, u8)
 
 /// The same, of entries that stand in lists of others: it is written without a copy of them.
 /// Contracts see the trace.
-#[derive(Debug, Drop)]
+#[derive(Drop)]
 pub struct TraceParts<'a> {
     pub object: Digest,
     pub ending: u32,

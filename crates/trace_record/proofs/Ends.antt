@@ -8,7 +8,7 @@ use Rattle.decision_map.specs.declared.kind.WordKind.{WordKind}
 use Rattle.decision_map.specs.declared.kind.WordKind.TheVariants.{GoesOn, Transfer, Branch, HistoryBranch, Stop}
 use Rattle.decision_map.specs.Blocks.{first_transfer, block_end}
 use Rattle.decision_map.specs.Kinds.{address_of, place_of, kind_in, kinds_of_text}
-use Rattle.decision_meaning.specs.Pair.{Somewhere, Everywhere}
+use Rattle.cov_base.specs.Lists.{Somewhere, Everywhere}
 use Rattle.object_format.specs.declared.object.Object.{Object}
 use Rattle.object_facts.proofs.Words.{kind_there, transfer_kind}
 use Rattle.object_facts.specs.Kinds.{ends_piece, is_executable}

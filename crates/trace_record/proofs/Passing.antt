@@ -5,7 +5,7 @@ use Rattle.std.proofs.lemmas.Bool.{le-leb}
 use Rattle.decision_map.proofs.Sound.{mappable}
 use Rattle.decision_map.specs.Blocks.{block_end}
 use Rattle.decision_map.specs.Kinds.{kinds_of_text}
-use Rattle.decision_meaning.specs.Pair.{Everywhere}
+use Rattle.cov_base.specs.Lists.{Everywhere}
 use Rattle.object_format.specs.declared.object.Object.{Object}
 use Rattle.object_facts.specs.Object.{facts_of, IsTranscript}
 use Rattle.rv_semantics.specs.declared.stepped.Seen.{Seen}

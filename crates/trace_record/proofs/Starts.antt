@@ -3,7 +3,7 @@ use Rattle.std.proofs.Common.{◌≡◌, ℕ, zero, suc, ◌+◌, ◌*◌, ◌<�
 use Rattle.std.specs.List.{cons_option}
 use Rattle.decision_map.specs.Blocks.{block_end}
 use Rattle.decision_map.specs.Kinds.{kinds_of_text}
-use Rattle.decision_meaning.specs.Pair.{Somewhere, Everywhere}
+use Rattle.cov_base.specs.Lists.{Somewhere, Everywhere}
 use Rattle.object_format.specs.declared.object.Object.{Object}
 use Rattle.trace_format.specs.declared.trace.Block.{Block}
 use Rattle.transcript.specs.Pieces.{Piece, StartsRise}

@@ -4,7 +4,7 @@ use Rattle.std.proofs.lemmas.List.{length-map}
 use Rattle.std.proofs.lemmas.Option.{unwrap_or-slice_get}
 use Rattle.decision_map.specs.Blocks.{block_end}
 use Rattle.decision_map.specs.Kinds.{kind_of_word, kinds_of_text}
-use Rattle.decision_meaning.specs.Pair.{Somewhere, Everywhere}
+use Rattle.cov_base.specs.Lists.{Somewhere, Everywhere}
 use Rattle.object_facts.proofs.Words.{one_place}
 use Rattle.object_facts.specs.Object.{facts_of}
 use Rattle.rv_semantics.specs.declared.stepped.Seen.{Seen}

@@ -10,7 +10,7 @@ use rv_semantics::place_of;
 
 /// What is marked of a word of the text: which edges its branch took, and whether a block starts
 /// there.
-#[derive(Clone, Copy, Debug, PartialEq, Eq)]
+#[derive(Clone, Copy, PartialEq, Eq)]
 pub struct Mark(pub u8);
 
 impl Mark {

@@ -24,7 +24,7 @@ use trace_format::{HistoryEntry, TraceParts, write_parts};
 
 /// The instructions that were executed one after another since the last control transfer: the
 /// addresses of the first and of the last.
-#[derive(Clone, Copy, Debug, PartialEq, Eq)]
+#[derive(Clone, Copy, PartialEq, Eq)]
 pub struct OpenPiece {
     pub start: u32,
     pub last: u32,

@@ -2,7 +2,7 @@
 use Rattle.std.proofs.Common.{◌≡◌, ℕ, ◌%◌, ◌⊎◌, inl, inr, ⊎_elim, Bool, true, false, cond, List, [], ◌∷◌, Option, Some, None, refl, sym, ap, subst, ◌∙◌, arith}
 use Rattle.std.proofs.lemmas.Bool.{cases_lt, cases_order}
 use Rattle.rv_semantics.specs.declared.stepped.Seen.{Seen}
-use Rattle.decision_meaning.specs.Pair.{Somewhere, Everywhere}
+use Rattle.cov_base.specs.Lists.{Somewhere, Everywhere}
 use Rattle.transcript.specs.Facts.{Facts}
 use Rattle.transcript.specs.Pieces.{Piece, lengthened, closed_from, closed, left_open, GoesOn, RunsOnFrom, RunsOn, IsOpenIn, IsPieceOf}
 

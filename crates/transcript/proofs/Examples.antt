@@ -5,7 +5,7 @@ use Rattle.cov_base.specs.declared.event.Event.TheVariants.{Start, Done}
 use Rattle.rv_semantics.specs.declared.stepped.Seen.{Seen}
 use Rattle.decision_meaning.specs.Expr.{Expr, condition, operator}
 use Rattle.decision_meaning.specs.Graph.{node, leaf, target, graph, next_in, IsTree}
-use Rattle.decision_meaning.specs.Pair.{Somewhere}
+use Rattle.cov_base.specs.Lists.{Somewhere}
 use Rattle.transcript.proofs.Told.{completed_among}
 use Rattle.transcript.specs.Facts.{Facts, Row, Condition, AreFair}
 use Rattle.transcript.specs.Reading.{IsDisciplined}

@@ -2,7 +2,7 @@
 use Rattle.std.proofs.Common.{◌≡◌, ℕ, inl, inr, ⊎_elim, Bool, true, false, cond, ◌||◌, List, [], ◌∷◌, map, Option, Some, None, is_some, filter_map, refl, sym, ap, subst, ◌∙◌}
 use Rattle.std.specs.List.{cons_option}
 use Rattle.rv_semantics.specs.declared.stepped.Seen.{Seen}
-use Rattle.decision_meaning.specs.Pair.{Somewhere, Everywhere}
+use Rattle.cov_base.specs.Lists.{Somewhere, Everywhere}
 use Rattle.transcript.specs.Facts.{Facts, Condition}
 use Rattle.transcript.specs.Reading.{IsDisciplined, AllFollow}
 use Rattle.transcript.specs.Pieces.{Piece, closed, set_of, RunsOn, IsPieceOf, StartsRise}

@@ -5,7 +5,7 @@ use Rattle.cov_base.specs.declared.position.InstId.{InstId}
 use Rattle.cov_base.specs.declared.event.Vector.{Vector}
 use Rattle.rv_semantics.specs.declared.stepped.Seen.{Seen}
 use Rattle.decision_meaning.specs.Graph.{node, leaf, Edges, IsTree}
-use Rattle.decision_meaning.specs.Pair.{Somewhere}
+use Rattle.cov_base.specs.Lists.{Somewhere}
 use Rattle.decision_meaning.specs.Path.{Step, LeadsTo, vector_of, IsVectorOfLeaf}
 use Rattle.decision_meaning.proofs.Reached.{one_path}
 use Rattle.transcript.specs.Facts.{Facts, Condition, AreFair}

@@ -1,6 +1,6 @@
 -- What stands somewhere in a list.
 use Rattle.std.proofs.Common.{◌≡◌, ◌⊎◌, inl, inr, ⊎_elim, List, [], ◌∷◌, ◌++◌, map, refl, sym, subst}
-use Rattle.decision_meaning.specs.Pair.{Somewhere}
+use Rattle.cov_base.specs.Lists.{Somewhere}
 
 pub weaker : {X : Type 0} (P Q : X → Type 0) → ((x : X) → P x → Q x) → (xs : List X) → Somewhere P xs → Somewhere Q xs
 weaker P Q f [] s = absurd s

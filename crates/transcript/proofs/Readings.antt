@@ -3,7 +3,7 @@ use Rattle.std.proofs.Common.{◌≡◌, inl, inr, ⊎_elim, ◌↔◌, List, []
 use Rattle.cov_base.specs.declared.event.Event.{Event}
 use Rattle.cov_base.specs.declared.event.Vector.{Vector}
 use Rattle.rv_semantics.specs.declared.stepped.Seen.{Seen}
-use Rattle.decision_meaning.specs.Pair.{Everywhere}
+use Rattle.cov_base.specs.Lists.{Everywhere}
 use Rattle.transcript.specs.Facts.{Facts, AreFair}
 use Rattle.transcript.specs.Visit.{Visit, visit_of, visits, visited, onto}
 use Rattle.transcript.specs.Reading.{Completes, started, AreDoneAt, AreEventsFrom}

@@ -2,7 +2,7 @@
 use Rattle.std.proofs.Common.{◌≡◌, ℕ, ◌%◌, ◌≤◌, ◌⊎◌, inl, inr, ⊎_elim, ◌↔◌, Bool, true, false, cond, List, [], ◌∷◌, ◌++◌, Option, Some, None, option_to_list, arith}
 use Rattle.std.proofs.lemmas.Bool.{cases_lt}
 use Rattle.rv_semantics.specs.declared.stepped.Seen.{Seen}
-use Rattle.decision_meaning.specs.Pair.{Somewhere}
+use Rattle.cov_base.specs.Lists.{Somewhere}
 use Rattle.transcript.specs.Facts.{Facts}
 use Rattle.transcript.specs.Pieces.{Piece, lengthened, closed_from, left_open, pieces_from, pieces, GoesOn, RunsOnFrom, RunsOn, Covers}
 

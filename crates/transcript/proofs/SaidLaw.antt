@@ -7,7 +7,7 @@ use Rattle.cov_base.specs.declared.event.Event.{Event}
 use Rattle.cov_base.specs.declared.event.Event.TheVariants.{Start, Done}
 use Rattle.cov_base.specs.declared.event.Vector.{Vector}
 use Rattle.rv_semantics.specs.declared.stepped.Seen.{Seen}
-use Rattle.decision_meaning.specs.Pair.{Somewhere}
+use Rattle.cov_base.specs.Lists.{Somewhere}
 use Rattle.transcript.specs.Facts.{Facts, AreFair}
 use Rattle.transcript.specs.Visit.{visits}
 use Rattle.transcript.specs.Reading.{IsCompletedFrom, Tells, IsDisciplined}

@@ -1,7 +1,7 @@
 -- Pieces in rising order: the set of pieces has just their members, and it is the one rising list that has.
 use Rattle.std.proofs.Common.{◌≡◌, ◌<◌, ◌⊎◌, inl, inr, ⊎_elim, ◌↔◌, Bool, true, false, cond, ◌&&◌, ◌||◌, List, [], ◌∷◌, refl, sym, ap, subst, ◌∙◌, arith, eqb, ltb, eq-eqb, eqb-true, ltb-true, lt-ltb}
 use Rattle.std.proofs.lemmas.Bool.{cases_order}
-use Rattle.decision_meaning.specs.Pair.{Somewhere, Everywhere}
+use Rattle.cov_base.specs.Lists.{Somewhere, Everywhere}
 use Rattle.transcript.specs.Facts.{Facts}
 use Rattle.transcript.specs.Pieces.{Piece, stands_before, with_piece, set_of, Rise, StartsRise, IsPieceOf}
 use Rattle.transcript.proofs.Blocks.{one_last}

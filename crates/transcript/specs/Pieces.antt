@@ -1,7 +1,7 @@
 -- Pieces: the executed instructions of a run, cut after each control transfer.
 use Rattle.std.specs.Prelude.{◌≡◌, ℕ, ◌+◌, ◌%◌, ◌≤◌, ◌<◌, nat_eq, nat_lt, Bool, true, false, ◌&&◌, ◌||◌, List, [], ◌∷◌, ◌++◌, option_to_list, Option, Some, None, if◌then◌else◌}
 use Rattle.rv_semantics.specs.declared.stepped.Seen.{Seen}
-use Rattle.decision_meaning.specs.Pair.{Everywhere}
+use Rattle.cov_base.specs.Lists.{Everywhere}
 use Rattle.transcript.specs.Facts.{Facts}
 
 -- instructions that stand in a row: the addresses of the first and of the last

@@ -8,7 +8,7 @@ use Rattle.cov_base.specs.declared.event.Vector.{Vector}
 use Rattle.rv_semantics.specs.declared.stepped.Seen.{Seen}
 use Rattle.decision_meaning.specs.Graph.{node, leaf, Edges, next_in}
 use Rattle.decision_meaning.specs.Path.{Step, LeadsTo, vector_of}
-use Rattle.decision_meaning.specs.Pair.{Somewhere}
+use Rattle.cov_base.specs.Lists.{Somewhere}
 use Rattle.transcript.specs.Facts.{Facts, Row}
 use Rattle.transcript.specs.Visit.{Visit, visit_of, visits, visited, steps}
 

@@ -15,7 +15,7 @@ ghost use Rattle.cov_base.specs.declared.position.DecId.{DecId};
 ghost use Rattle.cov_base.specs.declared.position.InstId.{InstId};
 ghost use Rattle.rv_semantics.specs.declared.stepped.Seen.{Seen};
 ghost use Rattle.decision_meaning.specs.Graph.{node, leaf, next_in};
-ghost use Rattle.decision_meaning.specs.Pair.{Somewhere, Everywhere};
+ghost use Rattle.cov_base.specs.Lists.{Somewhere, Everywhere};
 ghost use Rattle.decision_meaning.specs.Path.{Step, IsPathVector, IsVectorOfLeaf, vector_of};
 ghost use Rattle.transcript.specs.Computed.{path_to, completed, done_of, reading_from, reading};
 ghost use Rattle.transcript.specs.Facts.{Facts, AreFair};

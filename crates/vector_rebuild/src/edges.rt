@@ -10,7 +10,7 @@ ghost use Rattle.cov_base.specs.declared.event.Vector.{Vector};
 ghost use Rattle.cov_base.specs.declared.position.DecId.{DecId};
 ghost use Rattle.cov_base.specs.declared.position.InstId.{InstId};
 ghost use Rattle.decision_map.specs.Roles.{condition_at};
-ghost use Rattle.decision_meaning.specs.Pair.{Somewhere};
+ghost use Rattle.cov_base.specs.Lists.{Somewhere};
 ghost use Rattle.object_facts.specs.Object.{facts_of, condition_of};
 ghost use Rattle.object_format.specs.Checked.{IsSound};
 ghost use Rattle.rv_semantics.specs.declared.stepped.Seen.{Seen};

@@ -9,7 +9,7 @@ use crate::visit::Step;
 use cov_base::{CondIx, Vector};
 
 /// An evaluation that is under way: the vector of its steps so far, and the node that comes next.
-#[derive(Clone, Copy, Debug, PartialEq, Eq)]
+#[derive(Clone, Copy, PartialEq, Eq)]
 pub struct Half {
     pub vector: Vector,
     pub next: CondIx,

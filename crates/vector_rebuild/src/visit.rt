@@ -15,7 +15,7 @@ use trace_format::HistoryEntry;
 
 /// What tells one evaluation from others that are under way, by the numbers of the decision and the
 /// instance, and the frame pointer of the activation.
-#[derive(Clone, Copy, Debug, PartialEq, Eq, Hash)]
+#[derive(Clone, Copy, PartialEq, Eq, Hash)]
 pub struct Key {
     pub decision: u32,
     pub instance: u32,
@@ -23,14 +23,14 @@ pub struct Key {
 }
 
 /// A condition that was evaluated, and its value.
-#[derive(Clone, Copy, Debug, PartialEq, Eq)]
+#[derive(Clone, Copy, PartialEq, Eq)]
 pub struct Step {
     pub node: CondIx,
     pub value: bool,
 }
 
 /// A step of an evaluation.
-#[derive(Clone, Copy, Debug, PartialEq, Eq)]
+#[derive(Clone, Copy, PartialEq, Eq)]
 pub struct Visit {
     pub decision: DecId,
     pub instance: InstId,

@@ -6,7 +6,8 @@ ghost use Rattle.std.specs.BTreeSet.{IsFromIterResult, contains};
 ghost use Rattle.rv_isa.specs.Decoding.{instr_of};
 ghost use Rattle.object_format.specs.Fields.{condition_count, passes_field};
 ghost use Rattle.object_format.specs.Keys.{triple_cmp};
-ghost use Rattle.object_format.specs.RoleCheck.{is_branch, branches_from, condition_of, conditions_of, is_known, AreSingle, AreWhole, PassesRole};
+ghost use Rattle.rv_isa.specs.Control.{is_branch, holds};
+ghost use Rattle.object_format.specs.RoleCheck.{branches_from, condition_of, conditions_of, is_known, AreSingle, AreWhole, PassesRole};
 
 use crate::checks::field::condition_count;
 use crate::object::{Object, TEXT_START};
@@ -39,7 +40,7 @@ pub(crate) fn passes_role(alloc: Global, value: &Object) -> Result<bool, AllocEr
 
 /// Whether a word holds a conditional branch.
 fn is_branch(word: u32) -> bool
-    ensures { result ≡ is_branch (instr_of word) }
+    ensures { result ≡ holds is_branch (instr_of word) }
 {
     matches!(decode(word), Some(Instr::Branch { .. }))
 }

@@ -4,7 +4,7 @@ use Rattle.decision_map.specs.Roles.{needs_history}
 use Rattle.object_facts.specs.Object.{facts_of}
 use Rattle.trace_format.specs.declared.trace.HistoryEntry.{HistoryEntry}
 use Rattle.cov_base.specs.declared.event.Event.{Event}
-use Rattle.decision_meaning.specs.Pair.{Somewhere}
+use Rattle.cov_base.specs.Lists.{Somewhere}
 use Rattle.transcript.specs.Computed.{done_of}
 use Rattle.vector_rebuild.specs.Rebuilt.{visits_of}
 use Rattle.coverage_set.proofs.Replayed.{everywhere_at, replayed_more, taken_whole, breaks}

@@ -1,6 +1,6 @@
 use Rattle.std.proofs.Common.{◌≡◌, ◌↔◌, ◌⊎◌, List, [], ap, subst, ◌∙◌}
 use Rattle.cov_base.specs.declared.event.Event.{Event}
-use Rattle.decision_meaning.specs.Pair.{Somewhere}
+use Rattle.cov_base.specs.Lists.{Somewhere}
 use Rattle.object_facts.specs.Object.{facts_of}
 use Rattle.object_format.specs.declared.object.Object.{Object}
 use Rattle.transcript.specs.Computed.{done_of}

@@ -1,5 +1,5 @@
 use Rattle.std.proofs.Common.{drop}
-use Rattle.decision_meaning.specs.Pair.{Everywhere}
+use Rattle.cov_base.specs.Lists.{Everywhere}
 use Rattle.decision_meaning.specs.Path.{IsPathVector}
 use Rattle.layer_cases.proofs.decisions.are_paths.Given as goal
 

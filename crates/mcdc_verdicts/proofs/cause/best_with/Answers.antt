@@ -1,7 +1,8 @@
 use Rattle.std.proofs.Common.{◌≡◌, false, List, sym, subst, ◌∙◌}
 use Rattle.decision_meaning.specs.Graph.{Edges}
 use Rattle.decision_meaning.specs.Marks.{marks, unmasked}
-use Rattle.decision_meaning.specs.Pair.{Everywhere, is_unique_cause}
+use Rattle.cov_base.specs.Lists.{Everywhere}
+use Rattle.decision_meaning.specs.Pair.{is_unique_cause}
 use Rattle.decision_meaning.specs.Path.{IsPathVector}
 use Rattle.mcdc_verdicts.specs.View.{pair_view}
 use Rattle.mcdc_verdicts.proofs.Searching.{behind_row, masked_row}

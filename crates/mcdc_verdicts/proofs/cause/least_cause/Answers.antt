@@ -1,7 +1,8 @@
 use Rattle.std.proofs.Common.{◌≡◌, [], None, drop, sym, ap, subst, ◌∙◌}
 use Rattle.std.proofs.lemmas.List.{drop_all}
 use Rattle.decision_meaning.specs.Expr.{size}
-use Rattle.decision_meaning.specs.Pair.{Everywhere, IsLeastPair, is_unique_cause}
+use Rattle.cov_base.specs.Lists.{Everywhere}
+use Rattle.decision_meaning.specs.Pair.{IsLeastPair, is_unique_cause}
 use Rattle.decision_meaning.specs.Path.{IsPathVector}
 use Rattle.mcdc_verdicts.specs.Search.{IsWord, best_of}
 use Rattle.mcdc_verdicts.specs.View.{pair_view}

@@ -1,7 +1,8 @@
 use Rattle.std.proofs.Common.{◌≡◌, drop, None}
 use Rattle.decision_meaning.specs.Expr.{Expr}
 use Rattle.decision_meaning.specs.Graph.{graph}
-use Rattle.decision_meaning.specs.Pair.{Everywhere, is_unique_cause}
+use Rattle.cov_base.specs.Lists.{Everywhere}
+use Rattle.decision_meaning.specs.Pair.{is_unique_cause}
 use Rattle.decision_meaning.specs.Path.{IsPathVector}
 use Rattle.mcdc_verdicts.specs.Search.{IsWord, best_of}
 use Rattle.mcdc_verdicts.specs.View.{pair_view}

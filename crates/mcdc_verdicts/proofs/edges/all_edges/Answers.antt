@@ -2,7 +2,7 @@ use Rattle.std.proofs.Common.{◌≡◌, ◌<◌, true, false, List, length, ap,
 use Rattle.decision_meaning.specs.Expr.{Expr, size}
 use Rattle.decision_meaning.specs.Graph.{Edges, graph, IsTree}
 use Rattle.decision_meaning.specs.Path.{IsPathVector}
-use Rattle.decision_meaning.specs.Pair.{Everywhere}
+use Rattle.cov_base.specs.Lists.{Everywhere}
 use Rattle.decision_meaning.specs.Verdict.{PathsTakeAllEdges}
 use Rattle.decision_meaning.proofs.Edges.{length_graph}
 use Rattle.mcdc_verdicts.proofs.Taking.{both_are_all, pairs_of_paths, takes_all}

@@ -1,7 +1,7 @@
 use Rattle.std.proofs.Common.{◌≡◌, drop, None}
 use Rattle.decision_meaning.specs.Expr.{Expr}
 use Rattle.decision_meaning.specs.Graph.{graph}
-use Rattle.decision_meaning.specs.Pair.{Everywhere}
+use Rattle.cov_base.specs.Lists.{Everywhere}
 use Rattle.decision_meaning.specs.Path.{IsPathVector}
 use Rattle.mcdc_verdicts.specs.Search.{IsWord, shows, lowest}
 use Rattle.mcdc_verdicts.proofs.pair.lowest.Given as goal

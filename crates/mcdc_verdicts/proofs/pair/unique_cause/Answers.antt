@@ -2,7 +2,8 @@ use Rattle.std.proofs.Common.{List, Option, subst}
 use Rattle.cov_base.specs.declared.event.Vector.{Vector}
 use Rattle.decision_meaning.specs.Expr.{size}
 use Rattle.decision_meaning.specs.Graph.{Edges}
-use Rattle.decision_meaning.specs.Pair.{Everywhere, IsLeastPair, is_masking}
+use Rattle.cov_base.specs.Lists.{Everywhere}
+use Rattle.decision_meaning.specs.Pair.{IsLeastPair, is_masking}
 use Rattle.decision_meaning.specs.Path.{IsPathVector}
 use Rattle.mcdc_verdicts.specs.View.{pair_view}
 use Rattle.mcdc_verdicts.proofs.Searching.{no_cause_pair}

@@ -1,6 +1,6 @@
 use Rattle.std.proofs.Common.{◌≡◌, ◌↔◌, ◌⊎◌, drop}
 use Rattle.cov_base.specs.declared.event.Event.{Event}
-use Rattle.decision_meaning.specs.Pair.{Somewhere}
+use Rattle.cov_base.specs.Lists.{Somewhere}
 use Rattle.object_facts.specs.Object.{facts_of}
 use Rattle.vector_rebuild.proofs.LeafEdges.{SomeSays}
 use Rattle.vector_rebuild.proofs.edges.from_edges.Given as goal
