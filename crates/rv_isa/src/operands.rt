@@ -1,4 +1,4 @@
-ghost use Rattle.std.specs.Prelude.{◌≡◌, ℕ, ◌+◌, ◌-◌, ◌*◌, ◌/◌, ◌%◌, ◌^◌, ◌<◌, ◌≤ℤ◌, pos, int_rem};
+ghost use Rattle.std.specs.Prelude.{◌≡◌, ℕ, ◌+◌, ◌-◌, ◌*◌, ◌/◌, ◌%◌, ◌^◌, ◌<◌, ◌≤ℤ◌};
 ghost use Rattle.std.specs.Int.{w32, cast_unsigned};
 ghost use Rattle.rv_isa.specs.Immediates.{sign_12, branch_offset, jump_offset, upper_value};
 
@@ -141,12 +141,6 @@ impl Imm12 {
     /// The greatest value of a signed immediate.
     pub const MAX: i32 = 2047;
 
-    /// How far a branch reaches back, in bytes.
-    pub const MIN_OFFSET: i32 = -4096;
-
-    /// How far a branch reaches on, in bytes.
-    pub const MAX_OFFSET: i32 = 4094;
-
     pub fn new(bits: u16) -> Self
         requires { bits < 2 ^ 12 }
         ensures { result ≡ bits }
@@ -184,18 +178,6 @@ impl Imm12 {
         }
     }
 
-    /// The half-words of a branch that goes this many bytes.
-    pub fn from_offset(bytes: i32) -> Self
-        requires low { Imm12.MIN_OFFSET ≤ℤ bytes }
-        requires high { bytes ≤ℤ Imm12.MAX_OFFSET }
-        requires even { int_rem bytes (pos 2) ≡ pos 0 }
-        ensures { branch_offset result ≡ cast_unsigned w32 bytes }
-    {
-        Imm12 {
-            bits: (bytes.cast_unsigned() >> 1 & 0xfff) as u16,
-        }
-    }
-
     /// How many bytes a branch with these half-words goes, modulo 2 ^ 32.
     pub fn branch_offset(self) -> u32
         ensures { result ≡ branch_offset self }
@@ -227,12 +209,6 @@ impl Model for Imm20 {
 }
 
 impl Imm20 {
-    /// How far a jump reaches back, in bytes.
-    pub const MIN_OFFSET: i32 = -1048576;
-
-    /// How far a jump reaches on, in bytes.
-    pub const MAX_OFFSET: i32 = 1048574;
-
     pub fn new(bits: u32) -> Self
         requires { bits < 2 ^ 20 }
         ensures { result ≡ bits }
@@ -252,18 +228,6 @@ impl Imm20 {
         ensures { result ≡ upper_value self }
     {
         self.bits << 12
-    }
-
-    /// The half-words of a jump that goes this many bytes.
-    pub fn from_offset(bytes: i32) -> Self
-        requires low { Imm20.MIN_OFFSET ≤ℤ bytes }
-        requires high { bytes ≤ℤ Imm20.MAX_OFFSET }
-        requires even { int_rem bytes (pos 2) ≡ pos 0 }
-        ensures { jump_offset result ≡ cast_unsigned w32 bytes }
-    {
-        Imm20 {
-            bits: bytes.cast_unsigned() >> 1 & 0xfffff,
-        }
     }
 
     /// How many bytes a jump with these half-words goes, modulo 2 ^ 32.

@@ -1,7 +1,7 @@
-//! Where things lie in the machine's memory, and words of a text by their addresses.
+//! Where things lie in the machine's memory.
 
 ghost use Rattle.std.specs.Prelude.{◌≡◌};
-ghost use Rattle.rv_semantics.specs.Layout.{text_place, text_word};
+ghost use Rattle.rv_semantics.specs.Layout.{text_place};
 
 /// How many bytes the memory has: addresses lie below.
 pub const MEMORY_BYTES: u32 = 0x0200_0000;
@@ -22,11 +22,4 @@ pub fn place_of(address: u32) -> Option<usize>
     } else {
         Some(((address - TEXT_START) / 4) as usize)
     }
-}
-
-/// The word of a text at an address; none outside the text and between words.
-pub fn word_at(text: &[u32], address: u32) -> Option<u32>
-    ensures { result ≡ text_word text.now address }
-{
-    text.get(place_of(address)?).copied()
 }

@@ -16,5 +16,5 @@ mod layout;
 mod stepped;
 
 pub use laws::{a_past_lists_the_run, a_run_has_one_ending};
-pub use layout::{DATA_START, MEMORY_BYTES, TEXT_START, place_of, word_at};
+pub use layout::{DATA_START, MEMORY_BYTES, TEXT_START, place_of};
 pub use stepped::{Seen, Stepped, TrapWhy};

@@ -1,7 +1,7 @@
 //! Checks that go through a list from its front.
 
 ghost use Rattle.std.specs.Prelude.{◌≡◌, ◌<◌, Bool, Option, length, IfSome, None};
-ghost use Rattle.spelling.specs.Checks.{first_failing, rising};
+ghost use Rattle.spelling.specs.Checks.{first_failing};
 
 use crate::entries::{Entries, Fixed};
 
@@ -12,15 +12,6 @@ pub trait Check<T> {
     /// Whether an entry passes, behind the entry before it, if there is one.
     fn passes(before: &Option<T>, entry: &T) -> bool
         ensures { result ≡ passes before.now entry.now };
-}
-
-/// A strict order of values.
-pub trait Order<T> {
-    ghost less: { T → T → Bool };
-
-    /// Whether the left value stands before the right one.
-    fn is_before(left: &T, right: &T) -> bool
-        ensures { result ≡ less left.now right.now };
 }
 
 /// The place of the first entry that a check refuses. It takes no memory.
@@ -37,21 +28,4 @@ pub fn first_failing_at<T: Fixed, C: Check<T>>(entries: &Entries<'_, T>) -> Opti
         before = Some(entry);
     }
     None
-}
-
-/// Whether each item stands in the order after the one before it.
-pub fn is_rising<T, O: Order<T>>(items: &[T]) -> bool
-    ensures { result ≡ rising O.less items.now }
-{
-    let Some((first, others)) = items.split_first() else {
-        return true;
-    };
-    let mut before = first;
-    for item in others {
-        if !O::is_before(before, item) {
-            return false;
-        }
-        before = item;
-    }
-    true
 }

@@ -48,7 +48,7 @@ mod layers;
 mod list;
 mod number;
 
-pub use check::{Check, Order, first_failing_at, is_rising};
+pub use check::{Check, first_failing_at};
 pub use entries::{Entries, Fixed};
 pub use fault::{LayerFault, Short};
 pub use file::{read_file, write_file};
