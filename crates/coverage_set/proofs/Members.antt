@@ -1,8 +1,11 @@
 -- The items of sorted lists.
-use Rattle.std.proofs.Common.{◌≡◌, ◌≢◌, ◌↔◌, ◌⊎◌, ℕ, suc, zero, ◌<◌, Bool, true, List, [], ◌∷◌, ◌++◌, length, get_or, Contains, IsPermutation, is_eq, inl, inr, arith, refl, sym, ◌∙◌, subst, ap}
+use Rattle.std.proofs.Common.{◌≡◌, ◌≢◌, ◌↔◌, ◌⊎◌, ℕ, suc, zero, ◌<◌, ◌≤◌, Bool, true, List, [], ◌∷◌, ◌++◌, length, get_or, Contains, IsPermutation, is_eq, inl, inr, arith, refl, sym, ◌∙◌, subst, ap, drop, ◌+◌, Result, Ok, Err, IfOk, is_ok}
 use Rattle.std.specs.Cmp.{IsTotalOrder, IsEquivalence}
 use Rattle.std.specs.List.{dedup, AllByRecursion, AllPairs}
 use Rattle.std.specs.Ordering.{eq_by_cmp}
+use Rattle.std.specs.List.{HoldsAt}
+use Rattle.std.specs.List.Sorted.{IsSearchInRange}
+use Rattle.std.proofs.lemmas.List.{at_drop_more}
 use Rattle.std.specs.declared.cmp.Ordering.{Ordering}
 use Rattle.std.specs.declared.cmp.Ordering.TheVariants.{Less, Equal, Greater}
 use Rattle.std.proofs.lemmas.List.Sorted.{Contains-permutation, IsPermutation-sym}
@@ -128,3 +131,28 @@ unfolding IsStrictlySortedBy
 each_once R total [] sorted = λ i j d before within. absurd (omega arith)
 each_once R total (x ∷ xs) sorted =
     AllPairs-cons (λ x y. x ≢ y) x xs (All-from_recursion (λ y. x ≢ y) xs (none_below R total x xs sorted.0)) (each_once R total xs sorted.1)
+
+-- what a search found stands in the list
+pub stands_found : {X : Type 0} (R : X → X → Ordering) → ((x y : X) → R x y ≡ Equal → x ≡ y) → (xs : List X) (x : X) (found : Result ℕ ℕ)
+    → IsSearchInRange found (length xs) → IfOk found (HoldsAt (λ y. R y x ≡ Equal) xs) → is_ok found ≡ true → Somewhere (λ y. y ≡ x) xs
+stands_found R exact xs x (Ok i) within holds is = somewhere_at xs x i within (exact (get_or xs i x) x (holds x))
+stands_found R exact xs x (Err i) within holds is = absurd (cc is)
+
+-- where an item of a list stands in another one, it is enough that those behind it do
+pub one_less : {X : Type 0} (others xs : List X) (i : ℕ) (x : X) → i < length xs → x ≡ get_or xs i x → Somewhere (λ y. y ≡ x) others
+    → ((z : X) → Somewhere (λ y. y ≡ z) (drop i xs) → Somewhere (λ y. y ≡ z) others) ↔ ((z : X) → Somewhere (λ y. y ≡ z) (drop (i + 1) xs) → Somewhere (λ y. y ≡ z) others)
+one_less {X = X} others xs i x within is here = (
+  λ all z some. all z (subst (λ (zs : List X). Somewhere (λ y. y ≡ z) zs) (sym (at_drop_more (λ (zs : List X). zs) xs i x within)) (inr some)),
+  λ behind z some.
+      elim (subst (λ (zs : List X). Somewhere (λ y. y ≡ z) zs) (at_drop_more (λ (zs : List X). zs) xs i x within) some) [
+        | inl first ↦ subst (λ w. Somewhere (λ y. y ≡ w) others) (is ∙ first) here
+        | inr later ↦ behind z later
+      ],
+)
+
+-- behind the last item nothing stands
+pub none_behind : {X : Type 0} (P : X → Type 0) (xs : List X) (i : ℕ) → length xs ≤ i → Somewhere P (drop i xs) → ⊥
+none_behind P [] zero behind some = some
+none_behind P [] (suc i) behind some = some
+none_behind P (x ∷ xs) zero behind some = absurd (omega arith)
+none_behind P (x ∷ xs) (suc i) behind some = none_behind P xs i (omega arith) some

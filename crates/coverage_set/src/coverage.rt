@@ -103,10 +103,10 @@ impl<'a> Coverage<'a> {
     {
         let found = said(self.alloc, map, view)?;
         let single = SortedSet::single(self.alloc, view.closing())?;
-        let events = self.events.with(self.alloc, &found)?;
-        let runs = self.runs.with(self.alloc, &single)?;
-        self.events = events;
-        self.runs = runs;
+        let events = self.events.grown(self.alloc, &found)?;
+        let runs = self.runs.grown(self.alloc, &single)?;
+        self.events.take(events);
+        self.runs.take(runs);
         Ok(())
     }
 
@@ -116,10 +116,10 @@ impl<'a> Coverage<'a> {
         ensures ok { OnOk result (IsUnion self.old other.now self.new) }
         ensures err { OnErr result (self.new ≡ self.old) }
     {
-        let events = self.events.with(self.alloc, &other.events)?;
-        let runs = self.runs.with(self.alloc, &other.runs)?;
-        self.events = events;
-        self.runs = runs;
+        let events = self.events.grown(self.alloc, &other.events)?;
+        let runs = self.runs.grown(self.alloc, &other.runs)?;
+        self.events.take(events);
+        self.runs.take(runs);
         Ok(())
     }
 }

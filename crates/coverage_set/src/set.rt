@@ -1,6 +1,6 @@
 //! Sets as sorted lists, and the lists that they are made of.
 
-ghost use Rattle.std.specs.Prelude.{◌≡◌, ◌≢◌, ◌↔◌, ◌⊎◌, ◌++◌, ◌∷◌, ◌+◌, ◌<◌, [], length, IfOk, IfSome, MatchOption, AllPairs, true};
+ghost use Rattle.std.specs.Prelude.{◌≡◌, ◌≢◌, ◌↔◌, ◌⊎◌, ◌++◌, ◌∷◌, ◌+◌, ◌<◌, [], length, IsTrue, IfOk, IfSome, MatchOption, unwrap_or, AllPairs, true};
 ghost use Rattle.std.specs.List.Sorted.{IsStrictlySortedBy};
 ghost use Rattle.std.specs.Set.{sorted_merge};
 ghost use Rattle.cov_base.specs.Lists.{Somewhere};
@@ -65,13 +65,45 @@ impl<T: Exact + Drop> SortedSet<T> {
         self.items.as_slice()
     }
 
-    /// The set with the items of another: both are gone through once.
-    pub fn with(&self, alloc: Global, more: &SortedSet<T>) -> Result<Self, AllocError>
-        ensures { IfOk result (λ both. (x : T) → Somewhere (λ y. y ≡ x) both
+    /// Whether an item stands here.
+    fn has(&self, item: &T) -> bool
+        ensures { IsTrue result → Somewhere (λ y. y ≡ item.now) self.now }
+    {
+        self.items.as_slice().binary_search(item).is_ok()
+    }
+
+    /// Whether the items of another set all stand here.
+    fn has_all(&self, more: &SortedSet<T>) -> bool
+        ensures { IsTrue result → (x : T) → Somewhere (λ y. y ≡ x) more.now → Somewhere (λ y. y ≡ x) self.now }
+    {
+        for item in more.items.as_slice() {
+            if !self.has(item) {
+                return false;
+            }
+        }
+        true
+    }
+
+    /// The set with the items of another, both being gone through once; none where all of them stand
+    /// here already, so that nothing is copied.
+    pub fn grown(&self, alloc: Global, more: &SortedSet<T>) -> Result<Option<Self>, AllocError>
+        ensures { IfOk result (λ grown. (x : T) → Somewhere (λ y. y ≡ x) (unwrap_or grown self.now)
             ↔ (Somewhere (λ y. y ≡ x) self.now ⊎ Somewhere (λ y. y ≡ x) more.now)) }
     {
+        if self.has_all(more) {
+            return Ok(None);
+        }
         let items = merged(alloc, self.items.as_slice(), more.items.as_slice())?;
-        Ok(SortedSet { items })
+        Ok(Some(SortedSet { items }))
+    }
+
+    /// Takes what a set has grown to, if it has.
+    pub fn take(&mut self, grown: Option<Self>)
+        ensures { self.new ≡ unwrap_or grown self.old }
+    {
+        if let Some(grown) = grown {
+            *self = grown;
+        }
     }
 }
 

@@ -2,6 +2,7 @@
 
 ghost use Rattle.std.specs.Prelude.{◌≡◌, ◌++◌, ◌+◌, ◌<◌, ◌-◌, ◌^◌, List, [], ◌∷◌, length, option_to_list, true, IfOk, IfErr, OnOk, OnErr, Some, if◌then◌else◌};
 ghost use Rattle.std.specs.HashMap.{get};
+ghost use Rattle.std.specs.Option.{option_map};
 ghost use Rattle.condition_graph.specs.Target.{place_of};
 ghost use Rattle.decision_map.specs.Roles.{needs_history};
 ghost use Rattle.object_facts.specs.Object.{facts_of};
@@ -13,13 +14,13 @@ ghost use Rattle.transcript.specs.Trace.{visit_in};
 ghost use Rattle.transcript.specs.Visit.{Key as Activation, onto};
 ghost use Rattle.trace_format.specs.declared.trace.HistoryEntry.{HistoryEntry};
 ghost use Rattle.vector_rebuild.specs.Entries.{branched_of};
-ghost use Rattle.vector_rebuild.specs.Rebuilt.{visit_as, key_in, same, kept_of, count_of, visits_of, taken_by, under_way, IsOff, IsAsBefore, IsEventOf, IsRefusedAfter, Rebuilds};
+ghost use Rattle.vector_rebuild.specs.Rebuilt.{visit_as, half_as, key_in, same, kept_of, count_of, visits_of, taken_by, under_way, IsOff, IsAsBefore, IsEventOf, IsRefusedAfter, Rebuilds};
 
 use crate::fault::BrokenHistory;
 use crate::half::{Half, begun, with_step};
 use crate::visit::{Key, Visit, visit_of};
 use condition_graph::Next;
-use cov_base::{Event, Failure, Vector};
+use cov_base::{CondIx, Event, Failure, Vector};
 use decision_map::DecisionMap;
 use std::alloc::{AllocError, Global};
 use std::collections::HashMap;
@@ -59,6 +60,17 @@ impl Rebuild {
         self.halves.get(&key).copied()
     }
 
+    /// The vector with which an evaluation of a key comes to a node, if one does. To the root a new one
+    /// comes, so nothing is looked up for it.
+    fn coming(&self, key: Key, node: CondIx) -> Option<Vector>
+        ensures { result ≡ begun (option_map half_as (get same self.now.halves key)) node.0 }
+    {
+        if node.0 == 0 {
+            return begun(None, node);
+        }
+        begun(self.half(key), node)
+    }
+
     /// Keeps an evaluation that has come to a node, or answers its vector where it has come to an
     /// outcome, and keeps nothing.
     fn keep(&mut self, key: Key, next: Next, vector: Vector) -> Result<Option<Vector>, AllocError>
@@ -94,7 +106,7 @@ impl Rebuild {
         ensures err { OnErr result (IsAsBefore self.old self.new) }
     {
         let key = visit.key();
-        let Some(coming) = begun(self.half(key), visit.step.node) else {
+        let Some(coming) = self.coming(key, visit.step.node) else {
             return Err(Failure::Fault(BrokenHistory { at: self.fed }));
         };
         let completed = self.keep(key, next, with_step(coming, visit.step))?;

@@ -1,4 +1,4 @@
-use Rattle.std.proofs.Common.{List, [], ◌∷◌, ap, ◌∙◌}
+use Rattle.std.proofs.Common.{List, [], ◌∷◌, ap, ◌∙◌, unwrap_or}
 use Rattle.coverage_set.proofs.Fitting.{history_kept}
 use Rattle.coverage_set.proofs.Members.{in_either, in_one_more}
 use Rattle.coverage_set.proofs.coverage.Coverage.add_trace.Goals as goal
@@ -7,9 +7,9 @@ pub said-requires-clause-kept : goal.said-requires-clause-kept
 said-requires-clause-kept c = history_kept c.args.map.now c.args.view.now c.requires.fits
 
 pub returns-clause-events : goal.returns-clause-events
-returns-clause-events c = rw (← c.self.view_is) (λ e. in_either _ _ _ _ (c.in_ok-events.ensures e) (c.in_ok-found.ensures.said e))
+returns-clause-events c = rw (← c.self.view_is, c.take.ensures) (λ e. in_either _ _ _ _ (c.in_ok-events.ensures e) (c.in_ok-found.ensures.said e))
 
 pub returns-clause-runs : goal.returns-clause-runs
 returns-clause-runs c =
-    rw (← c.self.view_is) (λ digest. in_one_more c.self.inside.runs c.in_ok-single.single c.in_ok-runs.runs c.args.view.now.closing digest
+    rw (← c.self.view_is, c.take-2.ensures) (λ digest. in_one_more c.self.inside.runs c.in_ok-single.single (unwrap_or c.in_ok-runs.runs c.self.inside.runs) c.args.view.now.closing digest
     (c.in_ok-single.ensures ∙ ap (λ (d : List _). d ∷ []) c.closing.ensures) (c.in_ok-runs.ensures digest))
