@@ -33,6 +33,11 @@ pub within_below : {C : Type 0} (ts : Tokens) (p : Result (C × Bor Tokens) Faul
 within_below ts (Ok x) h = omega (arith, h)
 within_below ts (Err f) h = tt
 
+-- what is left of what is left
+pub below_behind : {C : Type 0} (ts us : Tokens) (p : Result (C × Bor Tokens) Fault) → length us ≤ length ts → Below us p → Below ts p
+below_behind ts us (Ok x) l h = omega (arith, l, h)
+below_behind ts us (Err f) l h = tt
+
 pub closed_below : {C : Type 0} (s : Symbol) (ts : Tokens) (p r : Result (C × Bor Tokens) Fault) → Within ts p → Closes s p r → Below ts r
 closed_below s ts (Ok x) (Ok y) h c = omega (arith, h, c.1.shorter)
 closed_below s ts (Ok x) (Err f) h c = tt

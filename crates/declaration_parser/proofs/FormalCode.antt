@@ -76,7 +76,7 @@ type_range_fails i ts us p Memory a b c = tt
 -- where no range stands next, the parenthesis has to
 in_parentheses : (i : Identifier) (s : Symbol) (t : Token) (us : Tokens) → same s symbol.Range ≡ false
     → turned (read.formal_type_turn i s t) t us ≡ goes_on (λ _. discrete_end i) (turned (accept (same s symbol.LeftParenthesis) t) t us)
-in_parentheses i symbol.Range t us h = cc
+in_parentheses i symbol.Range t us h = absurd (false≢true (sym h))
 in_parentheses i symbol.LeftParenthesis t us h = refl
 in_parentheses i _ t us h = refl
 

@@ -25,7 +25,7 @@ use Rattle.expression_parser.specs.declared.extent.Extent.{Extent}
 use Rattle.expression_parser.specs.declared.extent.Extent.TheVariants.{Types}
 use Rattle.expression_parser.specs.Symbols.{symbol_of, Is, same}
 use Rattle.expression_parser.specs.Extents.{opens}
-use Rattle.expression_parser.specs.Reading.{Tokens, Reading, Reader, Got, Stuck, Refuse, Leave, Take, Look, got, goes_on, ◌>>=◌, turned, ended, provided, skip, repeat}
+use Rattle.expression_parser.specs.Reading.{Tokens, Reading, Reader, Got, Stuck, Refuse, Leave, Take, Look, got, goes_on, ◌>>=◌, turned, ended, provided, expect, skip, repeat}
 use Rattle.expression_parser.specs.Shows.{Shows, ShowsAs, TakesWord, after, Reads, More, Skipped, next_is}
 use Rattle.expression_parser.specs.Depth.{at_name, at_simple}
 use Rattle.declaration_parser.specs.Identifiers.{identifiers_by}
@@ -39,7 +39,7 @@ use Rattle.std.specs.Borrow.{Bor}
 use Rattle.expression_parser.specs.declared.fault.Fault.{Fault}
 use Rattle.expression_parser.proofs.Faults.{failed}
 use Rattle.declaration_parser.specs.Closing.{Closes}
-use Rattle.declaration_parser.proofs.Closings.{read_so, Below, within_below, leads, closes, stops, goes, word_stops, word_goes, same_got, read_then, closed}
+use Rattle.declaration_parser.proofs.Closings.{read_so, Below, within_below, below_behind, closed_below, leads, leads_got, closes, stops, goes, word_stops, word_goes, same_got, read_then, closed}
 use Rattle.declaration_parser.proofs.ExpressionParts.{gated_open, gated_closed}
 use Rattle.declaration_parser.proofs.Steps.{then_reads, then_stuck, then_got_reads, got_reads, turn_taken, turn_refused, turn_left}
 
@@ -230,35 +230,56 @@ module _ (x : Extent) where
   components_end [] cs b = more_end (read.components_turn x) cs
   components_end (t ∷ us) cs b = more_leave (read.components_turn x) cs t us (λ m. no_component m (symbol_of t.lexeme) t cs b)
 
-  pub array_fails_first : (ts : Tokens) (f : Fault)
-      → TakesWord symbol.LeftParenthesis ts (failed f)
-      → Shows (Reads (read.array_by x) ts) (failed f)
-  array_fails_first ts f h1 =
-      word_stops symbol.LeftParenthesis (λ m. (read.range_by x m >>= λ z1. skip symbol.RightParenthesis (skip symbol.Of (read.indication_by x m >>= λ z2. got (definition.Array z1 z2))))) ts f h1
+  -- ( range ) OF
+  pub index_fails : (ts : Tokens) (f : Fault) → TakesWord symbol.LeftParenthesis ts (failed f) → Shows (Reads (read.index_by x) ts) (failed f)
+  index_fails ts f h = word_stops symbol.LeftParenthesis (λ m. read.range_by x m >>= λ r. skip symbol.RightParenthesis (skip symbol.Of (got r))) ts f h
 
-  pub array_fails_second : (ts : Tokens) (u0 : Tokens) (p1 : Result (DiscreteRange × Bor Tokens) Fault) (p11 : Result (DiscreteRange × Bor Tokens) Fault) (f : Fault)
-      → Skipped symbol.LeftParenthesis ts u0 → Shows (Reads (read.range_by x) u0) p1 → Below u0 p1 → Closes symbol.RightParenthesis p1 p11 → Closes symbol.Of p11 (failed f)
-      → Shows (Reads (read.array_by x) ts) (failed f)
-  array_fails_second ts u0 p1 p11 f h1 h2 h3 h4 h5 =
-      word_goes symbol.LeftParenthesis (λ m. (read.range_by x m >>= λ z1. skip symbol.RightParenthesis (skip symbol.Of (read.indication_by x m >>= λ z2. got (definition.Array z1 z2))))) ts u0 (failed f) h1 (
-      stops (λ z. z) (closed symbol.Of (closed symbol.RightParenthesis (read_then (read.range_by x)))) (λ m z1. (read.indication_by x m >>= λ z2. got (definition.Array z1 z2))) u0 f (closes (λ z. z) (closed symbol.RightParenthesis (read_then (read.range_by x))) symbol.Of u0 p11 (failed f) (closes (λ z. z) (read_then (read.range_by x)) symbol.RightParenthesis u0 p1 p11 (leads (TypeDefinition) (λ z. z) (read.range_by x) u0 p1 h2 (within_below u0 p1 h3)) h4) h5))
+  module _ (ts us : Tokens) (p o r : Result (DiscreteRange × Bor Tokens) Fault) where
+    pub index_shows : Skipped symbol.LeftParenthesis ts us → Shows (Reads (read.range_by x) us) p → Below us p → Closes symbol.RightParenthesis p o → Closes symbol.Of o r → Shows (Reads (read.index_by x) ts) r
+    index_shows w h l c d =
+        word_goes symbol.LeftParenthesis (λ m. read.range_by x m >>= λ r. skip symbol.RightParenthesis (skip symbol.Of (got r))) ts us r w
+        (leads_got (λ z. z) (closed symbol.Of (closed symbol.RightParenthesis (read_then (read.range_by x)))) us r
+        (closes (λ z. z) (closed symbol.RightParenthesis (read_then (read.range_by x))) symbol.Of us o r
+        (closes (λ z. z) (read_then (read.range_by x)) symbol.RightParenthesis us p o (leads DiscreteRange (λ z. z) (read.range_by x) us p h (within_below us p l)) c) d))
 
-  pub array_fails_third : (ts : Tokens) (u0 : Tokens) (p1 : Result (DiscreteRange × Bor Tokens) Fault) (p11 : Result (DiscreteRange × Bor Tokens) Fault) (v1 : DiscreteRange) (u1 : Bor Tokens) (f : Fault)
-      → Skipped symbol.LeftParenthesis ts u0 → Shows (Reads (read.range_by x) u0) p1 → Below u0 p1 → Closes symbol.RightParenthesis p1 p11 → Closes symbol.Of p11 (read_so v1 u1) → Shows (Reads (read.indication_by x) u1.now) (failed f)
-      → Shows (Reads (read.array_by x) ts) (failed f)
-  array_fails_third ts u0 p1 p11 v1 u1 f h1 h2 h3 h4 h5 h6 =
-      word_goes symbol.LeftParenthesis (λ m. (read.range_by x m >>= λ z1. skip symbol.RightParenthesis (skip symbol.Of (read.indication_by x m >>= λ z2. got (definition.Array z1 z2))))) ts u0 (failed f) h1 (
-      goes (λ z. z) (closed symbol.Of (closed symbol.RightParenthesis (read_then (read.range_by x)))) (λ m z1. (read.indication_by x m >>= λ z2. got (definition.Array z1 z2))) u0 v1 u1 (failed f) (closes (λ z. z) (closed symbol.RightParenthesis (read_then (read.range_by x))) symbol.Of u0 p11 (read_so v1 u1) (closes (λ z. z) (read_then (read.range_by x)) symbol.RightParenthesis u0 p1 p11 (leads (TypeDefinition) (λ z. z) (read.range_by x) u0 p1 h2 (within_below u0 p1 h3)) h4) h5) (
-      stops (λ z. z) (read_then (read.indication_by x)) (λ m z2. got (definition.Array v1 z2)) u1.now f (leads (TypeDefinition) (λ z. z) (read.indication_by x) u1.now (failed f) h6 tt)))
+    pub index_below : Skipped symbol.LeftParenthesis ts us → Below us p → Closes symbol.RightParenthesis p o → Closes symbol.Of o r → Below ts r
+    index_below w l c d = below_behind ts us r (omega (arith, w.shorter)) (closed_below symbol.Of us o r (within_below us o (closed_below symbol.RightParenthesis us p o (within_below us p l) c)) d)
 
-  pub array_read : (ts : Tokens) (u0 : Tokens) (p1 : Result (DiscreteRange × Bor Tokens) Fault) (p11 : Result (DiscreteRange × Bor Tokens) Fault) (v1 : DiscreteRange) (u1 : Bor Tokens) (v2 : SubtypeIndication) (u2 : Bor Tokens)
-      → Skipped symbol.LeftParenthesis ts u0 → Shows (Reads (read.range_by x) u0) p1 → Below u0 p1 → Closes symbol.RightParenthesis p1 p11 → Closes symbol.Of p11 (read_so v1 u1) → Shows (Reads (read.indication_by x) u1.now) (read_so v2 u2) → Below u1.now (read_so v2 u2)
-      → Reads (read.array_by x) ts (Got (definition.Array v1 v2) u2.now)
-  array_read ts u0 p1 p11 v1 u1 v2 u2 h1 h2 h3 h4 h5 h6 h7 =
-      word_goes symbol.LeftParenthesis (λ m. (read.range_by x m >>= λ z1. skip symbol.RightParenthesis (skip symbol.Of (read.indication_by x m >>= λ z2. got (definition.Array z1 z2))))) ts u0 (read_so (definition.Array v1 v2) u2) h1 (
-      goes (λ z. z) (closed symbol.Of (closed symbol.RightParenthesis (read_then (read.range_by x)))) (λ m z1. (read.indication_by x m >>= λ z2. got (definition.Array z1 z2))) u0 v1 u1 (read_so (definition.Array v1 v2) u2) (closes (λ z. z) (closed symbol.RightParenthesis (read_then (read.range_by x))) symbol.Of u0 p11 (read_so v1 u1) (closes (λ z. z) (read_then (read.range_by x)) symbol.RightParenthesis u0 p1 p11 (leads (TypeDefinition) (λ z. z) (read.range_by x) u0 p1 h2 (within_below u0 p1 h3)) h4) h5) (
-      goes (λ z. z) (read_then (read.indication_by x)) (λ m z2. got (definition.Array v1 z2)) u1.now v2 u2 (read_so (definition.Array v1 v2) u2) (leads (TypeDefinition) (λ z. z) (read.indication_by x) u1.now (read_so v2 u2) h6 (within_below u1.now (read_so v2 u2) h7)) (
-      got_reads (definition.Array v1 v2) u2.now)))
+  -- the index and the element of an array, in two steps and in one
+  abbrev with_element : ℕ → DiscreteRange → Reader TypeDefinition
+  with_element m r = read.indication_by x m >>= λ s. got (definition.Array r s)
+
+  behind_of : (m : ℕ) (r : DiscreteRange) (q : Reading Token) → goes_on (λ _. with_element m r) q ≡ goes_on (with_element m) (goes_on (λ _. got r) q)
+  behind_of m r (Got t us) = refl
+  behind_of m r (Stuck us) = refl
+
+  behind_right : (m : ℕ) (r : DiscreteRange) (q : Reading Token) → goes_on (λ _. skip symbol.Of (with_element m r)) q ≡ goes_on (with_element m) (goes_on (λ _. skip symbol.Of (got r)) q)
+  behind_right m r (Got t us) = behind_of m r (expect symbol.Of us)
+  behind_right m r (Stuck us) = refl
+
+  behind_range : (m : ℕ) (q : Reading DiscreteRange)
+      → goes_on (λ r. skip symbol.RightParenthesis (skip symbol.Of (with_element m r))) q ≡ goes_on (with_element m) (goes_on (λ r. skip symbol.RightParenthesis (skip symbol.Of (got r))) q)
+  behind_range m (Got r us) = behind_right m r (expect symbol.RightParenthesis us)
+  behind_range m (Stuck us) = refl
+
+  behind_left : (m : ℕ) (q : Reading Token)
+      → goes_on (λ _. read.range_by x m >>= λ r. skip symbol.RightParenthesis (skip symbol.Of (with_element m r))) q
+      ≡ goes_on (with_element m) (goes_on (λ _. read.range_by x m >>= λ r. skip symbol.RightParenthesis (skip symbol.Of (got r))) q)
+  behind_left m (Got t us) = behind_range m (read.range_by x m us)
+  behind_left m (Stuck us) = refl
+
+  in_one : (ts : Tokens) (q : Reading TypeDefinition) → Reads (λ m. read.index_by x m >>= with_element m) ts q → Reads (read.array_by x) ts q
+  in_one ts q h = record { by = λ m l. behind_left m (expect symbol.LeftParenthesis ts) ∙ h.by m l }
+
+  pub array_index_fails : (ts rest : Tokens) → Reads (read.index_by x) ts (Stuck rest) → Reads (read.array_by x) ts (Stuck rest)
+  array_index_fails ts rest h = in_one ts (Stuck rest) (then_stuck (read.index_by x) with_element ts rest h)
+
+  pub array_element_fails : (ts us rest : Tokens) (r : DiscreteRange) → Reads (read.index_by x) ts (Got r us) → length us < length ts → Reads (read.indication_by x) us (Stuck rest) → Reads (read.array_by x) ts (Stuck rest)
+  array_element_fails ts us rest r h l e = in_one ts (Stuck rest) (then_reads (read.index_by x) with_element ts us r (Stuck rest) h (omega (arith, l)) (then_stuck (read.indication_by x) (λ m s. got (definition.Array r s)) us rest e))
+
+  pub array_read : (ts us rest : Tokens) (r : DiscreteRange) (s : SubtypeIndication) → Reads (read.index_by x) ts (Got r us) → length us < length ts → Reads (read.indication_by x) us (Got s rest)
+      → Reads (read.array_by x) ts (Got (definition.Array r s) rest)
+  array_read ts us rest r s h l e = in_one ts (Got (definition.Array r s) rest) (then_reads (read.index_by x) with_element ts us r (Got (definition.Array r s) rest) h (omega (arith, l)) (then_got_reads (read.indication_by x) (λ s. definition.Array r s) us rest s e))
 
   pub record_fails_first : (ts : Tokens) {C0 : Type 0} (p0 : Result (C0 × Bor Tokens) Fault) (p01 : Result (C0 × Bor Tokens) Fault) (f : Fault) (view0 : C0 → List Component)
       → ShowsAs view0 (Reads (read.components_by x) ts) p0 → Below ts p0 → Closes symbol.End p0 p01 → Closes symbol.Record p01 (failed f)

@@ -98,6 +98,10 @@ module _ (x : Extent) (m : ℕ) where
   abbrev pub components_by : Reader (List Component)
   components_by = component_by >>= λ c. repeat components_turn (suc m) (c ∷ [])
 
+  -- the index of an array, up to its element
+  abbrev pub index_by : Reader DiscreteRange
+  index_by = skip symbol.LeftParenthesis (range_by >>= λ r. skip symbol.RightParenthesis (skip symbol.Of (got r)))
+
   -- behind ARRAY
   abbrev pub array_by : Reader TypeDefinition
   array_by = skip symbol.LeftParenthesis (range_by >>= λ r. skip symbol.RightParenthesis (skip symbol.Of (indication_by >>= λ s. got (definition.Array r s))))

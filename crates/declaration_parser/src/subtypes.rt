@@ -112,14 +112,22 @@ fn components<'a>(parser: Parser, tokens: &'a [Token]) -> Parsed<'a, Vec<Compone
     Ok((components, rest))
 }
 
+/// `( range ) OF`
+fn index<'a>(parser: Parser, tokens: &'a [Token]) -> Parsed<'a, DiscreteRange>
+    ensures reads { Shows (Reads (read.index_by parser.extent) tokens.now) result }
+    ensures shorter { IfOk result (λ x. length x.1.now < length tokens.now) }
+{
+    let rest = word(Symbol::LeftParenthesis, tokens)?;
+    let index = closed_by(Symbol::RightParenthesis, range(parser, rest));
+    closed_by(Symbol::Of, index)
+}
+
 /// `( range ) OF sub` behind `ARRAY`
 fn array<'a>(parser: Parser, tokens: &'a [Token]) -> Parsed<'a, TypeDefinition>
     ensures reads { Shows (Reads (read.array_by parser.extent) tokens.now) result }
     ensures shorter { IfOk result (λ x. length x.1.now < length tokens.now) }
 {
-    let rest = word(Symbol::LeftParenthesis, tokens)?;
-    let index = closed_by(Symbol::RightParenthesis, range(parser, rest));
-    let (index, rest) = closed_by(Symbol::Of, index)?;
+    let (index, rest) = index(parser, tokens)?;
     let (element, rest) = indication(parser, rest)?;
     Ok((TypeDefinition::Array(index, element), rest))
 }
