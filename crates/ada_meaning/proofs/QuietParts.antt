@@ -1,5 +1,5 @@
 -- Actions that add no event and hang on no fuel: setting, copying, checks, and choices.
-use Rattle.std.proofs.Common.{ℕ, zero, suc, ℤ, pos, ◌+ℤ◌, true, false, List, [], ◌∷◌, drop, Option, Some, None, ◌&&◌, ◌||◌, int_eq}
+use Rattle.std.proofs.Common.{ℕ, zero, suc, ℤ, pos, ◌+ℤ◌, true, false, List, [], ◌∷◌, drop, Option, Some, None, ◌&&◌, int_eq}
 use Rattle.ada_meaning.specs.Tree.{Choice, ExceptionChoice}
 use Rattle.ada_meaning.specs.Program.{Bounds, Mode, in_mode, out_mode, in_out_mode, Program}
 use Rattle.ada_meaning.specs.Arithmetic.{base_range, is_within, divides, exact}

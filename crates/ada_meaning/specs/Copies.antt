@@ -1,5 +1,5 @@
 -- Copies of a generic's text for an instance: what hangs on the formals is replaced by what it is there.
-use Rattle.std.specs.Prelude.{ℕ, zero, suc, ℤ, List, [], map, Option, option_map, slice_get}
+use Rattle.std.specs.Prelude.{ℕ, zero, suc, ℤ, List, [], map, Option, None, option_map, slice_get}
 use Rattle.ada_meaning.specs.Types.{of_instance, Static, static_number, Range, between, Subtype, scalar, array, fields, subtype_of, Components, no_component, and_component}
 use Rattle.ada_meaning.specs.Tree.{Object, library_object, local_object, Callee, test_get, test_put, subprogram, ExceptionName, predefined, Expr, literal, constant, attribute, read, signed, operation, relation, complement, conversion, call, decision, Parts, whole, component, element, Actuals, no_actual, by_expression, by_variable, by_composite, Test, condition, negation, operator, NewValue, scalar_value, composite_value, others_value, Choice, value_choice, range_choice, other_values, ExceptionChoice, named_exception, other_exceptions, LoopRange, over_subtype, over_bounds, Declaration, initialized, without_value, Stmt, null_statement, assignment, procedure_call, if_statement, case_statement, bare_loop, while_loop, for_loop, exit_statement, exit_when, return_statement, return_value, raise_statement, raise_again, block_statement, Stmts, no_statement, and_statement, Branches, else_part, branch, Alternatives, no_alternative, alternative, Handlers, no_handler, handler, Block, block}
 use Rattle.ada_meaning.specs.Program.{Parameter, Subprogram, Target, get_target, put_target, body_target, Program}
@@ -158,9 +158,9 @@ module _ (p : Program) (inst : ℕ) where
   abbrev pub parameter_copy : Parameter → Parameter
   parameter_copy q = record { declaration = q.declaration; mode = q.mode; subtype = subtype_copy p inst q.subtype }
 
-  -- a subprogram
+  -- a subprogram, which then stands in no generic
   abbrev pub subprogram_copy : Subprogram → Subprogram
-  subprogram_copy s = record { parameters = map parameter_copy s.parameters; body = block_copy s.body }
+  subprogram_copy s = record { generic = None; parameters = map parameter_copy s.parameters; body = block_copy s.body }
 
 -- calls that execute the copy of a subprogram for its instance
 abbrev pub copied_calls : Program → ℕ → Calls

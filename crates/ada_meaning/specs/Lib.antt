@@ -5,6 +5,8 @@ pub mod Arithmetic
 pub mod State
 pub mod Shape
 pub mod Resolved
+pub mod Statics
+pub mod Bodies
 pub mod Calls
 pub mod Expressions
 pub mod Statements

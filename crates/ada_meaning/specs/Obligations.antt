@@ -1,5 +1,5 @@
 -- The obligations of a program, and the numbers by which its trees name them.
-use Rattle.std.specs.Prelude.{◌≡◌, ℕ, zero, suc, nat_eq, nat_lt, Bool, not, ◌&&◌, ◌||◌, List, [], ◌∷◌, ◌++◌, codes, map, length, Option, Some, None, if◌then◌else◌}
+use Rattle.std.specs.Prelude.{◌≡◌, ℕ, zero, suc, ◌+◌, nat_eq, Bool, not, ◌&&◌, ◌||◌, List, [], ◌∷◌, ◌++◌, codes, map, length, Option, Some, None, if◌then◌else◌}
 use Rattle.cov_base.specs.TextOrder.{precedes}
 use Rattle.cov_base.specs.declared.position.Pos.{Pos}
 use Rattle.cov_base.specs.declared.obligations.StmtEntry.{StmtEntry}
@@ -13,6 +13,7 @@ use Rattle.cov_base.specs.Lists.{Everywhere}
 use Rattle.ada_meaning.specs.Tree.{Label, shape_of}
 use Rattle.ada_meaning.specs.Program.{FormalActual, actual_object, actual_type, actual_subprogram, Instance, ExceptionDeclaration, Raisable, Program}
 use Rattle.ada_meaning.specs.Resolved.{number_in, bounds_in}
+use Rattle.ada_meaning.specs.Statics.{constants_of, constant_values, values_of}
 use Rattle.ada_meaning.specs.Collected.{Standing, after_if, after_while, after_exit, elsewhere, Decision, condition_places, labels_of, decisions_of}
 
 -- an item among items in order: before the first that doesn't come before it
@@ -143,9 +144,19 @@ pub record IsNumbered (p : Program) : Type 0 where
 -- what an instance has for a formal is the value of the actual, which stands in no generic
 abbrev pub IsValueOf : Program → FormalActual → Type 0
 IsValueOf p (actual_object e x) = x ≡ number_in p 0 e
-IsValueOf p (actual_type r b) = b ≡ bounds_in p 0 r
+IsValueOf p (actual_type r b c) = b ≡ bounds_in p 0 r
 IsValueOf p (actual_subprogram t) = Unit {0}
 
--- each instance has for its formals the values of the actuals
+-- an instance with this number has for its formals the values of the actuals, and for the constants of its generic their values
+pub record IsInstanceResolved (p : Program) (n : ℕ) (i : Instance) : Type 0 where
+  pub formals : Everywhere (IsValueOf p) i.actuals
+  pub constants : i.constants ≡ constant_values (values_of p) n [] (constants_of i.generic p.constants)
+
+-- so has each of these, which are numbered from n on
+abbrev pub AreResolved : Program → ℕ → List Instance → Type 0
+AreResolved p n [] = Unit {0}
+AreResolved p n (i ∷ is) = IsInstanceResolved p n i × AreResolved p (n + 1) is
+
+-- each instance of a program has the values of the program's text in it
 abbrev pub IsResolved : Program → Type 0
-IsResolved p = Everywhere (λ i. Everywhere (IsValueOf p) i.actuals) p.instances
+IsResolved p = AreResolved p 1 p.instances

@@ -21,8 +21,9 @@ pub record Parameter : Type 0 where
   pub mode : Mode
   pub subtype : Subtype
 
--- a subprogram with its body (RM 6.3)
+-- a subprogram with its body (RM 6.3); `generic` is the number of the generic whose text it stands in
 pub record Subprogram : Type 0 where
+  pub generic : Option ℕ
   pub parameters : List Parameter
   pub body : Block
 
@@ -39,25 +40,34 @@ pub record LibraryObject : Type 0 where
   pub subtype : Subtype
   pub initial : Initial
 
+-- a constant of a generic with a static initial expression (RM 3.3.1, 4.9): the number of the generic whose text it stands in, the
+-- expression, which names only constants before this one, and the range of the constant's subtype
+pub record GenericConstant : Type 0 where
+  pub generic : ℕ
+  pub value : Static
+  pub range : Range
+
 -- what a call comes to: Test_IO's procedures, or the subprogram with this number in the instance with this number
 pub data Target : Type 0 where
   get_target : Target
   put_target : Target
   body_target : ℕ → ℕ → Target
 
--- what an instance has for a formal (RM 12.3): of a formal object the static expression and its value, of a formal type the subtype and
--- its bounds, of a formal subprogram the subprogram
+-- what an instance has for a formal (RM 12.3): of a formal object the static expression and its value; of a formal type the subtype, its
+-- bounds, and those of its type, which a case on an expression of the type has to name (RM 5.4); of a formal subprogram the subprogram
 pub data FormalActual : Type 0 where
   actual_object : Static → ℤ → FormalActual
-  actual_type : Range → Bounds → FormalActual
+  actual_type : Range → (subtype type : Bounds) → FormalActual
   actual_subprogram : Target → FormalActual
 
--- an instance (RM 12.3): the name in lower case, the place of its `package`, the number of its generic, and what it has for the formals, in order
+-- an instance (RM 12.3): the name in lower case, the place of its `package`, the number of its generic, what it has for the formals, in
+-- order, and the values of its generic's constants, in order, none where a constant has no static value here
 pub record Instance : Type 0 where
   pub name : List ℕ
   pub place : Pos
   pub generic : ℕ
   pub actuals : List FormalActual
+  pub constants : List (Option ℤ)
 
 -- a declaration of an exception: where it stands, the generic that it stands in, and its full name in lower case, in two parts: the
 -- unit, and what comes after the unit's name and a point
@@ -73,12 +83,14 @@ pub record Raisable : Type 0 where
   pub instance : ℕ
   pub declaration : ℕ
 
--- A program: subprograms are numbered by their places in their list from 0, instances from 1. The numbers of declared exceptions are
+-- A program: subprograms are numbered by their places in their list from 0, instances from 1, the constants of each generic by their
+-- places among its own. The numbers of declared exceptions are
 -- their places among `exceptions`, from 5 on.
 pub record Program : Type 0 where
   pub subprograms : List Subprogram
   pub main : ℕ
   pub objects : List LibraryObject
+  pub constants : List GenericConstant
   pub instances : List Instance
   pub declared : List ExceptionDeclaration
   pub exceptions : List Raisable

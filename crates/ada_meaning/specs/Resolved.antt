@@ -1,7 +1,7 @@
 -- What names of the typed program are in an instance: values of static expressions, bounds, shapes of types, places of objects,
 -- subprograms, exceptions.
-use Rattle.std.specs.Prelude.{ℕ, zero, suc, ◌+◌, nat_eq, ℤ, pos, ◌+ℤ◌, ◌-ℤ◌, ◌&&◌, List, [], ◌∷◌, map, Option, Some, None, slice_get, if◌then◌else◌}
-use Rattle.ada_meaning.specs.Types.{Owner, here, of_instance, Static, static_number, static_formal, static_first, static_last, static_length, static_sign, static_operation, static_of, Range, between, formal_range, range_of, Subtype, scalar, array, fields, subtype_of, Components, no_component, and_component}
+use Rattle.std.specs.Prelude.{ℕ, zero, suc, ◌+◌, nat_eq, ℤ, pos, ◌+ℤ◌, ◌-ℤ◌, ◌&&◌, List, [], ◌∷◌, map, Option, Some, None, slice_get, unwrap_or, if◌then◌else◌}
+use Rattle.ada_meaning.specs.Types.{Owner, here, of_instance, Static, static_number, static_formal, static_constant, static_first, static_last, static_length, static_sign, static_operation, static_of, Range, between, formal_range, range_of, Subtype, scalar, array, fields, subtype_of, Components, no_component, and_component}
 use Rattle.ada_meaning.specs.Tree.{Object, library_object, local_object, Callee, test_get, test_put, subprogram, formal_subprogram, ExceptionName, predefined, declared}
 use Rattle.ada_meaning.specs.Program.{Bounds, Mode, in_mode, out_mode, Parameter, Subprogram, Target, get_target, put_target, body_target, FormalActual, actual_object, actual_type, actual_subprogram, Instance, Raisable, Program}
 use Rattle.ada_meaning.specs.Arithmetic.{base_range, sign_of, exact}
@@ -43,8 +43,17 @@ formal_number other = pos 0
 
 -- the bounds of a formal type (the base range for what is none)
 abbrev pub formal_bounds : Option FormalActual → Bounds
-formal_bounds (Some (actual_type r b)) = b
+formal_bounds (Some (actual_type r b c)) = b
 formal_bounds other = base_range
+
+-- the value of a constant of a generic in an instance, if there is one
+abbrev pub constant_among : Option Instance → ℕ → Option ℤ
+constant_among None k = None
+constant_among (Some i) k = unwrap_or (slice_get i.constants k) None
+
+abbrev pub constant_of : Program → ℕ → ℕ → Option ℤ
+constant_of p zero k = None
+constant_of p (suc i) k = constant_among (slice_get p.instances i) k
 
 -- what a formal subprogram comes to (Put for what is none)
 abbrev pub formal_target : Option FormalActual → Target
@@ -77,6 +86,7 @@ module _ (p : Program) where
     pub number_in : ℕ → Static → ℤ
     number_in inst (static_number x) = x
     number_in inst (static_formal k) = formal_number (formal_of p inst k)
+    number_in inst (static_constant k) = unwrap_or (constant_of p inst k) (pos 0)
     number_in inst (static_first r) = (bounds_in inst r).low
     number_in inst (static_last r) = (bounds_in inst r).high
     number_in inst (static_length r) = (bounds_in inst r).high -ℤ (bounds_in inst r).low +ℤ pos 1

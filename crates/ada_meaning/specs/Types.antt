@@ -33,12 +33,14 @@ pub data Owner : Type 0 where
   of_instance : ℕ → Owner
 
 mutual
-  -- a static expression (RM 4.9). A constant with a static value is written out as its initial expression.
+  -- a static expression (RM 4.9). A constant in no generic with a static value stands as its value.
   pub data Static : Type 0 where
     -- a numeral, or the position number of an enumeration literal
     static_number : ℤ → Static
     -- the formal object with this place among the formals of the generic (RM 12.4)
     static_formal : ℕ → Static
+    -- the constant with this place among the constants of the generic (RM 3.3.1)
+    static_constant : ℕ → Static
     -- First and Last of a scalar subtype, or of the index of an array (RM 3.5, 3.6.2)
     static_first : Range → Static
     static_last : Range → Static
