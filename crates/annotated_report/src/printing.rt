@@ -3,7 +3,7 @@
 ghost use Rattle.std.specs.Prelude.{◌≡◌, ◌++◌, [], length, map, codes, IfOk, OnOk, if◌then◌else◌};
 ghost use Rattle.annotated_report.specs.Caller.{AreEvaluated, AreOfStatements};
 ghost use Rattle.annotated_report.specs.Findings.{asks_outcomes, asks_pairs};
-ghost use Rattle.annotated_report.specs.Report.{violations_text, total_text, pairs_text, judged_totals, report_text};
+ghost use Rattle.annotated_report.specs.Report.{head_text, violations_text, total_text, pairs_text, judged_totals, report_text};
 
 use crate::finding::{Finding, PairLine};
 use crate::judge::{Judged, condition_count, judge};
@@ -136,16 +136,34 @@ pub fn report(
     ensures { IfOk result (λ text. text.items ≡ report_text level obligations.now n events.now (map (λ file. file.name) files.now)) }
 {
     let judged = judge(alloc, level, obligations, events)?;
-    let regions = obligations.regions.as_slice();
     let mut text = Vec::new(alloc);
-    put_head(alloc, &mut text, level, n)?;
+    put_report(alloc, &mut text, level, obligations, n, files, &judged)?;
+    Ok(text)
+}
+
+/// Appends the report of what was judged.
+fn put_report(
+    alloc: Global,
+    text: &mut Vec<u8>,
+    level: Level,
+    obligations: &Obligations,
+    n: u64,
+    files: &[SourceFile],
+    judged: &Judged,
+) -> Result<(), AllocError>
+    ensures { OnOk result (text.new.items ≡ text.old.items ++ (head_text level n
+        ++ (violations_text (map (λ file. file.name) files.now) obligations.now.regions judged.now.found.findings.items
+        ++ judged_totals level obligations.now (map (λ file. file.name) files.now)
+        judged.now.statements judged.now.decisions judged.now.found.pairs.items))) }
+{
+    let regions = obligations.regions.as_slice();
+    put_head(alloc, text, level, n)?;
     put_findings(
         alloc,
-        &mut text,
+        text,
         files,
         regions,
         judged.found.findings.as_slice(),
     )?;
-    put_totals(alloc, &mut text, level, files, obligations, &judged)?;
-    Ok(text)
+    put_totals(alloc, text, level, files, obligations, judged)
 }

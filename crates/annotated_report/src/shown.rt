@@ -40,6 +40,17 @@ fn put_vector(text: &mut Vec<u8>, conditions: usize, v: Vector) -> Result<(), Al
     Ok(())
 }
 
+/// Appends a pair of vectors of so many conditions.
+fn put_pair(text: &mut Vec<u8>, conditions: usize, pair: (Vector, Vector)) -> Result<(), AllocError>
+    requires { conditions ≤ 32 }
+    ensures { OnOk result (text.new.items ≡ text.old.items ++ pair_text conditions (record { first = pair.0; second = pair.1 })) }
+{
+    let (first, second) = pair;
+    put_vector(text, conditions, first)?;
+    text.push(b' ')?;
+    put_vector(text, conditions, second)
+}
+
 /// The text of a pair of vectors of so many conditions.
 pub(crate) fn pair_text(
     alloc: Global,
@@ -49,10 +60,7 @@ pub(crate) fn pair_text(
     requires { conditions ≤ 32 }
     ensures { IfOk result (λ text. text ≡ pair_text conditions (record { first = pair.0; second = pair.1 })) }
 {
-    let (first, second) = pair;
     let mut text = Vec::new(alloc);
-    put_vector(&mut text, conditions, first)?;
-    text.push(b' ')?;
-    put_vector(&mut text, conditions, second)?;
+    put_pair(&mut text, conditions, pair)?;
     Ok(Bytes::from(text))
 }

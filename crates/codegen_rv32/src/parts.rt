@@ -221,15 +221,31 @@ pub(crate) fn leave_body(emitter: &mut Emitter) -> Result<(), AllocError>
     emitter.plain(back())
 }
 
+/// Sets the frame and the return addresses of the first call.
+#[tactic(auto, using(kernel_code::proofs::Lines::lines_assoc))]
+fn enter_start(emitter: &mut Emitter) -> Result<(), AllocError>
+    ensures { OnOk result (emitter.new ≡ emitter.old ++ map plain (Upper Lui 8 0x1fc0 ∷ load_constant 2 0x1fc0800 [])) }
+{
+    emitter.plain(lui(Reg::fp(), 0x1fc0))?;
+    emitter.load_constant(Reg::sp(), 0x1fc0800)
+}
+
+/// Ends the run, with the number of the exception or 0.
+#[tactic(auto, using(kernel_code::proofs::Lines::lines_assoc))]
+fn end_run(emitter: &mut Emitter) -> Result<(), AllocError>
+    ensures { OnOk result (emitter.new ≡ emitter.old ++ (map plain (Immediate Addi 10 12 0 ∷ Immediate Addi 17 0 3 ∷ []) ++ (plain Ecall ∷ []))) }
+{
+    emitter.plain(addi(Reg::a0(), exception(), 0))?;
+    emitter.plain(addi(Reg::a7(), Reg::zero(), 3))?;
+    emitter.plain(Instr::Ecall)
+}
+
 /// The lines of the start.
 #[tactic(auto, using(kernel_code::proofs::Lines::lines_assoc))]
 pub(crate) fn put_start(emitter: &mut Emitter, main: u32) -> Result<(), AllocError>
     ensures { OnOk result (emitter.new ≡ emitter.old ++ start_lines main) }
 {
-    emitter.plain(lui(Reg::fp(), 0x1fc0))?;
-    emitter.load_constant(Reg::sp(), 0x1fc0800)?;
+    enter_start(emitter)?;
     emitter.call_piece(further(main, 1)?)?;
-    emitter.plain(addi(Reg::a0(), exception(), 0))?;
-    emitter.plain(addi(Reg::a7(), Reg::zero(), 3))?;
-    emitter.plain(Instr::Ecall)
+    end_run(emitter)
 }

@@ -1,6 +1,6 @@
 //! The pieces of a kernel.
 
-ghost use Rattle.std.specs.Prelude.{◌≡◌, ◌≤◌, ◌+◌, ◌*◌, ◌++◌, IfOk, OnOk};
+ghost use Rattle.std.specs.Prelude.{◌≡◌, ◌≤◌, ◌+◌, ◌*◌, ◌∷◌, ◌++◌, IfOk, OnOk};
 ghost use Rattle.assembler.specs.Placed.{words_in};
 ghost use Rattle.assembler.specs.declared.piece.Mark.TheVariants as mark;
 ghost use Rattle.kernel_code.specs.Line.{items_of, mark_of, marks_from};
@@ -10,6 +10,7 @@ ghost use Rattle.kernel_code.specs.FillCode.{layout_lines};
 ghost use Rattle.kernel_code.specs.Pieces.{layout_pieces, kernel_pieces};
 ghost use Rattle.kernel_code.specs.View.{said_of, lines_of};
 ghost use Rattle.kernel_ir.specs.Limits.{kernel_instructions};
+ghost use Rattle.kernel_code.specs.Frame.{sizes_of};
 ghost use Rattle.kernel_code.specs.Set.{setting_of};
 ghost use Rattle.codegen_rv32.specs.Set.{body_pieces};
 
@@ -29,24 +30,42 @@ pub fn generate(alloc: Global, kernel: &Kernel) -> Result<Vec<Piece>, AllocError
     ensures pieces { IfOk result (λ pieces. pieces.items ≡ kernel_pieces kernel.now) }
     ensures bytes { IfOk result (λ pieces. 4 * words_in pieces.items ≤ 4 * kernel_instructions kernel.now) }
 {
-    let layouts = kernel.layouts.as_slice();
-    let bodies = kernel.bodies.as_slice();
-    let sizes = sizes_of(alloc, layouts)?;
-    let count = u32::try_from(bodies.len()).map_err(|_| AllocError)?;
-    let first_layout = further(count, 1)?;
+    let sizes = sizes_of(alloc, kernel.layouts.as_slice())?;
+    pieces_of(alloc, kernel, sizes.as_slice())
+}
+
+/// The pieces of a kernel whose layouts have these sizes.
+fn pieces_of(alloc: Global, kernel: &Kernel, sizes: &[u64]) -> Result<Vec<Piece>, AllocError>
+    requires { sizes.now ≡ sizes_of kernel.now.layouts }
+    ensures { IfOk result (λ pieces. pieces.items ≡ kernel_pieces kernel.now) }
+{
+    let count = u32::try_from(kernel.bodies.len()).map_err(|_| AllocError)?;
     let frame = Frame {
         width: 0,
         exceptions: kernel.exceptions,
-        layouts,
-        sizes: sizes.as_slice(),
-        first_layout,
+        layouts: kernel.layouts.as_slice(),
+        sizes,
+        first_layout: further(count, 1)?,
     };
     let mut pieces = Vec::new(alloc);
+    put_pieces(alloc, &mut pieces, &frame, kernel)?;
+    Ok(pieces)
+}
+
+/// Puts the pieces of the start, of the bodies and of the layouts.
+fn put_pieces(
+    alloc: Global,
+    pieces: &mut Vec<Piece>,
+    frame: &Frame<'_>,
+    kernel: &Kernel,
+) -> Result<(), AllocError>
+    ensures { OnOk result (pieces.new.items ≡ pieces.old.items ++ (piece_of (start_lines kernel.now.main)
+        ∷ (body_pieces (setting_of frame.now) kernel.now.bodies ++ layout_pieces frame.now.first_layout 0 kernel.now.layouts))) }
+{
     let start = start_piece(alloc, kernel.main)?;
     pieces.push(start)?;
-    put_bodies(alloc, &mut pieces, &frame, bodies)?;
-    put_layouts(alloc, &mut pieces, first_layout, layouts)?;
-    Ok(pieces)
+    put_bodies(alloc, pieces, frame, kernel.bodies.as_slice())?;
+    put_layouts(alloc, pieces, frame.first_layout, kernel.layouts.as_slice())
 }
 
 /// Puts the pieces of bodies behind the others.

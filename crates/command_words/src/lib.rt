@@ -7,6 +7,7 @@
 //! [`refused`] carry worked examples of the definition as their contracts.
 #![tactic(auto)]
 
+mod arguments;
 mod command;
 mod commands;
 mod examples;

@@ -9,7 +9,7 @@ use Rattle.object_format.specs.declared.object.Object.{Object}
 use Rattle.object_format.specs.declared.parts.Parts.{Parts}
 use Rattle.object_format.specs.Counts.{IsCountable, AreCountable, FileFits, InstanceFits, DecisionFits, RegionFits, HasFile}
 use Rattle.object_format.specs.File.{magic, parts_of, with_digest, object_bytes, closed_object, HasSpelling, IsClosed, as_object, structured}
-use Rattle.object_format.specs.Layout.{file_entry, instance_entry, decision_entry, region, segment, obligations, parts}
+use Rattle.object_format.specs.Layout.{file_entry, instance_entry, decision_entry, region, segment, listed, obligations, to_cover, parts}
 use Rattle.object_format.specs.LayoutLaws.{parts_ok}
 use Rattle.spelling.specs.declared.fault.LayerFault.{LayerFault}
 use Rattle.spelling.specs.Format.{Format, string, list_of}
@@ -64,7 +64,7 @@ countable : {X : Type 0} (f : Format X) (Fits : X → Type 0) → ((x : X) → f
 countable f Fits weaker xs fits = (fits.0, All-weaker f.Fits Fits weaker xs (All-from_recursion f.Fits xs fits.1.1))
 
 pub HasFile-from_spelling : (o : Object) → HasSpelling o → HasFile o
-unfolding parts segment obligations
+unfolding parts segment listed obligations to_cover
 HasFile-from_spelling o fits = record {
   text = fits.0.1.0;
   init = fits.1.0.1.0;

@@ -1,5 +1,5 @@
 -- What reading an object answers.
-use Rattle.std.proofs.Common.{◌≡◌, inl, inr, ℕ, Bool, true, false, ◌&&◌, List, Result, Ok, Err, IfOk, IfErr, refl, sym, ap, subst, ◌∙◌}
+use Rattle.std.proofs.Common.{◌≡◌, inl, inr, ℕ, Bool, true, false, ◌&&◌, List, Result, Ok, Err, IfOk, IfErr, OnOk, refl, sym, ap, subst, ◌∙◌}
 use Rattle.std.proofs.lemmas.Bool.{and_right}
 use Rattle.cov_base.specs.declared.failure.Failure.{Failure}
 use Rattle.cov_base.specs.declared.failure.Failure.TheVariants.{Fault, WantOfMemory}
@@ -9,7 +9,7 @@ use Rattle.object_format.specs.declared.object.Object.{Object}
 use Rattle.object_format.specs.Checked.{IsSound, FailsFirst, IsRefusal}
 use Rattle.object_format.specs.Fields.{passes_field}
 use Rattle.object_format.specs.File.{object_bytes, structured}
-use Rattle.object_format.specs.Read.{IsObject, is_plain, passes_plain_field, IsRefusedFor, IsFailure}
+use Rattle.object_format.specs.Read.{IsObject, is_plain, passes_plain_field, IsPlainRefusal, IsRefusedFor, IsFailure}
 use Rattle.object_format.proofs.FileLaws.{structured_found, structured_only}
 use Rattle.spelling.specs.Laws.{IsBytes}
 use Rattle.spelling.specs.Outcome.{Delivers, Fails}
@@ -92,10 +92,23 @@ plain_field o f plain h = subst (λ b. FailsFirst b o f) (with_true (passes_fiel
     with_true true b e = sym e
     with_true false b e = refl
 
-pub plain_check_fails : (bytes : List ℕ) (o : Object) (failure : Failure ObjectFault) → structured bytes ≡ Ok o → is_plain o ≡ true → IsRefusal o failure
-    → IsFailure passes_plain_field bytes failure
-plain_check_fails bytes o (Fault f) there plain h = inr (o, there, plain_field o f plain h)
-plain_check_fails bytes o WantOfMemory there plain h = tt
+plain_refusal : (o : Object) (failure : Failure ObjectFault) → is_plain o ≡ true → IsRefusal o failure → IsPlainRefusal o failure
+plain_refusal o (Fault f) plain h = plain_field o f plain h
+plain_refusal o WantOfMemory plain h = tt
 
-pub not_plain : (bytes : List ℕ) (o : Object) → structured bytes ≡ Ok o → is_plain o ≡ false → IsRefusedFor passes_plain_field bytes Field
-not_plain bytes o there fails = inr (o, there, and_right (passes_field o) (is_plain o) fails)
+-- what the checks answer of an object in the language of the moment
+pub passes_plainly : {X : Type 0} (o : Object) (r : Result X (Failure ObjectFault)) → is_plain o ≡ true → OnOk r (IsSound o) → OnOk r (IsSound o × (is_plain o ≡ true))
+passes_plainly o (Ok x) plain h = (h, plain)
+passes_plainly o (Err failure) plain h = tt
+
+pub plainly_refused : {X : Type 0} (o : Object) (r : Result X (Failure ObjectFault)) → is_plain o ≡ true → IfErr r (IsRefusal o) → IfErr r (IsPlainRefusal o)
+plainly_refused o (Ok x) plain h = tt
+plainly_refused o (Err failure) plain h = plain_refusal o failure plain h
+
+pub not_plain : (o : Object) → is_plain o ≡ false → passes_plain_field o ≡ false
+not_plain o fails = and_right (passes_field o) (is_plain o) fails
+
+pub plain_check_fails : (bytes : List ℕ) (o : Object) (failure : Failure ObjectFault) → structured bytes ≡ Ok o → IsPlainRefusal o failure
+    → IsFailure passes_plain_field bytes failure
+plain_check_fails bytes o (Fault f) there h = inr (o, there, h)
+plain_check_fails bytes o WantOfMemory there h = tt

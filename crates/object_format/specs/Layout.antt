@@ -18,15 +18,19 @@ use Rattle.spelling.specs.Format.{Format, number, byte, bytes_of, string, digest
 abbrev pub file_entry : Format FileEntry
 file_entry = seen_as (string & digest) (λ p. record { name = p.0; sha256 = p.1 }) (λ f. (f.name, f.sha256))
 
+-- a place in the sources: file, line and column
+abbrev pub position : Format (ℕ × (ℕ × ℕ))
+position = number & number & number
+
 -- an instance: its name, file, line and column
 abbrev pub instance_entry : Format InstanceEntry
-instance_entry = seen_as (string & number & number & number)
+instance_entry = seen_as (string & position)
     (λ p. record { name = p.0; file = p.1.0; line = p.1.1.0; column = p.1.1.1 })
     (λ i. (i.name, (i.file, (i.line, i.column))))
 
 -- a statement: file, line and column
 abbrev pub statement_entry : Format StmtEntry
-statement_entry = seen_as (number & number & number)
+statement_entry = seen_as position
     (λ p. record { file = p.0; line = p.1.0; column = p.1.1 })
     (λ s. (s.file, (s.line, s.column)))
 
@@ -40,9 +44,13 @@ abbrev pub conditions : Format (List ℕ × List Place)
 conditions = seen_as (then_by (byte & byte) (λ n. bytes_of n.1 & many place n.0)) (λ p. p.1)
     (λ x. ((length x.1, length x.0), x))
 
--- a decision: its statement, file, line, column and letter, its expression and its conditions
+-- a decision in its file: its line, column and letter, its expression and its conditions
+abbrev pub placed_decision : Format (ℕ × (ℕ × (ℕ × (List ℕ × List Place))))
+placed_decision = number & number & byte & conditions
+
+-- a decision: its statement and file, its line, column and letter, its expression and its conditions
 abbrev pub decision_entry : Format DecEntry
-decision_entry = seen_as (number & number & number & number & byte & conditions)
+decision_entry = seen_as (number & number & placed_decision)
     (λ p. record {
       statement = record { 0 = p.0 };
       file = p.1.0;
@@ -54,9 +62,13 @@ decision_entry = seen_as (number & number & number & number & byte & conditions)
     })
     (λ d. (d.statement.0, (d.file, (d.line, (d.column, (d.letter.0, (d.expression.postfix, d.conditions)))))))
 
+-- the line and column to which a region reaches, and why it is there
+abbrev pub region_end : Format (ℕ × (ℕ × List ℕ))
+region_end = number & number & string
+
 -- a region: its file, the lines and columns from which and to which it reaches, and why
 abbrev pub region : Format Region
-region = seen_as (number & number & number & number & number & string)
+region = seen_as (number & number & number & region_end)
     (λ p. record {
       file = p.0;
       from_line = p.1.0;
@@ -73,9 +85,13 @@ row = seen_as (number & number & number)
     (λ p. record { address = p.0; statement = record { 0 = p.1.0 }; instance = record { 0 = p.1.1 } })
     (λ r. (r.address, (r.statement.0, r.instance.0)))
 
--- a role: address, kind, decision, condition, the value when the branch is taken, and instance
+-- what a branch evaluates: decision, condition, the value when it is taken, and instance
+abbrev pub evaluated : Format (ℕ × (ℕ × (ℕ × ℕ)))
+evaluated = number & byte & byte & number
+
+-- a role: address, kind, and what the branch evaluates
 abbrev pub role : Format Role
-role = seen_as (number & byte & number & byte & byte & number)
+role = seen_as (number & byte & evaluated)
     (λ p. record {
       address = p.0;
       kind = record { 0 = p.1.0 };
@@ -92,9 +108,13 @@ role = seen_as (number & byte & number & byte & byte & number)
 unfoldable pub segment : Format (ℕ × List ℕ)
 segment = number & list_of number
 
+-- statements, decisions and regions
+unfoldable pub listed : Format (List StmtEntry × (List DecEntry × List Region))
+listed = list_of statement_entry & list_of decision_entry & list_of region
+
 -- what coverage has to show: instances, exceptions, statements, decisions and regions
 unfoldable pub obligations : Format Obligations
-obligations = seen_as (list_of instance_entry & list_of string & list_of statement_entry & list_of decision_entry & list_of region)
+obligations = seen_as (list_of instance_entry & list_of string & listed)
     (λ p. record {
       statements = p.1.1.0;
       decisions = p.1.1.1.0;
@@ -104,9 +124,13 @@ obligations = seen_as (list_of instance_entry & list_of string & list_of stateme
     })
     (λ o. (o.instances, (o.exceptions, (o.statements, (o.decisions, o.regions)))))
 
+-- what coverage has to show, rows and roles
+unfoldable pub to_cover : Format (Obligations × (List Row × List Role))
+to_cover = obligations & list_of row & list_of role
+
 -- all parts: entry and text, data, files, what coverage has to show, rows and roles
 unfoldable pub parts : Format Parts
-parts = seen_as (segment & segment & list_of file_entry & obligations & list_of row & list_of role)
+parts = seen_as (segment & segment & list_of file_entry & to_cover)
     (λ p. record {
       entry = p.0.0;
       text = p.0.1;

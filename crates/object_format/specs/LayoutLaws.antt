@@ -2,7 +2,7 @@
 use Rattle.std.proofs.Common.{refl}
 use Rattle.spelling.specs.Format.{number, byte, bytes_of, string, ◌&◌, many}
 use Rattle.spelling.specs.Laws.{IsFormat, number_ok, byte_ok, bytes_of_ok, string_ok, digest_ok, then_by_ok, and_ok, seen_as_ok, many_ok, list_of_ok}
-use Rattle.object_format.specs.Layout.{file_entry, instance_entry, statement_entry, place, conditions, decision_entry, region, row, role, segment, obligations, parts}
+use Rattle.object_format.specs.Layout.{file_entry, instance_entry, statement_entry, place, conditions, decision_entry, region, row, role, segment, listed, obligations, to_cover, parts}
 
 pub file_entry_ok : IsFormat file_entry
 file_entry_ok = seen_as_ok _ _ _ (and_ok _ _ string_ok digest_ok) (λ _ _. refl) (λ _. refl)
@@ -44,14 +44,22 @@ pub segment_ok : IsFormat segment
 unfolding segment
 segment_ok = and_ok _ _ number_ok (list_of_ok number number_ok)
 
+pub listed_ok : IsFormat listed
+unfolding listed
+listed_ok = and_ok _ _ (list_of_ok statement_entry statement_entry_ok) (and_ok _ _ (list_of_ok decision_entry decision_entry_ok) (list_of_ok region region_ok))
+
 pub obligations_ok : IsFormat obligations
 unfolding obligations
 obligations_ok = seen_as_ok _ _ _
-    (and_ok _ _ (list_of_ok instance_entry instance_entry_ok) (and_ok _ _ (list_of_ok string string_ok) (and_ok _ _ (list_of_ok statement_entry statement_entry_ok) (and_ok _ _ (list_of_ok decision_entry decision_entry_ok) (list_of_ok region region_ok)))))
+    (and_ok _ _ (list_of_ok instance_entry instance_entry_ok) (and_ok _ _ (list_of_ok string string_ok) listed_ok))
     (λ _ _. refl) (λ _. refl)
+
+pub to_cover_ok : IsFormat to_cover
+unfolding to_cover
+to_cover_ok = and_ok _ _ obligations_ok (and_ok _ _ (list_of_ok row row_ok) (list_of_ok role role_ok))
 
 pub parts_ok : IsFormat parts
 unfolding parts
 parts_ok = seen_as_ok _ _ _
-    (and_ok _ _ segment_ok (and_ok _ _ segment_ok (and_ok _ _ (list_of_ok file_entry file_entry_ok) (and_ok _ _ obligations_ok (and_ok _ _ (list_of_ok row row_ok) (list_of_ok role role_ok))))))
+    (and_ok _ _ segment_ok (and_ok _ _ segment_ok (and_ok _ _ (list_of_ok file_entry file_entry_ok) to_cover_ok)))
     (λ _ _. refl) (λ _. refl)

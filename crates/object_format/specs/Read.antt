@@ -24,6 +24,11 @@ is_plain o =
 abbrev pub passes_plain_field : Object → Bool
 passes_plain_field o = passes_field o && is_plain o
 
+-- what the checks answered in the language of the moment: the first that fails, where memory wasn't refused
+abbrev pub IsPlainRefusal : Object → Failure ObjectFault → Type 0
+IsPlainRefusal o (Fault fault) = FailsFirst (passes_plain_field o) o fault
+IsPlainRefusal o WantOfMemory = Unit {0}
+
 -- the fault is that of the first layer of the file that fails, or else of the first check that its object fails, with this check `field`
 abbrev pub IsRefusedFor : (Object → Bool) → List ℕ → ObjectFault → Type 0
 IsRefusedFor field bytes fault =

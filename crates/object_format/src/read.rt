@@ -1,11 +1,11 @@
 //! Reading an object file, with all checks.
 
-ghost use Rattle.std.specs.Prelude.{◌≡◌, ◌&&◌, true, IfOk, IfErr, Ok};
+ghost use Rattle.std.specs.Prelude.{◌≡◌, ◌&&◌, true, IfOk, IfErr, OnOk, Ok};
 ghost use Rattle.object_format.specs.declared.object.Object.{Object};
 ghost use Rattle.object_format.specs.Fields.{passes_field};
 ghost use Rattle.object_format.specs.Checked.{IsSound};
 ghost use Rattle.object_format.specs.File.{object_bytes, structured};
-ghost use Rattle.object_format.specs.Read.{IsObject, is_plain, passes_plain_field, IsFailure};
+ghost use Rattle.object_format.specs.Read.{IsObject, is_plain, passes_plain_field, IsPlainRefusal, IsFailure};
 ghost use Rattle.spelling.specs.Outcome.{Delivers};
 
 use crate::checks::check;
@@ -58,11 +58,20 @@ fn checked_plain(alloc: Global, bytes: &[u8]) -> Result<Object, Failure<ObjectFa
     ensures fault { IfErr result (IsFailure passes_plain_field bytes.now) }
 {
     let value = structure(alloc, bytes)?;
-    if !is_plain(&value) {
+    check_plain(alloc, &value)?;
+    Ok(value)
+}
+
+/// Whether the parts of an object pass the checks in the language of the moment, and else the first
+/// that they fail.
+fn check_plain(alloc: Global, value: &Object) -> Result<(), Failure<ObjectFault>>
+    ensures sound { OnOk result (IsSound value.now × (is_plain value.now ≡ true)) }
+    ensures refused { IfErr result (IsPlainRefusal value.now) }
+{
+    if !is_plain(value) {
         return Err(Failure::Fault(ObjectFault::Field));
     }
-    check(alloc, &value)?;
-    Ok(value)
+    check(alloc, value)
 }
 
 /// Whether an object has nothing that the language of the moment leaves out.

@@ -7,10 +7,11 @@ ghost use Rattle.command_words.specs.Lines.{compile_app};
 ghost use Rattle.command_words.specs.Task.{IsWithinLimits, compile_from, compile_of};
 ghost use Rattle.command_words.specs.Command.{task_view};
 
+use crate::arguments::{output_option, required_name, required_option, with_argument};
 use crate::command::{Command, Usage};
 use crate::limits::is_short;
 use crate::matches::{read, text};
-use clap::{Arg, ArgMatches};
+use clap::ArgMatches;
 use cov_base::Failure;
 use std::alloc::{AllocError, Global};
 
@@ -48,8 +49,7 @@ fn compile_from<'a>(matches: &ArgMatches<'a>) -> Result<Command<'a>, Failure<Usa
 fn compile_line<'a>(alloc: Global) -> Result<clap::Command<'a>, AllocError>
     ensures { IfOk result (λ line. app_of line ≡ compile_app) }
 {
-    clap::Command::new(alloc, "compile")
-        .arg(Arg::new(alloc, "main").long("main").required(true))?
-        .arg(Arg::new(alloc, "object").short('o').required(true))?
-        .arg(Arg::new(alloc, "source").required(true))
+    let line = clap::Command::new(alloc, "compile").arg(required_option(alloc, "main"));
+    let line = with_argument(line, output_option(alloc, "object"));
+    with_argument(line, required_name(alloc, "source"))
 }

@@ -1,16 +1,17 @@
 //! `coverage --level=LEVEL --annotate=ANNOTATE --object=OBJECT [TRACE...]`
 
-ghost use Rattle.std.specs.Prelude.{◌≡◌, map, string_bytes, IfOk};
-ghost use Rattle.clap.specs.Words.{app_of, found_of, rows_of};
+ghost use Rattle.std.specs.Prelude.{◌≡◌, map, codes, option_and_then, string_bytes, IfOk};
+ghost use Rattle.clap.specs.Words.{app_of, first_of, found_of, rows_of};
 ghost use Rattle.command_words.specs.Gives.{Gives};
 ghost use Rattle.command_words.specs.Lines.{coverage_app};
 ghost use Rattle.command_words.specs.Task.{IsWithinLimits, annotation_named, coverage_from, coverage_of, level_named};
 ghost use Rattle.command_words.specs.Command.{task_view};
 
+use crate::arguments::{any_names, required_option, with_argument};
 use crate::command::{Command, Usage};
 use crate::limits::are_few;
 use crate::matches::{read, text, texts};
-use clap::{Arg, ArgAction, ArgMatches};
+use clap::ArgMatches;
 use cov_base::{Annotation, Failure, Level, Seq};
 use std::alloc::{AllocError, Global};
 
@@ -29,8 +30,8 @@ fn coverage_from<'a>(alloc: Global, matches: &ArgMatches<'a>) -> Result<Command<
     ensures command { Gives task_view (coverage_from (rows_of (found_of matches.now))) result }
     ensures limits { IfOk result (λ command. IsWithinLimits (task_view command)) }
 {
-    let level = level_named(text(matches, "level")?)?;
-    let annotate = annotation_named(text(matches, "annotate")?)?;
+    let level = level_of(matches)?;
+    let annotate = annotation_of(matches)?;
     let object = text(matches, "object")?;
     let traces = texts(alloc, matches, "trace")?;
     if !are_few(traces.as_slice()) {
@@ -42,6 +43,20 @@ fn coverage_from<'a>(alloc: Global, matches: &ArgMatches<'a>) -> Result<Command<
         object,
         traces: Seq::from(traces),
     })
+}
+
+/// The level that was found.
+fn level_of(matches: &ArgMatches<'_>) -> Result<Level, Failure<Usage>>
+    ensures { Gives (λ level. level) (option_and_then level_named (first_of (codes "level") (rows_of (found_of matches.now)))) result }
+{
+    level_named(text(matches, "level")?)
+}
+
+/// The form of a report that was found.
+fn annotation_of(matches: &ArgMatches<'_>) -> Result<Annotation, Failure<Usage>>
+    ensures { Gives (λ form. form) (option_and_then annotation_named (first_of (codes "annotate") (rows_of (found_of matches.now)))) result }
+{
+    annotation_named(text(matches, "annotate")?)
 }
 
 /// The level of that name.
@@ -71,9 +86,8 @@ fn annotation_named(name: &str) -> Result<Annotation, Failure<Usage>>
 fn coverage_line<'a>(alloc: Global) -> Result<clap::Command<'a>, AllocError>
     ensures { IfOk result (λ line. app_of line ≡ coverage_app) }
 {
-    clap::Command::new(alloc, "coverage")
-        .arg(Arg::new(alloc, "level").long("level").required(true))?
-        .arg(Arg::new(alloc, "annotate").long("annotate").required(true))?
-        .arg(Arg::new(alloc, "object").long("object").required(true))?
-        .arg(Arg::new(alloc, "trace").action(ArgAction::Append))
+    let line = clap::Command::new(alloc, "coverage").arg(required_option(alloc, "level"));
+    let line = with_argument(line, required_option(alloc, "annotate"));
+    let line = with_argument(line, required_option(alloc, "object"));
+    with_argument(line, any_names(alloc, "trace"))
 }

@@ -7,9 +7,12 @@ ghost use Rattle.command_words.specs.Lines.{run_app};
 ghost use Rattle.command_words.specs.Task.{IsWithinLimits, run_from, run_of};
 ghost use Rattle.command_words.specs.Command.{task_view};
 
+use crate::arguments::{
+    budget_option, output_option, required_name, required_option, with_argument,
+};
 use crate::command::{Command, Usage};
 use crate::matches::{number, read, text};
-use clap::{Arg, ArgMatches};
+use clap::ArgMatches;
 use cov_base::Failure;
 use std::alloc::{AllocError, Global};
 
@@ -52,15 +55,8 @@ fn run_from<'a>(matches: &ArgMatches<'a>) -> Result<Command<'a>, Failure<Usage>>
 fn run_line<'a>(alloc: Global) -> Result<clap::Command<'a>, AllocError>
     ensures { IfOk result (λ line. app_of line ≡ run_app) }
 {
-    let budgets = clap::value_parser!(u32).range(1..);
-    clap::Command::new(alloc, "run")
-        .arg(Arg::new(alloc, "input").long("input").required(true))?
-        .arg(
-            Arg::new(alloc, "budget")
-                .long("budget")
-                .default_value("100000000")
-                .value_parser(budgets),
-        )?
-        .arg(Arg::new(alloc, "trace").short('o').required(true))?
-        .arg(Arg::new(alloc, "object").required(true))
+    let line = clap::Command::new(alloc, "run").arg(required_option(alloc, "input"));
+    let line = with_argument(line, budget_option(alloc));
+    let line = with_argument(line, output_option(alloc, "trace"));
+    with_argument(line, required_name(alloc, "object"))
 }

@@ -3,7 +3,8 @@
 ghost use Rattle.std.specs.Prelude.{◌≡◌, ◌++◌, ◌<◌, length, OnOk};
 ghost use Rattle.object_format.specs.Counts.{InstanceFits, Uncounted, DecisionFits, RegionFits};
 ghost use Rattle.object_format.specs.Layout as layout;
-ghost use Rattle.spelling.specs.Outcome.{Gives};
+ghost use Rattle.spelling.specs.Format as format;
+ghost use Rattle.spelling.specs.Outcome.{Gives, Reads};
 
 use crate::layout::list::{put_values, read_values};
 use crate::layout::stored::Stored;
@@ -14,6 +15,16 @@ use cov_base::{
 use spelling::{Short, read_bytes, read_u8, read_u32};
 use std::alloc::{AllocError, Global};
 
+/// A file, line and column, and the bytes that follow them.
+fn read_position(bytes: &[u8]) -> Result<(u32, u32, u32, &[u8]), Short>
+    ensures { Reads (λ x. ((x.0, (x.1, x.2)), x.3.now)) result (layout.position.read bytes.now) }
+{
+    let (file, rest) = read_u32(bytes)?;
+    let (line, rest) = read_u32(rest)?;
+    let (column, rest) = read_u32(rest)?;
+    Ok((file, line, column, rest))
+}
+
 impl Stored for InstanceEntry {
     ghost format = { layout.instance_entry };
 
@@ -21,9 +32,7 @@ impl Stored for InstanceEntry {
 
     fn read(alloc: Global, bytes: &[u8]) -> Result<(InstanceEntry, &[u8]), Failure<Short>> {
         let (name, rest) = Bytes::read(alloc, bytes)?;
-        let (file, rest) = read_u32(rest)?;
-        let (line, rest) = read_u32(rest)?;
-        let (column, rest) = read_u32(rest)?;
+        let (file, line, column, rest) = read_position(rest)?;
         Ok((
             InstanceEntry {
                 name,
@@ -49,9 +58,7 @@ impl Stored for StmtEntry {
     ghost is_counted = { Uncounted };
 
     fn read(_alloc: Global, bytes: &[u8]) -> Result<(StmtEntry, &[u8]), Failure<Short>> {
-        let (file, rest) = read_u32(bytes)?;
-        let (line, rest) = read_u32(rest)?;
-        let (column, rest) = read_u32(rest)?;
+        let (file, line, column, rest) = read_position(bytes)?;
         Ok((StmtEntry { file, line, column }, rest))
     }
 
@@ -79,6 +86,14 @@ impl Stored for Place {
     }
 }
 
+/// So many bytes, and the bytes that follow them.
+fn read_run(alloc: Global, len: u8, bytes: &[u8]) -> Result<(Vec<u8>, &[u8]), Failure<Short>>
+    ensures { Gives (λ x. (x.0.items, x.1.now)) result ((format.bytes_of len).read bytes.now) }
+{
+    let (run, rest) = read_bytes(usize::from(len), bytes)?;
+    Ok((Vec::from_slice(alloc, run)?, rest))
+}
+
 /// The bytes of an expression, the places of its conditions, and the bytes that follow them.
 fn read_conditions(
     alloc: Global,
@@ -88,8 +103,7 @@ fn read_conditions(
 {
     let (count, rest) = read_u8(bytes)?;
     let (len, rest) = read_u8(rest)?;
-    let (postfix, rest) = read_bytes(usize::from(len), rest)?;
-    let postfix = Vec::from_slice(alloc, postfix)?;
+    let (postfix, rest) = read_run(alloc, len, rest)?;
     let (places, rest) = read_values(alloc, u32::from(count), rest)?;
     Ok((Bytes::from(postfix), Seq::from(places), rest))
 }
@@ -111,6 +125,21 @@ fn put_conditions(
     put_values(into, places.as_slice())
 }
 
+/// A line, a column, a letter, an expression, the places of its conditions, and the bytes that follow
+/// them.
+fn read_placed(
+    alloc: Global,
+    bytes: &[u8],
+) -> Result<(u32, u32, u8, Bytes, Seq<Place>, &[u8]), Failure<Short>>
+    ensures { Gives (λ x. ((x.0, (x.1, (x.2, (x.3, x.4)))), x.5.now)) result (layout.placed_decision.read bytes.now) }
+{
+    let (line, rest) = read_u32(bytes)?;
+    let (column, rest) = read_u32(rest)?;
+    let (letter, rest) = read_u8(rest)?;
+    let (postfix, conditions, rest) = read_conditions(alloc, rest)?;
+    Ok((line, column, letter, postfix, conditions, rest))
+}
+
 impl Stored for DecEntry {
     ghost format = { layout.decision_entry };
 
@@ -119,10 +148,7 @@ impl Stored for DecEntry {
     fn read(alloc: Global, bytes: &[u8]) -> Result<(DecEntry, &[u8]), Failure<Short>> {
         let (statement, rest) = read_u32(bytes)?;
         let (file, rest) = read_u32(rest)?;
-        let (line, rest) = read_u32(rest)?;
-        let (column, rest) = read_u32(rest)?;
-        let (letter, rest) = read_u8(rest)?;
-        let (postfix, conditions, rest) = read_conditions(alloc, rest)?;
+        let (line, column, letter, postfix, conditions, rest) = read_placed(alloc, rest)?;
         let decision = DecEntry {
             statement: StmtId(statement),
             file,
@@ -145,6 +171,16 @@ impl Stored for DecEntry {
     }
 }
 
+/// A line, a column, a text, and the bytes that follow them.
+fn read_region_end(alloc: Global, bytes: &[u8]) -> Result<(u32, u32, Bytes, &[u8]), Failure<Short>>
+    ensures { Gives (λ x. ((x.0, (x.1, x.2)), x.3.now)) result (layout.region_end.read bytes.now) }
+{
+    let (line, rest) = read_u32(bytes)?;
+    let (column, rest) = read_u32(rest)?;
+    let (why, rest) = Bytes::read(alloc, rest)?;
+    Ok((line, column, why, rest))
+}
+
 impl Stored for Region {
     ghost format = { layout.region };
 
@@ -154,9 +190,7 @@ impl Stored for Region {
         let (file, rest) = read_u32(bytes)?;
         let (from_line, rest) = read_u32(rest)?;
         let (from_column, rest) = read_u32(rest)?;
-        let (to_line, rest) = read_u32(rest)?;
-        let (to_column, rest) = read_u32(rest)?;
-        let (why, rest) = Bytes::read(alloc, rest)?;
+        let (to_line, to_column, why, rest) = read_region_end(alloc, rest)?;
         let region = Region {
             file,
             from_line,

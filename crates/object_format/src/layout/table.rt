@@ -2,6 +2,7 @@
 
 ghost use Rattle.object_format.specs.Counts.{FileFits, Uncounted};
 ghost use Rattle.object_format.specs.Layout as layout;
+ghost use Rattle.spelling.specs.Outcome.{Reads};
 
 use crate::layout::stored::Stored;
 use crate::object::FileEntry;
@@ -51,6 +52,17 @@ impl Stored for Row {
     }
 }
 
+/// A decision, a condition, a value, an instance, and the bytes that follow them.
+fn read_evaluated(bytes: &[u8]) -> Result<(u32, u8, u8, u32, &[u8]), Short>
+    ensures { Reads (λ x. ((x.0, (x.1, (x.2, x.3))), x.4.now)) result (layout.evaluated.read bytes.now) }
+{
+    let (decision, rest) = read_u32(bytes)?;
+    let (condition, rest) = read_u8(rest)?;
+    let (value, rest) = read_u8(rest)?;
+    let (instance, rest) = read_u32(rest)?;
+    Ok((decision, condition, value, instance, rest))
+}
+
 impl Stored for Role {
     ghost format = { layout.role };
 
@@ -59,10 +71,7 @@ impl Stored for Role {
     fn read(_alloc: Global, bytes: &[u8]) -> Result<(Role, &[u8]), Failure<Short>> {
         let (address, rest) = read_u32(bytes)?;
         let (kind, rest) = read_u8(rest)?;
-        let (decision, rest) = read_u32(rest)?;
-        let (condition, rest) = read_u8(rest)?;
-        let (value, rest) = read_u8(rest)?;
-        let (instance, rest) = read_u32(rest)?;
+        let (decision, condition, value, instance, rest) = read_evaluated(rest)?;
         let role = Role {
             address,
             kind: RoleKind(kind),

@@ -1,9 +1,13 @@
-use Rattle.std.proofs.Common.{◌∙◌, sym, ap, length}
+use Rattle.std.proofs.Common.{◌∙◌, sym, ap, length, arith}
 use Rattle.decision_meaning.proofs.Edges.{length_graph}
 use Rattle.annotated_report.specs.Findings.{expr_of}
+use Rattle.std.proofs.lemmas.Grind.{common_steps}
 use Rattle.annotated_report.proofs.decisions.judge_decision.Goals as goal
 
 pub judge_pairs-requires-clause-conditions : goal.judge_pairs-requires-clause-conditions
 judge_pairs-requires-clause-conditions c =
     let e = expr_of c.args.entry.now in
     c.requires.placed ∙ sym (length_graph e) ∙ sym (ap length (c.in_ok-dec.ensures e c.requires.spelled))
+
+pub returns-clause-findings : goal.returns-clause-findings
+returns-clause-findings c = grind (arith, common_steps)

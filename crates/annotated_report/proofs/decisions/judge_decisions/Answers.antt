@@ -5,6 +5,7 @@ use Rattle.cov_base.specs.Lists.{Everywhere}
 use Rattle.decision_meaning.specs.Path.{IsPathVector}
 use Rattle.annotated_report.specs.Findings.{expr_of}
 use Rattle.annotated_report.proofs.Spelled.{spelled_at, placed_at, paths_at, item_at}
+use Rattle.std.proofs.lemmas.Grind.{common_steps}
 use Rattle.annotated_report.proofs.decisions.judge_decisions.Goals as goal
 
 pub judge_decision-requires-clause-spelled : goal.judge_decision-requires-clause-spelled
@@ -25,3 +26,15 @@ judge_decision-requires-clause-paths c =
     let same = c.as_slice-vectors.ensures ∙ get_or_read c.args.evaluations.now c.loop-number.number _ within c.index-evaluations-number.is [] in
     subst (λ vectors. Everywhere (IsPathVector (graph (expr_of entry))) vectors) (sym same)
     (paths_at entry _ (c.requires.evaluated c.loop-number.number entry at))
+
+pub loop-number-preserved : goal.loop-number-preserved
+loop-number-preserved c = grind (arith, common_steps)
+
+pub returns-clause-covered : goal.returns-clause-covered
+returns-clause-covered c = grind (arith, common_steps)
+
+pub returns-clause-pairs : goal.returns-clause-pairs
+returns-clause-pairs c = grind (arith, common_steps)
+
+pub returns-clause-findings : goal.returns-clause-findings
+returns-clause-findings c = grind (arith, common_steps)

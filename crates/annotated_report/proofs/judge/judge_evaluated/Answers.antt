@@ -1,8 +1,9 @@
-use Rattle.std.proofs.Common.{◌++◌, ◌∙◌, ap, length}
+use Rattle.std.proofs.Common.{◌++◌, ◌∙◌, ap, length, arith}
 use Rattle.std.proofs.lemmas.Result.{on_ok_weaker, IfOk-weaker}
 use Rattle.annotated_report.specs.Marked.{marked, collected}
 use Rattle.annotated_report.specs.Verdicts.{vectors_of}
 use Rattle.annotated_report.proofs.Same.{AgreeBelow, same_unsatisfied, same_paired, same_covered}
+use Rattle.std.proofs.lemmas.Grind.{common_steps}
 use Rattle.annotated_report.proofs.judge.judge_evaluated.Goals as goal
 
 pub returns-clause-findings : goal.returns-clause-findings
@@ -33,3 +34,6 @@ returns-clause-covered c =
     IfOk-weaker c.judge_decisions.result _ _
     (λ covered is. is ∙ same_covered (collected c.as_slice.result.now) vectors c.args.decisions.now agree)
     c.judge_decisions.ensures.covered
+
+pub judge_decisions-requires-clause-evaluated : goal.judge_decisions-requires-clause-evaluated
+judge_decisions-requires-clause-evaluated c = grind (arith, common_steps)

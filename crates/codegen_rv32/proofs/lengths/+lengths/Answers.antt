@@ -3,6 +3,7 @@ use Rattle.kernel_ir.specs.Tree.{op_size, code_size}
 use Rattle.kernel_ir.specs.TreeView.{op_of}
 use Rattle.kernel_ir.specs.declared.code.Node.{Node}
 use Rattle.kernel_ir.proofs.SizeLaws.{op_within, node_within}
+use Rattle.std.proofs.lemmas.Grind.{common_steps}
 use Rattle.codegen_rv32.proofs.lengths.+lengths.Goals as goal
 
 pub ops_length-op_length-requires : goal.ops_length-op_length-requires
@@ -28,3 +29,9 @@ nodes_length-code_length-requires t c = (
   ),
   tt,
 )
+
+pub nodes_length-loop-node-preserved : goal.nodes_length-loop-node-preserved
+nodes_length-loop-node-preserved t c = grind (arith, common_steps)
+
+pub ops_length-loop-op-preserved : goal.ops_length-loop-op-preserved
+ops_length-loop-op-preserved t c = grind (arith, common_steps)

@@ -6,6 +6,7 @@ use Rattle.kernel_ir.proofs.SizeLaws.{op_within}
 use Rattle.kernel_code.specs.Set.{setting_of}
 use Rattle.codegen_rv32.specs.Set.{targets_of}
 use Rattle.codegen_rv32.proofs.Behind.{choose_put, repeat_put, catch_put, decide_put, node_put, node_of_slice, rest_smaller}
+use Rattle.std.proofs.lemmas.Grind.{common_steps}
 use Rattle.codegen_rv32.proofs.structure.+structure.Goals as goal
 
 pub put_operations-put_operation-requires : goal.put_operations-put_operation-requires
@@ -72,3 +73,6 @@ put_nodes-returns t c =
     c.in_ok-length.ensures c.in_ok-end.ensures c.in_ok-taken.ensures c.in_ok-next.ensures c.in_ok-after.ensures
     c.in_ok-on_true.ensures c.in_ok-on_false.ensures c.in_ok-put_code.ensures c.in_ok-put_condition.ensures h))
     c.put_nodes.ensures
+
+pub put_operations-loop-op-preserved : goal.put_operations-loop-op-preserved
+put_operations-loop-op-preserved t c = grind (arith, common_steps)

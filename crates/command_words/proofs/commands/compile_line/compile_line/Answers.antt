@@ -1,14 +1,13 @@
-use Rattle.std.proofs.Common.{◌≡◌, ◌∙◌, ap₂, codes, rules}
+use Rattle.std.proofs.Common.{◌∙◌, ap, ap₂, codes}
 use Rattle.std.proofs.lemmas.Result.{IfOk-weaker}
-use Rattle.clap.specs.Words.{rule_of, with_rule}
+use Rattle.clap.specs.Words.{App, new_app, with_rule}
 use Rattle.command_words.specs.Lines.{output_option, required_name, required_option}
 use Rattle.command_words.proofs.commands.compile_line.compile_line.Goals as goal
 
 pub returns : goal.returns
 returns c =
-    let main_is : rule_of c.required.result ≡ required_option (codes "main") = search rules in
-    let object_is : rule_of c.required-2.result ≡ output_option (codes "object") = search rules in
-    let source_is : rule_of c.required-3.result ≡ required_name (codes "source") = search rules in
-    let one = c.in_ok-arg.ensures.shape (search rules) ∙ ap₂ with_rule c.new.ensures.app main_is in
-    let two = c.in_ok-arg-2.ensures.shape (search rules) ∙ ap₂ with_rule one object_is in
-    IfOk-weaker c.arg-3.result _ _ (λ r h. h.shape (search rules) ∙ ap₂ with_rule two source_is) c.arg-3.ensures
+    let first : App = with_rule (new_app (codes "compile")) (required_option (codes "main")) in
+    let one = IfOk-weaker c.arg-line.result _ _ (λ line added. added.shape c.required_option.ensures.local ∙ ap₂ with_rule c.new.ensures.app c.required_option.ensures.rule) c.arg-line.ensures in
+    let two = IfOk-weaker c.with_argument-line.result _ _ (λ line added. added ∙ ap (with_rule first) c.output_option.ensures.rule) (c.with_argument-line.ensures first one) in
+    let second : App = with_rule first (output_option (codes "object")) in
+    IfOk-weaker c.with_argument.result _ _ (λ line added. added ∙ ap (with_rule second) c.required_name.ensures.rule) (c.with_argument.ensures second two)

@@ -26,3 +26,6 @@ returns-else-operands-eq1 c =
     let e = ends c.args.conditions l.named l.operands l.is_negated _ c.args.bytes.now l.byte-index c.loop-byte-test.false l.invariant.2 in
     answers c.args.conditions c.args.bytes.now (nat_eq l.operands 1)
     (grind (arith, common_steps))
+
+pub loop-byte-preserved : goal.loop-byte-preserved
+loop-byte-preserved c = grind (arith, common_steps)
