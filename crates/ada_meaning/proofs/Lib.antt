@@ -14,3 +14,4 @@ pub mod CopyExpressions
 pub mod CopyStatements
 pub mod CopyExecution
 pub mod StaticValues
+pub mod BodyLaws

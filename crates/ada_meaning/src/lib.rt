@@ -15,12 +15,13 @@
 //! program does on an input, and [`more_fuel`] beneath it.
 #![tactic(auto)]
 
-ghost use Rattle.std.specs.Prelude.{◌≡◌, ◌≤◌, ◌++◌, ℕ, ℤ, Bool, List, [], Option};
+ghost use Rattle.std.specs.Prelude.{◌≡◌, ◌≤◌, ◌↔◌, ◌++◌, ℕ, ℤ, Bool, List, [], Option};
 ghost use Rattle.std.specs.Option.{IfSome};
 ghost use Rattle.cov_base.specs.declared.event.Event.{Event};
 ghost use Rattle.decision_meaning.specs.Graph.{graph, leaf};
-ghost use Rattle.cov_base.specs.Lists.{Everywhere};
+ghost use Rattle.cov_base.specs.Lists.{Everywhere, Somewhere};
 ghost use Rattle.decision_meaning.specs.Path.{LeadsTo};
+ghost use Rattle.ada_meaning.specs.Bodies.{Body, bodies_of, IsBody};
 ghost use Rattle.ada_meaning.specs.Calls.{Calls};
 ghost use Rattle.ada_meaning.specs.Copies.{block_copy, exec_copies};
 ghost use Rattle.ada_meaning.specs.Events.{IsEventOf, IsNoted};
@@ -89,4 +90,10 @@ pub fn static_values_are_exact()
         → IfSome (static_value (values_of p) inst e) (λ x. number_in p inst e ≡ x) }
     ensures bounds { (p : Program) (inst : ℕ) (r : Range)
         → IfSome (static_bounds (values_of p) inst r) (λ b. bounds_in p inst r ≡ b) }
+{}
+
+/// The bodies of a program are its subprograms, each in the instances of the generic whose text it
+/// stands in, or, in no generic, in instance 0.
+pub fn bodies_stand_in_their_generics()
+    ensures { (p : Program) (b : Body) → Somewhere (λ c. c ≡ b) (bodies_of p) ↔ IsBody p b }
 {}
