@@ -13,3 +13,5 @@ pub mod EventsExecution
 pub mod CopyExpressions
 pub mod CopyStatements
 pub mod CopyExecution
+pub mod StaticValues
+pub mod BodyLaws

@@ -3,7 +3,8 @@
 //!
 //! - `Types`, `Tree`, `Program`: the typed program;
 //! - `State`: states, outcomes and actions; `Arithmetic`; `Shape`: scalar parts of objects;
-//! - `Resolved`: what names are in an instance; `Calls`: what calls hand over;
+//! - `Resolved`: what names are in an instance; `Statics`: the values of static expressions;
+//!   `Bodies`: subprograms in the instances of their generics; `Calls`: what calls hand over;
 //! - `Expressions`, `Statements`, `Execution`: what a program does;
 //! - `Collected`, `Obligations`, `Objects`: obligations, and the numbers in the trees;
 //! - `Copies`: copies of generics; `Refines`, `Events`: what the laws speak of.
@@ -14,11 +15,13 @@
 //! program does on an input, and [`more_fuel`] beneath it.
 #![tactic(auto)]
 
-ghost use Rattle.std.specs.Prelude.{◌≡◌, ◌≤◌, ◌++◌, ℕ, ℤ, Bool, List, [], Option};
+ghost use Rattle.std.specs.Prelude.{◌≡◌, ◌≤◌, ◌↔◌, ◌++◌, ℕ, ℤ, Bool, List, [], Option};
+ghost use Rattle.std.specs.Option.{IfSome};
 ghost use Rattle.cov_base.specs.declared.event.Event.{Event};
 ghost use Rattle.decision_meaning.specs.Graph.{graph, leaf};
-ghost use Rattle.cov_base.specs.Lists.{Everywhere};
+ghost use Rattle.cov_base.specs.Lists.{Everywhere, Somewhere};
 ghost use Rattle.decision_meaning.specs.Path.{LeadsTo};
+ghost use Rattle.ada_meaning.specs.Bodies.{Body, bodies_of, IsBody};
 ghost use Rattle.ada_meaning.specs.Calls.{Calls};
 ghost use Rattle.ada_meaning.specs.Copies.{block_copy, exec_copies};
 ghost use Rattle.ada_meaning.specs.Events.{IsEventOf, IsNoted};
@@ -26,9 +29,12 @@ ghost use Rattle.ada_meaning.specs.Execution.{exec, events_at, output_at, Execut
 ghost use Rattle.ada_meaning.specs.Expressions.{test, decides, Evaluation};
 ghost use Rattle.ada_meaning.specs.Program.{Program};
 ghost use Rattle.ada_meaning.specs.Refines.{Refines};
+ghost use Rattle.ada_meaning.specs.Resolved.{number_in, bounds_in};
 ghost use Rattle.ada_meaning.specs.State.{World, Gives};
 ghost use Rattle.ada_meaning.specs.Statements.{does_block};
+ghost use Rattle.ada_meaning.specs.Statics.{static_value, static_bounds, values_of};
 ghost use Rattle.ada_meaning.specs.Tree.{Block, Label, Test, shape_of};
+ghost use Rattle.ada_meaning.specs.Types.{Static, Range};
 
 /// With more fuel an execution that ended is the same, and one that was cut off goes on.
 #[tactic(auto, using(crate::proofs::FuelExecution::more_fuel_law))]
@@ -75,4 +81,19 @@ pub fn copies_mean_their_generic()
     ensures blocks { (p : Program) (calls : Calls) (fuel inst : ℕ) (b : Block) (taken : Option ℕ)
         → does_block p calls fuel inst (block_copy p inst b) taken ≡ does_block p calls fuel inst b taken }
     ensures executions { (p : Program) (fuel : ℕ) (input : List ℤ) → exec_copies p fuel input ≡ exec p fuel input }
+{}
+
+/// Where a static expression has a value in an instance, it is the number that executions take, and so
+/// are the bounds of a subtype.
+pub fn static_values_are_exact()
+    ensures values { (p : Program) (inst : ℕ) (e : Static)
+        → IfSome (static_value (values_of p) inst e) (λ x. number_in p inst e ≡ x) }
+    ensures bounds { (p : Program) (inst : ℕ) (r : Range)
+        → IfSome (static_bounds (values_of p) inst r) (λ b. bounds_in p inst r ≡ b) }
+{}
+
+/// The bodies of a program are its subprograms, each in the instances of the generic whose text it
+/// stands in, or, in no generic, in instance 0.
+pub fn bodies_stand_in_their_generics()
+    ensures { (p : Program) (b : Body) → Somewhere (λ c. c ≡ b) (bodies_of p) ↔ IsBody p b }
 {}

@@ -1,5 +1,5 @@
 -- The plain data that a typed program is seen as.
-use Rattle.std.specs.Prelude.{Bool, true, false, List, [], ◌∷◌, map}
+use Rattle.std.specs.Prelude.{Bool, true, false, List, [], ◌∷◌, map, None}
 use Rattle.ada_meaning.specs.Types as type
 use Rattle.ada_meaning.specs.Tree as tree
 use Rattle.ada_meaning.specs.Program as meaning
@@ -190,13 +190,14 @@ abbrev pub block_of : InsideBlock → tree.Block
 block_of b = tree.block (map declaration_of b.declarations) (statements_of b.statements.items) tree.no_handler
 
 abbrev pub subprogram_of : Subprogram → meaning.Subprogram
-subprogram_of s = record { parameters = []; body = s.body }
+subprogram_of s = record { generic = None; parameters = []; body = s.body }
 
 abbrev pub program_of : Program → meaning.Program
 program_of p = record {
   subprograms = map subprogram_of p.subprograms;
   main = p.main;
   objects = [];
+  constants = [];
   instances = [];
   declared = [];
   exceptions = [];

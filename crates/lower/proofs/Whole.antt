@@ -1,10 +1,11 @@
 -- The kernel of a whole program, of the bodies of its subprograms.
 use Rattle.std.proofs.Common.{◌≡◌, ℕ, zero, suc, pos, ◌+ℤ◌, ◌-ℤ◌, take, map, List, [], ◌∷◌, length, slice_get, refl, ap, ◌∙◌}
 use Rattle.std.proofs.Math.Seq.{take-length}
+use Rattle.std.specs.Prelude.{unwrap_or}
 use Rattle.ada_meaning.specs.Arithmetic.{exact, sign_of}
 use Rattle.ada_meaning.specs.Program as meaning
 use Rattle.ada_meaning.specs.Program.{Bounds}
-use Rattle.ada_meaning.specs.Resolved.{number_in, bounds_in, formal_of, formal_among, formal_number, formal_bounds}
+use Rattle.ada_meaning.specs.Resolved.{number_in, bounds_in, formal_of, formal_among, formal_number, formal_bounds, constant_of, constant_among}
 use Rattle.ada_meaning.specs.Types as type
 use Rattle.ada_tree.specs.declared.program.Program.{Program}
 use Rattle.ada_tree.specs.declared.program.Subprogram.{Subprogram}
@@ -21,10 +22,15 @@ module _ (p q : meaning.Program) (same : p.instances ≡ q.instances) where
   formal_same zero k = refl
   formal_same (suc i) k = ap (λ is. formal_among (slice_get is i) k) same
 
+  constant_same : (inst k : ℕ) → constant_of p inst k ≡ constant_of q inst k
+  constant_same zero k = refl
+  constant_same (suc i) k = ap (λ is. constant_among (slice_get is i) k) same
+
   mutual
     pub number_same : (inst : ℕ) (e : type.Static) → number_in p inst e ≡ number_in q inst e
     number_same inst (type.static_number x) = refl
     number_same inst (type.static_formal k) = ap formal_number (formal_same inst k)
+    number_same inst (type.static_constant k) = ap (λ o. unwrap_or o (pos 0)) (constant_same inst k)
     number_same inst (type.static_first r) = ap (λ b. b.low) (bounds_same inst r)
     number_same inst (type.static_last r) = ap (λ b. b.high) (bounds_same inst r)
     number_same inst (type.static_length r) = ap (λ b. b.high -ℤ b.low +ℤ pos 1) (bounds_same inst r)

@@ -12,7 +12,7 @@ use Rattle.lower.specs.Lowered.{one, operator_on, end_of, expr_code}
 
 -- a program that holds nothing
 abbrev pub no_program : Program
-no_program = record { subprograms = []; main = 0; objects = []; instances = []; declared = []; exceptions = [] }
+no_program = record { subprograms = []; main = 0; objects = []; constants = []; instances = []; declared = []; exceptions = [] }
 
 -- the values of static expressions and the bounds of ranges, in each program without instances
 abbrev pub number_of : type.Static → ℤ

@@ -17,5 +17,5 @@ pub of_count : OfCount
 of_count = (
   refl,
   record { statements = refl; decisions = refl; instances = refl; exceptions = refl },
-  ((refl, (refl, (tt, tt))), ((refl, (refl, (tt, tt))), tt)),
+  (record { formals = (refl, (refl, (tt, tt))); constants = refl }, (record { formals = (refl, (refl, (tt, tt))); constants = refl }, tt)),
 )

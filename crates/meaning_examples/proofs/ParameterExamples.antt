@@ -13,4 +13,4 @@ out_first = refl
 
 pub both_instances : BothInstances
 unfolding deepest
-both_instances = (refl, ((refl, tt), ((refl, tt), tt)))
+both_instances = (refl, (record { formals = (refl, tt); constants = refl }, (record { formals = (refl, tt); constants = refl }, tt)))

@@ -28,6 +28,7 @@ u = record {
       ∷ [];
   main = 0;
   objects = [];
+  constants = [];
   instances = [];
   declared = record { declaration = 0; place = place 2 4; generic = None; unit = 112 ∷ 107 ∷ []; name = 101 ∷ [] } ∷ [];
   exceptions = record { instance = 0; declaration = 0 } ∷ [];

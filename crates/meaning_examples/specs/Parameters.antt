@@ -5,7 +5,7 @@ use Rattle.ada_meaning.specs.Tree.{Object, constant, read, call, subprogram, ope
 use Rattle.ada_meaning.specs.Program.{Parameter, Mode, out_mode, in_out_mode, no_initial, actual_object, LibraryObject, Program}
 use Rattle.ada_meaning.specs.Execution.{by_return}
 use Rattle.ada_meaning.specs.Obligations.{IsResolved}
-use Rattle.meaning_examples.specs.Writing.{place, at, integer, natural, positive, number, var, plus, is_equal, is_less, asks, ◌next◌, ended_here, put, set_var, if_only, return_truth, true_value, false_value, on_exception, integer_is, integer_in, body, plain, T, F, starts, gives, starts_in, gives_in, Shows}
+use Rattle.meaning_examples.specs.Writing.{place, at, integer, natural, positive, number, var, plus, is_equal, is_less, asks, ◌next◌, ended_here, put, set_var, if_only, return_truth, true_value, false_value, on_exception, integer_is, integer_in, body, generic_body, plain, T, F, starts, gives, starts_in, gives_in, Shows}
 
 abbrev pub small : Range
 small = between (static_number (pos 0)) (static_number (pos 9))
@@ -62,6 +62,7 @@ copy_back = record {
       ∷ [];
   main = 1;
   objects = small_object 0 ∷ small_object 1 ∷ small_object 2 ∷ [];
+  constants = [];
   instances = [];
   declared = [];
   exceptions = [];
@@ -140,7 +141,7 @@ OutFirst = Shows out_first 2 [] by_return (pos 4 ∷ pos 1 ∷ [])
 abbrev pub smaller : Program
 smaller = record {
   subprograms =
-      body (integer_in 0 ∷ []) []
+      generic_body 0 (integer_in 0 ∷ []) []
       (if_only (at 0 9 7) (at 0 9 10) (asks 9 10 (is_less (var 0) (constant (static_formal 0)))) (return_truth (at 1 10 10) true_value next ended_here)
       next return_truth (at 2 12 7) false_value
       next ended_here)
@@ -156,9 +157,10 @@ smaller = record {
       ∷ [];
   main = 1;
   objects = [];
+  constants = [];
   instances =
-      record { name = 103 ∷ 49 ∷ []; place = place 16 1; generic = 0; actuals = actual_object (static_number (pos 1)) (pos 1) ∷ [] }
-      ∷ record { name = 103 ∷ 50 ∷ []; place = place 18 1; generic = 0; actuals = actual_object (static_number (pos 9)) (pos 9) ∷ [] }
+      record { name = 103 ∷ 49 ∷ []; place = place 16 1; generic = 0; actuals = actual_object (static_number (pos 1)) (pos 1) ∷ []; constants = [] }
+      ∷ record { name = 103 ∷ 50 ∷ []; place = place 18 1; generic = 0; actuals = actual_object (static_number (pos 9)) (pos 9) ∷ []; constants = [] }
       ∷ [];
   declared = [];
   exceptions = [];

@@ -106,7 +106,11 @@ abbrev pub on_exception : ℕ → Stmts → Handlers → Handlers
 on_exception e ss hs = handler (named_exception (predefined e) ∷ []) ss hs
 
 abbrev pub body : List Parameter → List Declaration → Stmts → Handlers → Subprogram
-body ps ds ss hs = record { parameters = ps; body = block ds ss hs }
+body ps ds ss hs = record { generic = None; parameters = ps; body = block ds ss hs }
+
+-- one in the text of the generic with this number
+abbrev pub generic_body : ℕ → List Parameter → List Declaration → Stmts → Handlers → Subprogram
+generic_body g ps ds ss hs = record { generic = Some g; parameters = ps; body = block ds ss hs }
 
 -- a parameter of mode in and subtype Integer
 abbrev pub integer_in : ℕ → Parameter
@@ -114,7 +118,7 @@ integer_in d = record { declaration = d; mode = in_mode; subtype = scalar intege
 
 -- a program without packages: its subprograms, the last of which is the main one
 abbrev pub plain : List Subprogram → ℕ → Program
-plain ss main = record { subprograms = ss; main = main; objects = []; instances = []; declared = []; exceptions = [] }
+plain ss main = record { subprograms = ss; main = main; objects = []; constants = []; instances = []; declared = []; exceptions = [] }
 
 -- a call of the subprogram with this number, in no generic
 abbrev pub calls : ℕ → Actuals → Expr

@@ -11,7 +11,7 @@ ghost use Rattle.meaning_examples.specs.Decisions.{Returns, AndFirst, OrFirst, A
 ghost use Rattle.meaning_examples.specs.Depth.{Deep, Signs, Limits};
 ghost use Rattle.meaning_examples.specs.Exceptions.{Unhandled, OfOperations, InDeclarations, InHandlers};
 ghost use Rattle.meaning_examples.specs.Frames.{OwnVariables, Places, WordsOfInput};
-ghost use Rattle.meaning_examples.specs.Generics.{OwnObjects};
+ghost use Rattle.meaning_examples.specs.Generics.{OwnObjects, OwnConstants};
 ghost use Rattle.meaning_examples.specs.Loops.{While, For, ArrayAndCase};
 ghost use Rattle.meaning_examples.specs.Nested.{InnerAbandoned, Recursive, AsOperand, AsIndex};
 ghost use Rattle.meaning_examples.specs.Obliged.{OfNested, OfCount};
@@ -68,9 +68,10 @@ pub fn composites()
     ensures composite_parameters { CompositeParameters }
 {}
 
-/// A generic with formals of each kind, in two instances.
+/// A generic with formals of each kind, and one with constants, each in two instances.
 pub fn generics()
-    ensures { OwnObjects }
+    ensures objects { OwnObjects }
+    ensures constants { OwnConstants }
 {}
 
 /// Choices and loops of other forms, the end of a function, and a loop without an end.

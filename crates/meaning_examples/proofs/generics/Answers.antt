@@ -1,5 +1,5 @@
-use Rattle.meaning_examples.proofs.GenericExamples.{own_objects}
+use Rattle.meaning_examples.proofs.GenericExamples.{own_objects, own_constants}
 use Rattle.meaning_examples.proofs.generics.Goals as goal
 
 pub returns : goal.returns
-returns c = own_objects
+returns c = record { objects = own_objects; constants = own_constants }
