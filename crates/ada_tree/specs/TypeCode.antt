@@ -5,7 +5,7 @@ use Rattle.std.proofs.Common.{ap, arith}
 use Rattle.std.specs.Coded.{Coded, coded_ℕ, coded_ℤ, codes}
 use base.Stored.{Gv, gnil, gnum, gcons}
 use Rattle.cov_base.specs.declared.position.Pos.{Pos}
-use Rattle.ada_meaning.specs.Types.{Sign, unary_plus, unary_minus, absolute_value, Operator, addition, subtraction, multiplication, division, modulus, remainder, Relation, equal, unequal, less, at_most, greater, at_least, Owner, here, of_instance, Static, static_number, static_formal, static_first, static_last, static_length, static_sign, static_operation, static_of, Range, between, formal_range, range_of, Subtype, scalar, array, fields, subtype_of, Components, no_component, and_component}
+use Rattle.ada_meaning.specs.Types.{Sign, unary_plus, unary_minus, absolute_value, Operator, addition, subtraction, multiplication, division, modulus, remainder, Relation, equal, unequal, less, at_most, greater, at_least, Owner, here, of_instance, Static, static_number, static_formal, static_constant, static_first, static_last, static_length, static_sign, static_operation, static_of, Range, between, formal_range, range_of, Subtype, scalar, array, fields, subtype_of, Components, no_component, and_component}
 
 -- the number of a tree's form, and its parts
 abbrev pub head : Gv → Gv
@@ -132,6 +132,7 @@ abbrev mutual
   code_static (static_length x0) = gcons (gnum 4) (gcons (code_range x0) gnil)
   code_static (static_sign x0 x1) = gcons (gnum 5) (gcons (coded_sign.code x0) (gcons (code_static x1) gnil))
   code_static (static_operation x0 x1 x2) = gcons (gnum 6) (gcons (coded_operator.code x0) (gcons (code_static x1) (gcons (code_static x2) gnil)))
+  code_static (static_constant x0) = gcons (gnum 8) (gcons (coded_ℕ.code x0) gnil)
   code_static (static_of x0 x1) = gcons (gnum 7) (gcons (coded_ℕ.code x0) (gcons (code_static x1) gnil))
 
   pub code_range : Range → Gv
@@ -149,6 +150,7 @@ mutual
   inj_static (static_length x0) (static_length y0) e = λ i. static_length (inj_range x0 y0 (ap part0 e) i)
   inj_static (static_sign x0 x1) (static_sign y0 y1) e = λ i. static_sign (coded_sign.inj x0 y0 (ap part0 e) i) (inj_static x1 y1 (ap part1 e) i)
   inj_static (static_operation x0 x1 x2) (static_operation y0 y1 y2) e = λ i. static_operation (coded_operator.inj x0 y0 (ap part0 e) i) (inj_static x1 y1 (ap part1 e) i) (inj_static x2 y2 (ap part2 e) i)
+  inj_static (static_constant x0) (static_constant y0) e = λ i. static_constant (coded_ℕ.inj x0 y0 (ap part0 e) i)
   inj_static (static_of x0 x1) (static_of y0 y1) e = λ i. static_of (coded_ℕ.inj x0 y0 (ap part0 e) i) (inj_static x1 y1 (ap part1 e) i)
   inj_static x y e = absurd (omega (arith, ap form e))
 
