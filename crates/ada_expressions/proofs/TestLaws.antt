@@ -27,10 +27,14 @@ pub other_test : (p : Pos) (k : ExprKind) → has_operators k ≡ true → ((e :
 other_test p (kind.Literal x) h c d = refl
 other_test p (kind.Constant e) h c d = refl
 other_test p (kind.Read o) h c d = refl
+other_test p (kind.Part o ss) h c d = refl
+other_test p (kind.Attribute o ss e) h c d = refl
 other_test p (kind.Signed s e) h c d = refl
 other_test p (kind.Operations e os) h c d = operations_are (λ e. test_of p e) (λ e. tree.condition p e) (λ x a b. refl) e.value os.items h
 other_test p (kind.Relation r a b) h c d = refl
 other_test p (kind.Complement e) h c d = absurd (c e refl)
+other_test p (kind.Conversion r e) h c d = refl
+other_test p (kind.Call x xs) h c d = refl
 other_test p (kind.Decision l t) h c d = absurd (d l t refl)
 
 pub other_label : (m : tree.Label) (k : ExprKind) → has_operators k ≡ true → ((l : Label) (t : Box Test Global) → k ≡ kind.Decision l t → ⊥) →
@@ -38,10 +42,14 @@ pub other_label : (m : tree.Label) (k : ExprKind) → has_operators k ≡ true �
 other_label m (kind.Literal x) h d = refl
 other_label m (kind.Constant e) h d = refl
 other_label m (kind.Read o) h d = refl
+other_label m (kind.Part o ss) h d = refl
+other_label m (kind.Attribute o ss e) h d = refl
 other_label m (kind.Signed s e) h d = refl
 other_label m (kind.Operations e os) h d = operations_are (λ e. relabelled m e) (λ e. e) (λ x a b. refl) e.value os.items h
 other_label m (kind.Relation r a b) h d = refl
 other_label m (kind.Complement e) h d = refl
+other_label m (kind.Conversion r e) h d = refl
+other_label m (kind.Call x xs) h d = refl
 other_label m (kind.Decision l t) h d = absurd (d l t refl)
 
 pub other_complement : (m : tree.Label) (k : ExprKind) → has_operators k ≡ true → ((l : Label) (t : Box Test Global) → k ≡ kind.Decision l t → ⊥) →
@@ -49,10 +57,14 @@ pub other_complement : (m : tree.Label) (k : ExprKind) → has_operators k ≡ t
 other_complement m (kind.Literal x) h d = refl
 other_complement m (kind.Constant e) h d = refl
 other_complement m (kind.Read o) h d = refl
+other_complement m (kind.Part o ss) h d = refl
+other_complement m (kind.Attribute o ss e) h d = refl
 other_complement m (kind.Signed s e) h d = refl
 other_complement m (kind.Operations e os) h d = operations_are (λ e. complemented m e) (λ e. tree.complement e) (λ x a b. refl) e.value os.items h
 other_complement m (kind.Relation r a b) h d = refl
 other_complement m (kind.Complement e) h d = refl
+other_complement m (kind.Conversion r e) h d = refl
+other_complement m (kind.Call x xs) h d = refl
 other_complement m (kind.Decision l t) h d = absurd (d l t refl)
 
 -- a form holds no `not` on top

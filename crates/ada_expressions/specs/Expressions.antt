@@ -23,6 +23,7 @@ use Rattle.ada_tree.specs.declared.types.Relation.{Relation}
 use Rattle.ada_tree.specs.declared.types.Relation.TheVariants as relation
 use Rattle.ada_tree.specs.declared.types.Sign.{Sign}
 use Rattle.ada_tree.specs.declared.types.Sign.TheVariants as sign
+use Rattle.ada_tree.specs.declared.types.ScalarRange.TheVariants as range
 use Rattle.ada_tree.specs.declared.types.Static.TheVariants as static
 use Rattle.ada_tree.specs.declared.expr.Object.TheVariants as object
 use Rattle.ada_tree.specs.declared.expr.Actual.{Actual}
@@ -70,8 +71,8 @@ part_of _ name = None
 -- an attribute of a scalar subtype (RM 3.5)
 abbrev pub attribute_in : List ℕ → ScalarSubtype → Option Denoted
 attribute_in name s =
-    if same_name name (codes "first") then Some (denotes.Attribute (static.First s.range) s.of)
-    else if same_name name (codes "last") then Some (denotes.Attribute (static.Last s.range) s.of)
+    if same_name name (codes "first") then Some (denotes.Attribute (static.First (range.Known s.range)) s.of)
+    else if same_name name (codes "last") then Some (denotes.Attribute (static.Last (range.Known s.range)) s.of)
     else None
 
 -- an attribute of what a name denotes: of a subtype alone
@@ -171,7 +172,7 @@ relation_between op x y = option_map (related op x y) (common x.kind y.kind)
 
 -- a variable of a parameter's type, for a mode that writes it (RM 6.4.1)
 abbrev pub written : Parameter → DeclaredObject → Option Actual
-written q o = if is_variable o.constancy && same_type o.subtype.of q.subtype.of then Some (actual.Variable (object.Local o.number) o.subtype.range) else None
+written q o = if is_variable o.constancy && same_type o.subtype.of q.subtype.of then Some (actual.Variable (object.Local o.number) (range.Known o.subtype.range)) else None
 
 abbrev pub written_among : List DeclaredObject → Parameter → ℕ → Option Actual
 written_among objects q n = option_and_then (written q) (slice_get objects n)

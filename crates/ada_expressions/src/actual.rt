@@ -6,7 +6,7 @@ ghost use Rattle.ada_expressions.specs.Expressions as spec;
 use crate::judged::Judged;
 use crate::kind::{DeclaredObject, Parameter, fits, is_variable, same_type};
 use ada_syntax::Mode;
-use ada_tree::{Actual, Object};
+use ada_tree::{Actual, Object, ScalarRange};
 use std::alloc::AllocError;
 
 /// A variable of a parameter's type, for a mode that writes it.
@@ -14,7 +14,8 @@ fn written(parameter: Parameter, object: DeclaredObject) -> Option<Actual>
     ensures { result ≡ spec.written parameter object }
 {
     if is_variable(object.constancy) && same_type(object.subtype.of, parameter.subtype.of) {
-        Some(Actual::Variable(Object::Local(object.number), object.subtype.range))
+        let range = ScalarRange::Known(object.subtype.range);
+        Some(Actual::Variable(Object::Local(object.number), range))
     } else {
         None
     }

@@ -10,7 +10,7 @@ use crate::kind::{
 };
 use ada_names::{Entity, key, test_io};
 use ada_syntax::Identifier;
-use ada_tree::{Actual, Callee, Static};
+use ada_tree::{Actual, Callee, ScalarRange, Static};
 use cov_base::Seq;
 use std::alloc::{AllocError, Global};
 
@@ -114,10 +114,11 @@ fn attribute_of_entity(name: &[u8], entity: Entity) -> Option<Denoted>
 fn attribute_in(name: &[u8], subtype: ScalarSubtype) -> Option<Denoted>
     ensures { result ≡ spec.attribute_in name.now subtype }
 {
+    let range = ScalarRange::Known(subtype.range);
     if name == "first".as_bytes() {
-        Some(Denoted::Attribute(Static::First(subtype.range), subtype.of))
+        Some(Denoted::Attribute(Static::First(range), subtype.of))
     } else if name == "last".as_bytes() {
-        Some(Denoted::Attribute(Static::Last(subtype.range), subtype.of))
+        Some(Denoted::Attribute(Static::Last(range), subtype.of))
     } else {
         None
     }

@@ -40,8 +40,8 @@ pub record LibraryObject : Type 0 where
   pub subtype : Subtype
   pub initial : Initial
 
--- a constant of a generic with a static initial expression (RM 3.3.1, 4.9): the number of the generic whose text it stands in, the
--- expression, which names only constants before this one, and the range of the constant's subtype
+-- a constant of a generic (RM 3.3.1, 4.9), a declared one or what an operator or an attribute gives in a static expression: the number of
+-- the generic whose text it stands in, the expression, which names only constants before this one, and the range of its subtype
 pub record GenericConstant : Type 0 where
   pub generic : ℕ
   pub value : Static

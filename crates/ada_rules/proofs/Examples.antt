@@ -3,7 +3,8 @@ use Rattle.std.proofs.Common.{◌≡◌, ℕ, pos, true, false, [], ◌∷◌, c
 use Rattle.ada_meaning.specs.Program.{Bounds}
 use Rattle.ada_meaning.specs.Types.{of_instance, addition, division, static_number, static_operation}
 use Rattle.ada_rules.specs.Types.{declared_in, enumeration, same_type, boolean_type, integer_type, integer, universal, kind_of, common}
-use Rattle.ada_rules.specs.Statics.{computed, value_in, named_once}
+use Rattle.ada_meaning.specs.Statics.{computed}
+use Rattle.ada_rules.specs.Statics.{value_in, named_once}
 use Rattle.ada_rules.specs.Environment.{package_interface, generic_interface}
 use Rattle.ada_rules.specs.Denoted.{converts}
 use Rattle.ada_rules.specs.Expressions.{part_of_generic, part_of_interface}

@@ -1,6 +1,6 @@
 -- The cases of declarations of types, subtypes, objects and exceptions (Ada RM 2012, 3.2.2 to 3.8, 11.1), and of what
 -- objects are set to.
-use Rattle.std.specs.Prelude.{ℕ, nat_eq, ◌+◌, pos, ◌-ℤ◌, Bool, true, false, not, List, [], ◌∷◌, ◌++◌, codes, length, Option, Some, None, option_map, if◌then◌else◌}
+use Rattle.std.specs.Prelude.{ℕ, ℤ, nat_eq, ◌+◌, pos, ◌-ℤ◌, Bool, true, false, not, List, [], ◌∷◌, ◌++◌, codes, length, Option, Some, None, option_map, unwrap_or, if◌then◌else◌}
 use Rattle.cov_base.specs.declared.position.Pos.{Pos}
 use Rattle.ada_syntax.specs.Tree.{expr_pos, name_pos}
 use Rattle.ada_syntax.specs.declared.declaration.Bounds.{Bounds}
@@ -19,14 +19,15 @@ use Rattle.ada_syntax.specs.declared.declaration.TypeDefinition.TheVariants as d
 use Rattle.ada_syntax.specs.declared.name.Identifier.{Identifier}
 use Rattle.ada_meaning.specs.Program as program
 use Rattle.ada_meaning.specs.Tree as tree
-use Rattle.ada_meaning.specs.Types.{Static, Range, between, Subtype}
+use Rattle.ada_meaning.specs.Statics.{within as among}
+use Rattle.ada_meaning.specs.Types.{division, Static, static_number, static_operation, Range, between, Subtype}
 use Rattle.ada_rules.specs.Plan.{Plan, Judgement, ◌>>=◌, rule, construct}
 use Rattle.ada_rules.specs.Types.{Identity, AdaType, integer_type, enumeration, array_type, record_type, AdaSubtype, of_type, Fields, no_field, and_field, type_in, range_in, base, numbers, integer_subtype, is_scalar, Kind, is_integral, is_discrete, fits, common, settled, subtype_in_tree}
-use Rattle.ada_rules.specs.Statics.{Known, within, Test, lies_in, in_order}
+use Rattle.ada_rules.specs.Statics.{within, Test, lies_in, in_order, value_in, bounds_in}
 use Rattle.ada_rules.specs.Entities.{key, Entity, mark, literal, object, raisable, component, Region, redefined}
-use Rattle.ada_rules.specs.Environment.{typed_rule, State, Words, Given, given, Env, with_local, opened, owner_of, new_identity, one_type_more, demanded, hide, hide_all, statement_label, started}
+use Rattle.ada_rules.specs.Environment.{typed_rule, State, Words, Given, given, map_given, Env, with_local, opened, owner_of, new_identity, one_type_more, demanded, hide, hide_all, statement_label, started}
 use Rattle.ada_rules.specs.Denoted.{Judged, expr_of}
-use Rattle.ada_rules.specs.Expressions.{itself, judged, Valued, folded, static_part, Marked, mark_part, scalar_mark}
+use Rattle.ada_rules.specs.Expressions.{itself, judged, Valued, value_named, entered_constant, static_part, Marked, mark_part, scalar_mark}
 
 abbrev pub in_range : Range → Static → Test
 in_range r e = lies_in (record { value = e; range = r })
@@ -145,9 +146,9 @@ initial_pos i = first_or (expr_pos i.value) i.others where
 -- with the static value of the expression, where it stands in no `others`
 pub record NewValue : Type 0 where
   pub value : tree.NewValue
-  pub known : Option Known
+  pub known : Option Static
 
-abbrev pub known_of : List Pos → Judged → Option Known
+abbrev pub known_of : List Pos → Judged → Option Static
 known_of [] x = x.known
 known_of (p ∷ ps) x = None
 
@@ -169,10 +170,10 @@ initial_for t [] e = if fits (type_in t) e.kind then Some (program.static_initia
 
 pub record LibraryValue : Type 0 where
   pub initial : program.Initial
-  pub known : Option Known
+  pub known : Option Static
 
-abbrev pub known_value : List Pos → Valued → Option Known
-known_value [] v = Some (record { value = v.value; owes = [] })
+abbrev pub known_value : List Pos → Valued → Option Static
+known_value [] v = Some v.value
 known_value (p ∷ ps) v = None
 
 abbrev pub library_value : Env → State → AdaSubtype → Initial → Judgement (Given LibraryValue)
@@ -200,20 +201,30 @@ may_be_bare constancy.Constant = None
 abbrev pub one_name : List Identifier → Option Unit
 one_name is = if nat_eq (length is) 1 then Some tt else None
 
--- what a constant's static value is, seen from where it is used
-abbrev pub static_constant : Env → Constancy → AdaSubtype → Option Known → Option Known
-static_constant env constancy.Variable t k = None
-static_constant env constancy.Constant t None = None
-static_constant env constancy.Constant t (Some k) = Some (record {
-  value = folded env k.value;
-  owes = k.owes ++ record { value = k.value; range = range_in t } ∷ [];
-})
+-- What is known of the value of a constant with a static initial expression. In the text of a generic it is one of the
+-- generic's constants, known by its number.
+abbrev pub numbered : Option ℕ → Range → Static → Option Static → State → Given (Option Static)
+numbered None r e elsewhere s = given elsewhere s
+numbered (Some g) r e elsewhere s =
+    let x = value_named g e s in
+    map_given (λ v. Some v) (entered_constant g r x.value x.next)
 
-abbrev pub known_constant : Constancy → Option Known → Option Known
-known_constant constancy.Variable k = None
-known_constant constancy.Constant k = k
+abbrev pub known_constant : Env → Constancy → AdaSubtype → (Static → Option Static) → Option Static → State
+    → Given (Option Static)
+known_constant env constancy.Constant t elsewhere (Some e) s = numbered env.generic (range_in t) e (elsewhere e) s
+known_constant env c t elsewhere k s = given None s
 
-abbrev pub object_entity : tree.Object → Constancy → AdaSubtype → Option Known → Entity
+-- One of a subprogram in no generic has no static value where its initial value does not lie in its subtype; then it
+-- stands as an expression that has none, so that a static use of it is refused.
+abbrev pub without_value : Static
+without_value = static_operation division (static_number (pos 0)) (static_number (pos 0))
+
+abbrev pub lying_in : Env → AdaSubtype → Static → Option Static
+lying_in env t e = Some (unwrap_or (option_map static_number known) without_value) where
+  known : Option ℤ
+  known = among (value_in env.world.instances 0 e) (bounds_in env.world.instances 0 (range_in t))
+
+abbrev pub object_entity : tree.Object → Constancy → AdaSubtype → Option Static → Entity
 object_entity o c t k = object (record {
   object = o;
   parts = tree.whole;
@@ -228,7 +239,7 @@ object_entity o c t k = object (record {
 abbrev pub word_of : AdaSubtype → Identifier → Words
 word_of t i = record { place = i.pos; subtype = subtype_in_tree t }
 
-abbrev pub local_objects : Constancy → AdaSubtype → Option Known → ℕ → Region → List Identifier → Region
+abbrev pub local_objects : Constancy → AdaSubtype → Option Static → ℕ → Region → List Identifier → Region
 local_objects c t k n region [] = region
 local_objects c t k n region (i ∷ is) =
     local_objects c t k (n + 1) (redefined (key i) (object_entity (tree.local_object n) c t k) region) is
@@ -251,15 +262,20 @@ local_bare c region is t = record {
   made = bare_declarations t.value t.next.objects is;
 }
 
-abbrev pub local_set : Env → Pos → Constancy → Region → List Identifier → AdaSubtype → Given NewValue → Declared
-local_set env p c region is t v = record {
-  region = local_objects c t (static_constant env c t v.value.known) v.next.objects region is;
-  next = started (with_objects t is v.next);
-  made = tree.initialized (statement_label v.next p) v.next.objects v.value.value ∷ [];
+abbrev pub local_known : Pos → Constancy → Region → List Identifier → AdaSubtype → tree.NewValue → Given (Option Static)
+    → Declared
+local_known p c region is t v k = record {
+  region = local_objects c t k.value k.next.objects region is;
+  next = started (with_objects t is k.next);
+  made = tree.initialized (statement_label k.next p) k.next.objects v ∷ [];
 }
 
+abbrev pub local_set : Env → Pos → Constancy → Region → List Identifier → AdaSubtype → Given NewValue → Declared
+local_set env p c region is t v =
+    local_known p c region is t v.value.value (known_constant env c t (lying_in env t) v.value.known v.next)
+
 -- objects of the library level
-abbrev pub library_entities : Env → Constancy → AdaSubtype → Option Known → ℕ → Region → List Identifier → Region
+abbrev pub library_entities : Env → Constancy → AdaSubtype → Option Static → ℕ → Region → List Identifier → Region
 library_entities env c t k n region [] = region
 library_entities env c t k n region (i ∷ is) =
     library_entities env c t k (n + 1) (redefined (key i) (object_entity (tree.library_object (owner_of env) n) c t k) region) is
@@ -274,16 +290,25 @@ abbrev pub library_words : AdaSubtype → List Identifier → List Subtype → L
 library_words t [] ws = ws
 library_words t (i ∷ is) ws = library_words t is (subtype_in_tree t ∷ ws)
 
-abbrev pub library_declared : Env → Constancy → Region → List Identifier → AdaSubtype → LibraryValue → State → Declared
-library_declared env c region is t v s = record {
-  region = library_entities env c t (known_constant c v.known) s.library_objects region is;
-  next = record s {
-    library_objects = s.library_objects + length is;
-    objects_declared = library_objects env t v.initial s.library_objects is s.objects_declared;
-    library_words = library_words t is s.library_words;
-  };
+abbrev pub with_library_objects : Env → AdaSubtype → program.Initial → List Identifier → State → State
+with_library_objects env t v is s = record s {
+  library_objects = s.library_objects + length is;
+  objects_declared = library_objects env t v s.library_objects is s.objects_declared;
+  library_words = library_words t is s.library_words;
+}
+
+abbrev pub library_known : Env → Constancy → Region → List Identifier → AdaSubtype → program.Initial
+    → Given (Option Static) → Declared
+library_known env c region is t v k = record {
+  region = library_entities env c t k.value k.next.library_objects region is;
+  next = with_library_objects env t v is k.next;
   made = [];
 }
+
+-- that the value of a constant lies in its subtype is demanded where it is declared
+abbrev pub library_declared : Env → Constancy → Region → List Identifier → AdaSubtype → LibraryValue → State → Declared
+library_declared env c region is t v s =
+    library_known env c region is t v.initial (known_constant env c t (λ e. Some e) v.known s)
 
 abbrev pub no_library_value : LibraryValue
 no_library_value = record { initial = program.no_initial; known = None }

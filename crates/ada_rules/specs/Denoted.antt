@@ -1,5 +1,5 @@
 -- What names denote and what expressions are, by local rules on their parts (Ada RM 2012, 4.1, 4.5, 4.6, 6.4.1).
-use Rattle.std.specs.Prelude.{ℕ, nat_eq, nat_lt, ◌+◌, pos, Bool, true, false, not, ◌&&◌, ◌||◌, List, [], ◌∷◌, ◌++◌, codes, length, Option, Some, None, option_map, if◌then◌else◌}
+use Rattle.std.specs.Prelude.{ℕ, nat_eq, nat_lt, ◌+◌, pos, Bool, true, false, not, ◌&&◌, ◌||◌, List, [], ◌∷◌, codes, length, Option, Some, None, option_map, if◌then◌else◌}
 use Rattle.std.specs.Option.{option_and_then}
 use Rattle.cov_base.specs.declared.position.Pos.{Pos}
 use Rattle.ada_syntax.specs.declared.expr.UnaryOperator.{UnaryOperator}
@@ -14,7 +14,7 @@ use Rattle.ada_meaning.specs.Program.{Mode, in_mode}
 use Rattle.ada_meaning.specs.Tree as tree
 use Rattle.ada_meaning.specs.Types.{Sign, unary_plus, unary_minus, absolute_value, Operator, addition, subtraction, multiplication, division, modulus, remainder, Relation, equal, unequal, less, at_most, greater, at_least, Static, static_number, static_first, static_last, static_length, static_sign, static_operation, Range}
 use Rattle.ada_rules.specs.Types.{Identity, AdaType, array_type, record_type, AdaSubtype, of_type, Fields, no_field, and_field, type_in, range_in, is_scalar, is_integer, same_type, boolean_type, Kind, universal, kind_of, is_integral, is_discrete, is_boolean, fits, common}
-use Rattle.ada_rules.specs.Statics.{Known, Spans, within}
+use Rattle.ada_rules.specs.Statics.{Spans, within}
 use Rattle.ada_rules.specs.Entities.{same_name, Variable, Parameter, Routine, Entity, hidden, mark, literal, object, formal_object, routine, raisable, component, test_io, unit}
 
 -- where nothing stands: a place for what the step of names leaves open
@@ -33,7 +33,7 @@ pub record Judged : Type 0 where
   pub form : Form
   pub at : Pos
   pub kind : Kind
-  pub known : Option Known
+  pub known : Option Static
   pub values : Option Spans
   pub variable : Option Variable
   pub is_name : Bool
@@ -67,20 +67,17 @@ any_judged = record {
 }
 
 -- a value of a type
-abbrev pub valued : tree.Expr → Kind → Option Known → Option Spans → Judged
+abbrev pub valued : tree.Expr → Kind → Option Static → Option Spans → Judged
 valued e k known values =
     record { form = plain e; at = nowhere; kind = k; known = known; values = values; variable = None; is_name = false }
-
-abbrev pub just : Static → Option Known
-just e = Some (record { value = e; owes = [] })
 
 abbrev pub denoted_of : Entity → Denoted
 denoted_of hidden = a_thing
 denoted_of (mark i t) = a_mark i t
-denoted_of (literal t x) = a_value (valued (tree.literal x) (kind_of t) (just (static_number x)) None)
+denoted_of (literal t x) = a_value (valued (tree.literal x) (kind_of t) (Some (static_number x)) None)
 denoted_of (object v) = a_variable v
 denoted_of (formal_object t e) =
-    a_value (valued (tree.constant e) (kind_of (type_in t)) (just e) (Some (within (range_in t))))
+    a_value (valued (tree.constant e) (kind_of (type_in t)) (Some e) (Some (within (range_in t))))
 denoted_of (routine r) = a_routine r
 denoted_of (raisable e) = an_exception e
 denoted_of component = a_thing
@@ -148,7 +145,7 @@ attribute_of_object name (array_type i x c) = extent_of name x
 attribute_of_object name t = None
 
 abbrev pub static_attribute : Static × Kind → Denoted
-static_attribute a = a_value (valued (tree.constant a.0) a.1 (just a.0) None)
+static_attribute a = a_value (valued (tree.constant a.0) a.1 (Some a.0) None)
 
 abbrev pub object_attribute : Variable → Static × Kind → Denoted
 object_attribute v a =
@@ -276,7 +273,7 @@ standing_at p x = record x { at = p }
 abbrev pub numeral_of : Pos → ℕ → Option Judged
 numeral_of p n =
     if nat_lt n 2147483648
-    then Some (standing_at p (valued (tree.literal (pos n)) universal (just (static_number (pos n))) None))
+    then Some (standing_at p (valued (tree.literal (pos n)) universal (Some (static_number (pos n))) None))
     else None
 
 -- in parentheses it is no name, and no object, call or conversion
@@ -289,12 +286,8 @@ sign_of unary.Minus = Some unary_minus
 sign_of unary.Abs = Some absolute_value
 sign_of unary.Not = None
 
-abbrev pub known_by : (Static → Static) → Option Known → Option Known
-known_by f k = option_map (λ x. record { value = f x.value; owes = x.owes }) k
-
-abbrev pub known_of_both : Operator → Option Known → Option Known → Option Known
-known_of_both op a b =
-    option_and_then (λ x. option_map (λ y. record { value = static_operation op x.value y.value; owes = x.owes ++ y.owes }) b) a
+abbrev pub known_of_both : Operator → Option Static → Option Static → Option Static
+known_of_both op a b = option_and_then (λ x. option_map (static_operation op x) b) a
 
 abbrev pub complemented : Form → Form
 complemented (plain e) = plain (tree.complement e)
@@ -306,7 +299,7 @@ signed p x s = record {
   form = plain (tree.signed s (expr_of x));
   at = p;
   kind = x.kind;
-  known = known_by (static_sign s) x.known;
+  known = option_map (static_sign s) x.known;
   values = None;
   variable = None;
   is_name = false;

@@ -8,9 +8,9 @@ use Rattle.ada_syntax.specs.declared.name.Identifier.{Identifier}
 use Rattle.ada_meaning.specs.Program.{Mode, in_mode, out_mode}
 use Rattle.ada_meaning.specs.Resolved.{constraint_error, program_error, storage_error, end_error}
 use Rattle.ada_meaning.specs.Tree.{Object, library_object, local_object, Parts, Callee, test_get, test_put, subprogram, ExceptionName, predefined, declared}
-use Rattle.ada_meaning.specs.Types.{Owner, here, of_instance, Static, static_of, range_of}
+use Rattle.ada_meaning.specs.Types.{Owner, here, of_instance, Static, static_of, Range, range_of}
 use Rattle.ada_rules.specs.Types.{Identity, integer, natural, positive, boolean, declared_in, AdaType, integer_type, enumeration, formal_type, array_type, record_type, AdaSubtype, of_type, Fields, no_field, and_field, range_in, numbers, integer_subtype, boolean_type, boolean_subtype}
-use Rattle.ada_rules.specs.Statics.{Known, Spans, within, formal_values}
+use Rattle.ada_rules.specs.Statics.{Spans, within, formal_values}
 
 -- identifiers are the same where they differ in case alone (RM 2.3): this is what they are compared by
 abbrev pub key : Identifier → List ℕ
@@ -27,7 +27,7 @@ pub record Variable : Type 0 where
   pub subtype : AdaSubtype
   pub is_writable : Bool
   pub is_indexed : Bool
-  pub known : Option Known
+  pub known : Option Static
   pub values : Spans
 
 -- a parameter of a subprogram, or the result of a function: which subtype its mark names, where it names one (RM 6.1)
@@ -154,6 +154,11 @@ module _ (inst : ℕ) (actuals : List Actual) where
   identity_seen (declared_in o u n) = declared_in (owner_seen o) u n
   identity_seen i = i
 
+  -- a range that another instance has stays that instance's
+  abbrev pub range_seen : Range → Range
+  range_seen (range_of i r) = range_of i r
+  range_seen r = range_of inst r
+
   abbrev mutual
     pub type_seen : AdaType → AdaType
     type_seen (integer_type i) = integer_type (identity_seen i)
@@ -163,7 +168,7 @@ module _ (inst : ℕ) (actuals : List Actual) where
     type_seen (record_type i fs) = record_type (identity_seen i) (fields_seen fs)
 
     pub subtype_seen : AdaSubtype → AdaSubtype
-    subtype_seen (of_type t r) = of_type (type_seen t) (range_of inst r)
+    subtype_seen (of_type t r) = of_type (type_seen t) (range_seen r)
 
     pub fields_seen : Fields → Fields
     fields_seen no_field = no_field
@@ -173,10 +178,6 @@ module _ (inst : ℕ) (actuals : List Actual) where
   object_seen (library_object o d) = library_object (owner_seen o) d
   object_seen (local_object d) = local_object d
 
-  -- a constant of the library level has a static value that owes nothing
-  abbrev pub known_seen : Known → Known
-  known_seen k = record { value = static_of inst k.value; owes = [] }
-
   abbrev pub variable_seen : Variable → Variable
   variable_seen v = record {
     object = object_seen v.object;
@@ -184,8 +185,8 @@ module _ (inst : ℕ) (actuals : List Actual) where
     subtype = subtype_seen v.subtype;
     is_writable = v.is_writable;
     is_indexed = v.is_indexed;
-    known = option_map known_seen v.known;
-    values = within (range_of inst (range_in v.subtype));
+    known = option_map (static_of inst) v.known;
+    values = within (range_seen (range_in v.subtype));
   }
 
   abbrev pub parameter_seen : Parameter → Parameter
@@ -198,7 +199,7 @@ module _ (inst : ℕ) (actuals : List Actual) where
 
   abbrev pub result_values_seen : Option Parameter → Spans
   result_values_seen None = within (range_in integer_subtype)
-  result_values_seen (Some q) = within (range_of inst (range_in q.subtype))
+  result_values_seen (Some q) = within (range_seen (range_in q.subtype))
 
   abbrev pub routine_seen : Routine → Routine
   routine_seen r = record {

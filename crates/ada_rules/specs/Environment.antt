@@ -4,7 +4,7 @@ use Rattle.std.specs.Prelude.{ℕ, ◌+◌, Bool, true, false, List, [], ◌∷�
 use Rattle.cov_base.specs.declared.position.Pos.{Pos}
 use Rattle.ada_syntax.specs.declared.name.Identifier.{Identifier}
 use Rattle.ada_meaning.specs.Tree.{Label}
-use Rattle.ada_meaning.specs.Program.{LibraryObject, ExceptionDeclaration, Instance, Subprogram}
+use Rattle.ada_meaning.specs.Program.{LibraryObject, GenericConstant, ExceptionDeclaration, Instance, Subprogram}
 use Rattle.ada_meaning.specs.Types.{Owner, here, of_instance, Subtype}
 use Rattle.ada_rules.specs.Plan.{Plan, Judgement, ◌>>=◌, rule, construct}
 use Rattle.ada_rules.specs.Types.{Identity, declared_in, AdaSubtype}
@@ -68,7 +68,7 @@ pub record UnitWords : Type 0 where
 -- The counters of the walk: the next numbers of statements, decisions, objects of the subprogram, objects of the
 -- library level, exceptions and types of the unit. And what it has found, the latest first: demands; places where a
 -- limit is passed that counts no words; types; the words of the subprogram, of all subprograms, and of the unit's
--- library level; objects, exceptions, instances and subprograms.
+-- library level; objects, constants of generics, exceptions, instances and subprograms.
 pub record State : Type 0 where
   pub statements : ℕ
   pub decisions : ℕ
@@ -84,6 +84,7 @@ pub record State : Type 0 where
   pub library_words : List Subtype
   pub unit_words : List UnitWords
   pub objects_declared : List LibraryObject
+  pub constants_declared : List GenericConstant
   pub exceptions_declared : List ExceptionDeclaration
   pub instances_declared : List Instance
   pub subprograms : List Subprogram
@@ -104,6 +105,7 @@ beginning_state = record {
   library_words = [];
   unit_words = [];
   objects_declared = [];
+  constants_declared = [];
   exceptions_declared = [];
   instances_declared = [];
   subprograms = [];
@@ -189,10 +191,6 @@ one_type_more s = record s { types = s.types + 1 }
 -- with one more demand
 abbrev pub demanded : Env → Pos → Test → State → State
 demanded env p t s = record s { demands = asked (record { place = p; generic = env.generic; test = t }) ∷ s.demands }
-
-abbrev pub all_demanded : Env → Pos → List Test → State → State
-all_demanded env p [] s = s
-all_demanded env p (t ∷ ts) s = all_demanded env p ts (demanded env p t s)
 
 -- where a count passes its limit
 abbrev pub exceeded : Bool → Pos → State → State

@@ -1,5 +1,5 @@
 -- The cases of names and expressions (Ada RM 2012, 4.1, 4.4, 4.5, 4.9).
-use Rattle.std.specs.Prelude.{ℕ, nat_eq, nat_le, pos, unwrap_or, Bool, false, not, List, [], ◌∷◌, ◌++◌, map, Option, Some, None, option_map, is_some, if◌then◌else◌}
+use Rattle.std.specs.Prelude.{ℕ, nat_eq, nat_le, pos, length, unwrap_or, Bool, false, not, List, [], ◌∷◌, Option, Some, None, option_map, is_some, if◌then◌else◌}
 use Rattle.std.specs.Option.{option_and_then}
 use Rattle.cov_base.specs.declared.position.Pos.{Pos}
 use Rattle.ada_syntax.specs.Tree as source
@@ -7,12 +7,13 @@ use Rattle.ada_syntax.specs.Tree.{expr_pos, name_pos}
 use Rattle.ada_syntax.specs.declared.expr.UnaryOperator.{UnaryOperator}
 use Rattle.ada_syntax.specs.declared.expr.UnaryOperator.TheVariants as unary
 use Rattle.ada_meaning.specs.Tree as tree
-use Rattle.ada_meaning.specs.Types.{Static, static_number}
+use Rattle.ada_meaning.specs.Statics.{constants_of}
+use Rattle.ada_meaning.specs.Types.{Static, static_number, static_constant, static_first, static_last, static_length, static_sign, static_operation, static_of, Range}
 use Rattle.ada_rules.specs.Plan.{Plan, Judgement, ◌>>=◌, rule, construct}
-use Rattle.ada_rules.specs.Types.{Identity, AdaSubtype, type_in, integer_subtype, Kind, universal, is_scalar}
-use Rattle.ada_rules.specs.Statics.{Known, Test, lies_in, value_in}
+use Rattle.ada_rules.specs.Types.{Identity, AdaSubtype, base, type_in, integer_subtype, Kind, universal, is_scalar}
+use Rattle.ada_rules.specs.Statics.{Test, value_in}
 use Rattle.ada_rules.specs.Entities.{key, Entity, component, Actual, Region, entity_of, visible, shown, seen}
-use Rattle.ada_rules.specs.Environment.{Step, naming, typing, typed_rule, Interface, package_interface, generic_interface, instance_interface, World, interface_of, State, Given, given, Env, regions_of, decision_label, decided, all_demanded, exceeded}
+use Rattle.ada_rules.specs.Environment.{Step, naming, typing, typed_rule, Interface, package_interface, generic_interface, instance_interface, World, interface_of, State, Given, given, map_given, Env, regions_of, decision_label, decided, demanded, exceeded}
 use Rattle.ada_rules.specs.Denoted.{Judged, any_judged, Denoted, a_mark, a_unit, the_test_io, a_thing, denoted_of, component_of, is_attribute, attribute_of, applied_to, value_of, standing_at, numeral_of, enclosed, unary_of, binary_of, related, neutral_of, joined, Form, plain, test_of, tested}
 
 -- an expression by itself, or an operand of the decision round it
@@ -177,15 +178,38 @@ pub record Valued : Type 0 where
 abbrev pub any_valued : Valued
 any_valued = record { value = static_number (pos 0); kind = universal }
 
--- outside generics a static expression is its value, where it has one
-abbrev pub folded : Env → Static → Static
-folded env e =
-    if is_some env.generic then e else unwrap_or (option_map static_number (value_in env.world.instances 0 e)) e
+-- with one constant more of a generic, which is known by its number
+abbrev pub entered_constant : ℕ → Range → Static → State → Given Static
+entered_constant g r e s = given (static_constant (length (constants_of g s.constants_declared)))
+    (record s { constants_declared = record { generic = g; value = e; range = r } ∷ s.constants_declared })
 
-abbrev pub accepted : Env → State → Pos → (Kind → Bool) → (Static → Test) → Judged → Known → Option (Given Valued)
-accepted env s p accepts test x k =
+-- In the text of a generic what an operator or an attribute gives, or another instance has, is a constant of the
+-- generic: no value is written out twice.
+abbrev pub value_named : ℕ → Static → State → Given Static
+value_named g (static_first r) s = entered_constant g base (static_first r) s
+value_named g (static_last r) s = entered_constant g base (static_last r) s
+value_named g (static_length r) s = entered_constant g base (static_length r) s
+value_named g (static_sign op e) s =
+    let x = value_named g e s in
+    entered_constant g base (static_sign op x.value) x.next
+value_named g (static_operation op e f) s =
+    let x = value_named g e s in
+    let y = value_named g f x.next in
+    entered_constant g base (static_operation op x.value y.value) y.next
+value_named g (static_of i e) s = entered_constant g base (static_of i e) s
+value_named g e s = given e s
+
+-- in no generic a static expression is its value; where it has none, its demand is not met
+abbrev pub static_known : Env → Static → State → Given Static
+static_known env e s = known_by env.generic where
+  known_by : Option ℕ → Given Static
+  known_by None = given (static_number (unwrap_or (value_in env.world.instances 0 e) (pos 0))) s
+  known_by (Some g) = value_named g e s
+
+abbrev pub accepted : Env → State → Pos → (Kind → Bool) → (Static → Test) → Judged → Static → Option (Given Valued)
+accepted env s p accepts test x e =
     if accepts x.kind
-    then Some (given (record { value = folded env k.value; kind = x.kind }) (all_demanded env p (map lies_in k.owes ++ test k.value ∷ []) s))
+    then Some (map_given (λ v. record { value = v; kind = x.kind }) (static_known env e (demanded env p (test e) s)))
     else None
 
 -- An expression that has to be static, of a type that is accepted there (RM 4.9). It makes a demand.

@@ -183,7 +183,8 @@ fact_of facts (routine_actual r) = result_fact (values_of facts r.values)
 
 abbrev pub typed_actual : List Facts → Actual → program.FormalActual
 typed_actual facts (object_actual e) = program.actual_object e (number_of facts e)
-typed_actual facts (type_actual t) = program.actual_type (range_in t) (bounds_of facts (range_in t))
+typed_actual facts (type_actual t) =
+    program.actual_type (range_in t) (bounds_of facts (range_in t)) (values_of facts (type_values (type_in t)))
 typed_actual facts (routine_actual r) = program.actual_subprogram (target_of r.callee)
 
 -- a generic's unit, or for what is no generic a number that is none
@@ -191,13 +192,16 @@ abbrev pub generic_unit : World → Option ℕ → ℕ
 generic_unit w None = length w.interfaces
 generic_unit w (Some g) = g
 
+-- an instance as the typed program has it; the values of constants are there when all bodies were looked at
 abbrev pub instance_made : World → Pos → Instance → Option ℕ → List Actual → program.Instance
 instance_made w p i g actuals = record {
   name = key i.name;
   place = p;
   generic = generic_unit w g;
   actuals = map (typed_actual w.instances) actuals;
+  constants = [];
 }
 
 abbrev pub facts_made : World → Option ℕ → List Actual → Facts
-facts_made w g actuals = record { generic = generic_unit w g; formals = map (fact_of w.instances) actuals }
+facts_made w g actuals =
+    record { generic = generic_unit w g; formals = map (fact_of w.instances) actuals; constants = [] }

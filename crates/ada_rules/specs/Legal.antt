@@ -1,12 +1,12 @@
 -- What a list of units comes to: a typed program, or the first of the rules' steps that refuses it, and where. The
 -- rules on names come first, then those on types, of which those on static values come last, then the counted limits.
-use Rattle.std.specs.Prelude.{ℕ, List, [], map, reverse, Option, Some, None, unwrap_or, Result, Ok, Err}
+use Rattle.std.specs.Prelude.{ℕ, List, [], ◌∷◌, map, reverse, Option, Some, None, unwrap_or, Result, Ok, Err}
 use Rattle.cov_base.specs.declared.position.Pos.{Pos}
 use Rattle.cov_base.specs.TextOrder.{precedes}
 use Rattle.ada_syntax.specs.declared.unit.Unit.{Unit as LibraryUnit}
 use Rattle.ada_meaning.specs.Obligations.{in_order, ordered_exceptions}
-use Rattle.ada_meaning.specs.Program.{Program}
-use Rattle.ada_rules.specs.Statics.{first_unmet}
+use Rattle.ada_meaning.specs.Program.{Instance, Program}
+use Rattle.ada_rules.specs.Statics.{Facts, first_unmet}
 use Rattle.ada_rules.specs.Entities.{Standard, whole_standard}
 use Rattle.ada_rules.specs.Environment.{naming, typing, World, State}
 use Rattle.ada_rules.specs.Subprograms.{body_number}
@@ -24,12 +24,18 @@ pub data Checked : Type 0 where
 abbrev pub listed : Program → Program
 listed p = record p { exceptions = map (λ x. x.entry) (ordered_exceptions p) }
 
+-- with the values of constants
+abbrev pub with_values : List Instance → List Facts → List Instance
+with_values (i ∷ is) (f ∷ fs) = record i { constants = f.constants } ∷ with_values is fs
+with_values is fs = is
+
 abbrev pub program_of : World → State → List ℕ → Program
 program_of w s main = listed (record {
   subprograms = reverse s.subprograms;
   main = unwrap_or (body_number w main main) 0;
   objects = reverse s.objects_declared;
-  instances = in_order (λ a b. precedes a.place b.place) (reverse s.instances_declared);
+  constants = reverse s.constants_declared;
+  instances = with_values (in_order (λ a b. precedes a.place b.place) (reverse s.instances_declared)) w.instances;
   declared = reverse s.exceptions_declared;
   exceptions = [];
 })

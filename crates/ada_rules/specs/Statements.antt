@@ -19,7 +19,7 @@ use Rattle.ada_meaning.specs.Tree as tree
 use Rattle.ada_meaning.specs.Types.{Static}
 use Rattle.ada_rules.specs.Plan.{Plan, Judgement, ◌>>=◌, rule, construct}
 use Rattle.ada_rules.specs.Types.{AdaType, AdaSubtype, of_type, type_in, range_in, base, integer_subtype, Kind, is_discrete, fits, common, settled, subtype_in_tree}
-use Rattle.ada_rules.specs.Statics.{Known, Spans, within, static_bounds, Test, chosen_in, in_order, covers}
+use Rattle.ada_rules.specs.Statics.{Spans, within, between_static, Test, chosen_in, in_order, covers}
 use Rattle.ada_rules.specs.Entities.{key, Variable, Routine, Entity, object, type_values}
 use Rattle.ada_rules.specs.Environment.{typed_rule, Returning, no_result, result_of, State, Given, given, Env, with_local, opened, in_loop, in_handler, demanded, hide, statement_label, started}
 use Rattle.ada_rules.specs.Denoted.{Judged, expr_of, Denoted, a_variable, a_routine, a_call, an_exception, called_bare}
@@ -160,8 +160,8 @@ pub record Turns : Type 0 where
 abbrev pub any_turns : Turns
 any_turns = record { over = tree.over_subtype base; subtype = integer_subtype; values = within base }
 
-abbrev pub values_between : Option Known → Option Known → AdaType → Spans
-values_between (Some a) (Some b) t = static_bounds a b (type_values t)
+abbrev pub values_between : Option Static → Option Static → AdaType → Spans
+values_between (Some a) (Some b) t = between_static a b (type_values t)
 values_between a b t = type_values t
 
 abbrev pub turns_between : Judged → Judged → Kind → Option Turns

@@ -1,25 +1,18 @@
 -- Static expressions (Ada RM 2012, 4.9), and what the rules demand of their values: a demand is met in each instance of
 -- the generic in whose text it stands, or, where it stands in none, once.
-use Rattle.std.specs.Prelude.{ℕ, zero, suc, nat_eq, ℤ, pos, ◌+ℤ◌, ◌-ℤ◌, int_lt, int_le, ◌+◌, Bool, false, ◌&&◌, ◌||◌, List, [], ◌∷◌, ◌++◌, Option, Some, None, option_map, slice_get, unwrap_or, if◌then◌else◌}
-use Rattle.std.specs.List.{list_all}
+use Rattle.std.specs.Prelude.{ℕ, zero, suc, nat_eq, ℤ, pos, ◌+ℤ◌, int_lt, int_le, ◌+◌, Bool, false, ◌&&◌, ◌||◌, List, [], ◌∷◌, ◌++◌, Option, Some, None, option_map, slice_get, unwrap_or, if◌then◌else◌}
 use Rattle.std.specs.Option.{option_and_then, option_or}
-use Rattle.std.specs.Ordering.{int_eq}
 use Rattle.cov_base.specs.declared.position.Pos.{Pos}
-use Rattle.ada_meaning.specs.Arithmetic.{is_within, base_range, sign_of, exact, divides}
-use Rattle.ada_meaning.specs.Program.{Bounds}
+use Rattle.ada_meaning.specs.Arithmetic.{is_within}
+use Rattle.ada_meaning.specs.Program.{Bounds, GenericConstant}
+use Rattle.ada_meaning.specs.Statics.{InstanceValues, in_base, bounds_between, static_value, static_bounds, constant_values, constants_of}
 use Rattle.ada_meaning.specs.Tree.{Choice, value_choice, range_choice, other_values}
-use Rattle.ada_meaning.specs.Types.{Operator, Static, static_number, static_formal, static_first, static_last, static_length, static_sign, static_operation, static_of, Range, between, formal_range, range_of}
+use Rattle.ada_meaning.specs.Types.{Static, Range}
 
 -- a static value has to lie in a range
 pub record Owed : Type 0 where
   pub value : Static
   pub range : Range
-
--- A static expression, and what has to hold for it to have a value: a constant of a subprogram has one only where its
--- initial value lies in its subtype.
-pub record Known : Type 0 where
-  pub value : Static
-  pub owes : List Owed
 
 -- the values that a case statement names (RM 5.4)
 pub data Spans : Type 0 where
@@ -29,7 +22,7 @@ pub data Spans : Type 0 where
   -- those of the result of the subprogram that an instance has for the formal one with this place
   result_values : ℕ → Spans
   -- those between two bounds where both are static, and else others
-  static_bounds : Known → Known → Spans → Spans
+  between_static : Static → Static → Spans → Spans
 
 -- what a rule asks of static values
 pub data Test : Type 0 where
@@ -75,17 +68,11 @@ pub data Fact : Type 0 where
   type_fact : (subtype type : Bounds) → Fact
   result_fact : Bounds → Fact
 
--- those of an instance, with the number of its generic
+-- those of an instance, with the number of its generic, and the values of the generic's constants
 pub record Facts : Type 0 where
   pub generic : ℕ
   pub formals : List Fact
-
-abbrev pub in_base : ℤ → Option ℤ
-in_base x = if is_within base_range x then Some x else None
-
--- an operation on two numbers, where it is defined
-abbrev pub computed : Operator → ℤ → ℤ → Option ℤ
-computed op x y = if divides op && int_eq y (pos 0) then None else in_base (exact op x y)
+  pub constants : List (Option ℤ)
 
 abbrev pub number_of_fact : Option Fact → Option ℤ
 number_of_fact (Some (number_fact x)) = in_base x
@@ -107,28 +94,32 @@ abbrev pub fact_in : List Facts → ℕ → ℕ → Option Fact
 fact_in instances zero k = None
 fact_in instances (suc n) k = option_and_then (λ i. slice_get i.formals k) (slice_get instances n)
 
-abbrev pub bounds_between : Option ℤ → Option ℤ → Option Bounds
-bounds_between x y = option_and_then (λ low. option_map (λ high. record { low = low; high = high }) y) x
+abbrev pub constant_in : List Facts → ℕ → ℕ → Option ℤ
+constant_in instances zero k = None
+constant_in instances (suc n) k =
+    option_and_then (λ i. unwrap_or (slice_get i.constants k) None) (slice_get instances n)
 
--- Values in an instance, where these are all instances (0: in none). They are computed exactly; there is none where a
--- part leaves the base range, or has a divisor of 0.
+-- what instances have, where these are all
+abbrev pub instance_values : List Facts → InstanceValues
+instance_values instances = record {
+  object = λ n k. number_of_fact (fact_in instances n k);
+  type = λ n k. bounds_of_fact (fact_in instances n k);
+  constant = constant_in instances;
+}
+
+-- with the values of its generic's constants, for the instance with this number, where these are all instances and all
+-- constants so far
+abbrev pub with_constants : List Facts → List GenericConstant → ℕ → Facts → Facts
+with_constants instances cs n f =
+    record f { constants = constant_values (instance_values instances) n [] (constants_of f.generic cs) }
+
+-- Values in an instance, where these are all instances (0: in none).
 module _ (instances : List Facts) where
-  abbrev mutual
-    pub value_in : ℕ → Static → Option ℤ
-    value_in inst (static_number x) = in_base x
-    value_in inst (static_formal k) = number_of_fact (fact_in instances inst k)
-    value_in inst (static_first r) = option_map (λ b. b.low) (bounds_in inst r)
-    value_in inst (static_last r) = option_map (λ b. b.high) (bounds_in inst r)
-    value_in inst (static_length r) = option_and_then (λ b. in_base (b.high -ℤ b.low +ℤ pos 1)) (bounds_in inst r)
-    value_in inst (static_sign s e) = option_and_then (λ x. in_base (sign_of s x)) (value_in inst e)
-    value_in inst (static_operation o e f) =
-        option_and_then (λ x. option_and_then (computed o x) (value_in inst f)) (value_in inst e)
-    value_in inst (static_of i e) = value_in i e
+  abbrev pub value_in : ℕ → Static → Option ℤ
+  value_in inst e = static_value (instance_values instances) inst e
 
-    pub bounds_in : ℕ → Range → Option Bounds
-    bounds_in inst (between e f) = bounds_between (value_in inst e) (value_in inst f)
-    bounds_in inst (formal_range k) = bounds_of_fact (fact_in instances inst k)
-    bounds_in inst (range_of i r) = bounds_in i r
+  abbrev pub bounds_in : ℕ → Range → Option Bounds
+  bounds_in inst r = static_bounds (instance_values instances) inst r
 
   abbrev pub is_in : Option ℤ → Option Bounds → Bool
   is_in (Some x) (Some b) = is_within b x
@@ -136,10 +127,6 @@ module _ (instances : List Facts) where
 
   abbrev pub is_met : ℕ → Owed → Bool
   is_met inst o = is_in (value_in inst o.value) (bounds_in inst o.range)
-
-  -- the value of an expression that is static where it owes nothing
-  abbrev pub known_in : ℕ → Known → Option ℤ
-  known_in inst k = if list_all (is_met inst) k.owes then value_in inst k.value else None
 
   abbrev pub bounds_or : Option Bounds → Option Bounds → Option Bounds
   bounds_or None c = c
@@ -149,8 +136,8 @@ module _ (instances : List Facts) where
   spans_in inst (within r) = bounds_in inst r
   spans_in inst (formal_values k) = type_bounds_of_fact (fact_in instances inst k)
   spans_in inst (result_values k) = result_bounds_of_fact (fact_in instances inst k)
-  spans_in inst (static_bounds a b other) =
-      bounds_or (bounds_between (known_in inst a) (known_in inst b)) (spans_in inst other)
+  spans_in inst (between_static a b other) =
+      bounds_or (bounds_between (value_in inst a) (value_in inst b)) (spans_in inst other)
 
   abbrev pub is_ordered : Option Bounds → Bool
   is_ordered None = false

@@ -212,7 +212,7 @@ body_made env before q b s = record s {
   objects = before.objects;
   words = before.words;
   subprogram_words = record { generic = env.generic; words = reverse s.words } ∷ s.subprogram_words;
-  subprograms = record { parameters = typed_parameters 0 q.parameters; body = b } ∷ s.subprograms;
+  subprograms = record { generic = env.generic; parameters = typed_parameters 0 q.parameters; body = b } ∷ s.subprograms;
 }
 
 -- where the declarations and the statements of a body stand, in the region of its parameters, whose subprogram is

@@ -1,5 +1,5 @@
 -- The cases of library units, and of the whole program (Ada RM 2012, 7.1, 7.2, 10.1, 12.1, 12.3).
-use Rattle.std.specs.Prelude.{ℕ, pred, nat_eq, ◌+◌, Bool, true, false, ◌&&◌, ◌||◌, List, [], ◌∷◌, map, length, set, Option, Some, None, is_none, slice_get, if◌then◌else◌}
+use Rattle.std.specs.Prelude.{ℕ, pred, nat_eq, ◌+◌, Bool, true, false, ◌&&◌, ◌||◌, List, [], ◌∷◌, map, length, reverse, set, Option, Some, None, is_none, slice_get, if◌then◌else◌}
 use Rattle.cov_base.specs.declared.position.Pos.{Pos}
 use Rattle.ada_syntax.specs.declared.name.Identifier.{Identifier}
 use Rattle.ada_syntax.specs.declared.unit.BodyItem.{BodyItem}
@@ -15,7 +15,8 @@ use Rattle.ada_syntax.specs.declared.unit.PackageSpecification.{PackageSpecifica
 use Rattle.ada_syntax.specs.declared.unit.SubprogramBody.{SubprogramBody}
 use Rattle.ada_syntax.specs.declared.unit.Unit.{Unit as LibraryUnit}
 use Rattle.ada_rules.specs.Plan.{Plan, Judgement, ◌>>=◌, rule, construct}
-use Rattle.ada_rules.specs.Statics.{Facts, Asked, instantiated}
+use Rattle.ada_meaning.specs.Program.{GenericConstant}
+use Rattle.ada_rules.specs.Statics.{Facts, with_constants, Asked, instantiated}
 use Rattle.ada_rules.specs.Entities.{Actual, key, same_name, Entity, hidden, routine, unit, Region}
 use Rattle.ada_rules.specs.Environment.{Step, Interface, no_interface, package_interface, generic_interface, instance_interface, subprogram_interface, World, interface_of, State, beginning_state, Given, given, no_result, Env, with_local}
 use Rattle.ada_rules.specs.Denoted.{nowhere}
@@ -132,11 +133,14 @@ instantiated_by None k ds = ds
 instantiated_by (Some g) k ds = instantiated g k ∷ ds
 
 -- an instance: a package of its own, whose name is not visible in it (RM 12.3)
+abbrev pub facts_set : List Facts → ℕ → Facts → List GenericConstant → List Facts
+facts_set fs k f cs = set fs (pred k) (with_constants (set fs (pred k) f) cs k f)
+
 abbrev pub with_instance : World → Pos → ℕ → ℕ → Instance → Option ℕ → List Actual → State → Walked
 with_instance w p n k i g actuals s = record {
   world = record w {
     interfaces = set w.interfaces n (instance_interface g k actuals);
-    instances = set w.instances (pred k) (facts_made w g actuals);
+    instances = facts_set w.instances k (facts_made w g actuals) (reverse s.constants_declared);
   };
   next = record s {
     instances_declared = instance_made w p i g actuals ∷ s.instances_declared;
@@ -261,7 +265,7 @@ all_headings l n (u ∷ us) = construct nowhere (do
 
 -- the units before any was looked at
 abbrev pub no_facts : ℕ → LibraryUnit → List Facts → List Facts
-no_facts count u fs = if is_instance u.item then record { generic = count; formals = [] } ∷ fs else fs
+no_facts count u fs = if is_instance u.item then record { generic = count; formals = []; constants = [] } ∷ fs else fs
 
 abbrev pub facts_before : ℕ → List LibraryUnit → List Facts
 facts_before count [] = []
@@ -288,10 +292,19 @@ abbrev pub has_main : List ℕ → List LibraryUnit → Bool
 has_main name [] = false
 has_main name (u ∷ us) = is_main name u.item || has_main name us
 
+-- behind all bodies the instances have the values of all constants of their generics
+abbrev pub all_with_constants : List Facts → List GenericConstant → ℕ → List Facts → List Facts
+all_with_constants instances cs n [] = []
+all_with_constants instances cs n (f ∷ fs) =
+    with_constants instances cs n f ∷ all_with_constants instances cs (n + 1) fs
+
+abbrev pub resolved : World → State → World
+resolved w s = record w { instances = all_with_constants w.instances (reverse s.constants_declared) 1 w.instances }
+
 -- a whole program in one of the steps; without its main unit it is refused where its first file begins
 abbrev pub judged_in : Step → Library → List ℕ → Judgement Walked
 judged_in step l main = construct nowhere (do
   headings ← all_headings l 0 l.units
   x ← all_interfaces step l (record { world = world_before l; next = beginning_state }) l.order
   s ← all_bodies_judged step l x.world x.next 0 l.units
-  rule (if has_main main l.units then Some (record { world = x.world; next = s }) else None))
+  rule (if has_main main l.units then Some (record { world = resolved x.world s; next = s }) else None))

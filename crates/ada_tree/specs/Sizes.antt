@@ -23,7 +23,7 @@ abbrev mutual
 
   pub actuals_size : Actuals → ℕ
   actuals_size no_actual = 0
-  actuals_size (by_expression e actuals) = expr_size e + actuals_size actuals
+  actuals_size (by_expression e actuals) = expr_size e + actuals_size actuals + 1
   actuals_size (by_variable o parts r actuals) = parts_size parts + actuals_size actuals + 1
   actuals_size (by_composite o parts actuals) = parts_size parts + actuals_size actuals + 1
 
@@ -60,11 +60,11 @@ abbrev mutual
 
   pub alternatives_size : Alternatives → ℕ
   alternatives_size no_alternative = 0
-  alternatives_size (alternative cs ss rest) = stmts_size ss + alternatives_size rest
+  alternatives_size (alternative cs ss rest) = stmts_size ss + alternatives_size rest + 1
 
   pub handlers_size : Handlers → ℕ
   handlers_size no_handler = 0
-  handlers_size (handler cs ss hs) = stmts_size ss + handlers_size hs
+  handlers_size (handler cs ss hs) = stmts_size ss + handlers_size hs + 1
 
   pub block_size : Block → ℕ
   block_size (block ds ss hs) = stmts_size ss + handlers_size hs + 1

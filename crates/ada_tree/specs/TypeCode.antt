@@ -132,8 +132,8 @@ abbrev mutual
   code_static (static_length x0) = gcons (gnum 4) (gcons (code_range x0) gnil)
   code_static (static_sign x0 x1) = gcons (gnum 5) (gcons (coded_sign.code x0) (gcons (code_static x1) gnil))
   code_static (static_operation x0 x1 x2) = gcons (gnum 6) (gcons (coded_operator.code x0) (gcons (code_static x1) (gcons (code_static x2) gnil)))
-  code_static (static_of x0 x1) = gcons (gnum 7) (gcons (coded_ℕ.code x0) (gcons (code_static x1) gnil))
   code_static (static_constant x0) = gcons (gnum 8) (gcons (coded_ℕ.code x0) gnil)
+  code_static (static_of x0 x1) = gcons (gnum 7) (gcons (coded_ℕ.code x0) (gcons (code_static x1) gnil))
 
   pub code_range : Range → Gv
   code_range (between x0 x1) = gcons (gnum 0) (gcons (code_static x0) (gcons (code_static x1) gnil))
@@ -150,8 +150,8 @@ mutual
   inj_static (static_length x0) (static_length y0) e = λ i. static_length (inj_range x0 y0 (ap part0 e) i)
   inj_static (static_sign x0 x1) (static_sign y0 y1) e = λ i. static_sign (coded_sign.inj x0 y0 (ap part0 e) i) (inj_static x1 y1 (ap part1 e) i)
   inj_static (static_operation x0 x1 x2) (static_operation y0 y1 y2) e = λ i. static_operation (coded_operator.inj x0 y0 (ap part0 e) i) (inj_static x1 y1 (ap part1 e) i) (inj_static x2 y2 (ap part2 e) i)
-  inj_static (static_of x0 x1) (static_of y0 y1) e = λ i. static_of (coded_ℕ.inj x0 y0 (ap part0 e) i) (inj_static x1 y1 (ap part1 e) i)
   inj_static (static_constant x0) (static_constant y0) e = λ i. static_constant (coded_ℕ.inj x0 y0 (ap part0 e) i)
+  inj_static (static_of x0 x1) (static_of y0 y1) e = λ i. static_of (coded_ℕ.inj x0 y0 (ap part0 e) i) (inj_static x1 y1 (ap part1 e) i)
   inj_static x y e = absurd (omega (arith, ap form e))
 
   pub inj_range : (x y : Range) → code_range x ≡ code_range y → x ≡ y

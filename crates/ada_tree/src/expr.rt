@@ -1,23 +1,16 @@
 //! Expressions and calls (Ada RM 2012, 4.4, 6.4).
 
 use crate::label::Label;
-use crate::types::{Operator, Range, Relation, Sign, Static};
+use crate::types::{Operator, Owner, Relation, ScalarRange, Sign, Static};
 use cov_base::Pos;
 use std::alloc::{AllocError, Global};
 use std::marker::Model;
 
-/// Whose entity a name denotes.
-#[derive(Clone, Copy)]
-pub enum Owner {
-    /// That of the instance whose text the name stands in.
-    Here,
-    /// That of the instance with this number; 0 is all that is in no generic.
-    Instance(u32),
-}
-
 /// An object by its declaration.
 #[derive(Clone, Copy)]
 pub enum Object {
+    /// The object of the library level with this number, of an instance.
+    Library(Owner, u32),
     /// The object with this number among those of the subprogram that is executed.
     Local(u32),
 }
@@ -33,6 +26,23 @@ pub enum Callee {
     Subprogram(Owner, u32),
     /// The formal subprogram with this place among the formals of the generic (RM 12.6).
     Formal(u32),
+}
+
+/// A predefined exception (RM 11.1; the last is Test_IO's).
+#[derive(Clone, Copy)]
+pub enum PredefinedException {
+    ConstraintError,
+    ProgramError,
+    StorageError,
+    EndError,
+}
+
+/// An exception by name (RM 11.1).
+#[derive(Clone, Copy)]
+pub enum ExceptionName {
+    Predefined(PredefinedException),
+    /// The exception with this declaration, of an instance.
+    Declared(Owner, u32),
 }
 
 /// An expression.
@@ -68,7 +78,7 @@ impl Model for Expr {
 impl Expr {
     ghost use Rattle.std.specs.Prelude.{◌≡◌, IfOk};
     ghost use Rattle.ada_meaning.specs.Tree as tree;
-    ghost use Rattle.ada_tree.specs.View.{static_of, object_of, sign_of, relation_of, label_of, with_operands};
+    ghost use Rattle.ada_tree.specs.View.{static_of, object_of, sign_of, relation_of, label_of, with_operands, parts_of, scalar_range_of, callee_of, actuals_of};
 
     /// A numeral, or an enumeration literal by its position number.
     pub fn literal(value: i32) -> Expr
@@ -105,6 +115,47 @@ impl Expr {
         Ok(Expr {
             kind: ExprKind::Signed(sign, operand),
         })
+    }
+
+    /// The value of a part of an object.
+    pub fn part(object: Object, parts: Vec<Selector>) -> Expr
+        ensures { result ≡ tree.read (object_of object) (parts_of parts.items) }
+    {
+        Expr {
+            kind: ExprKind::Part(object, parts),
+        }
+    }
+
+    /// An attribute of an object or of a part of one, and its value.
+    pub fn attribute(object: Object, parts: Vec<Selector>, value: Static) -> Expr
+        ensures { result ≡ tree.attribute (object_of object) (parts_of parts.items) (static_of value) }
+    {
+        Expr {
+            kind: ExprKind::Attribute(object, parts, value),
+        }
+    }
+
+    /// A conversion of an operand to a subtype.
+    pub fn conversion(
+        alloc: Global,
+        subtype: ScalarRange,
+        operand: Expr,
+    ) -> Result<Expr, AllocError>
+        ensures { IfOk result (λ e. e ≡ tree.conversion (scalar_range_of subtype) operand) }
+    {
+        let operand = Box::new(alloc, operand)?;
+        Ok(Expr {
+            kind: ExprKind::Conversion(subtype, operand),
+        })
+    }
+
+    /// A call of a function with its actuals.
+    pub fn call(callee: Callee, actuals: Vec<Actual>) -> Expr
+        ensures { result ≡ tree.call (callee_of callee) (actuals_of actuals.items) }
+    {
+        Expr {
+            kind: ExprKind::Call(callee, actuals),
+        }
     }
 
     /// A relation of two operands.
@@ -163,10 +214,16 @@ impl Expr {
 pub enum ExprKind {
     /// A numeral, or the position number of an enumeration literal (RM 2.4, 3.5.1).
     Literal(i32),
-    /// An attribute of a type (RM 3.5).
+    /// A static expression that is no numeral: a formal object, a constant of a generic, or an
+    /// attribute of a type (RM 3.5, 4.9, 12.4).
     Constant(Static),
     /// The value of an object (RM 4.1).
     Read(Object),
+    /// The value of a part of an object (RM 4.1).
+    Part(Object, Vec<Selector>),
+    /// First, Last or Length of an object or of a part of one, and its value (RM 3.6.2). Indices in
+    /// the name are evaluated.
+    Attribute(Object, Vec<Selector>, Static),
     /// An operator with one operand (RM 4.5.4, 4.5.6).
     Signed(Sign, Box<Expr>),
     /// Operators with two operands, which group to the left (RM 4.5): the first operand, and at least
@@ -176,8 +233,22 @@ pub enum ExprKind {
     Relation(Relation, Box<Expr>, Box<Expr>),
     /// `not` of what is no short-circuit control form (RM 4.5.6).
     Complement(Box<Expr>),
+    /// A conversion to a subtype (RM 4.6).
+    Conversion(ScalarRange, Box<Expr>),
+    /// A call of a function (RM 6.4).
+    Call(Callee, Vec<Actual>),
     /// A decision: a maximal Boolean expression with at least one short-circuit control form (RM 4.5.1).
     Decision(Label, Box<Test>),
+}
+
+/// A selector of a name (RM 4.1.1, 4.1.3).
+#[derive(Drop)]
+#[cycle(expr)]
+pub enum Selector {
+    /// The component of a record with this place among its components.
+    Component(u32),
+    /// The component of an array with this index, which has to be one of these values.
+    Element(ScalarRange, Expr),
 }
 
 /// An operator and what stands right of it.
@@ -283,9 +354,14 @@ pub enum ShortCircuit {
 
 /// An actual parameter (RM 6.4.1).
 #[derive(Drop)]
+#[cycle(expr)]
 pub enum Actual {
     /// An expression, for a scalar parameter of mode in.
     Expression(Expr),
     /// A variable and its subtype, for a scalar parameter of another mode.
-    Variable(Object, Range),
+    Variable(Object, ScalarRange),
+    /// A part of a variable and its subtype, likewise.
+    Part(Object, Vec<Selector>, ScalarRange),
+    /// An object or a part of one, for a composite parameter of any mode.
+    Composite(Object, Vec<Selector>),
 }

@@ -16,8 +16,11 @@ ghost use Rattle.ada_tree.specs.declared.statement.NewValue.TheVariants as value
 ghost use Rattle.ada_tree.specs.declared.statement.StatementKind.TheVariants as kind;
 ghost use Rattle.ada_tree.specs.declared.types.Operator.TheVariants as operator;
 ghost use Rattle.ada_tree.specs.declared.types.Range.{Range};
+ghost use Rattle.ada_tree.specs.declared.types.ScalarRange.{ScalarRange};
+ghost use Rattle.ada_tree.specs.declared.types.ScalarRange.TheVariants as range;
 ghost use Rattle.ada_tree.specs.declared.types.Subtype.TheVariants as subtype;
-ghost use Rattle.ada_tree.specs.View.{actuals_of, declaration_of, label_of, neutral_of, object_of, operator_of, program_of, range_of, statement_at, statements_of, value_of, with_operands, with_tests};
+ghost use Rattle.ada_tree.specs.Programs.{program_of};
+ghost use Rattle.ada_tree.specs.View.{actuals_of, declaration_of, label_of, neutral_of, object_of, operator_of, range_of, scalar_range_of, statement_at, statements_of, value_of, with_operands, with_tests};
 
 /// A program's view has as many subprograms and the same main procedure; a statement's label and the
 /// order of statements are kept.
@@ -36,10 +39,10 @@ pub fn views_keep_their_parts()
 pub fn declarations_keep_their_parts()
     ensures initialized { (l : Label) (d : ℕ) (v : NewValue)
         → declaration_of (declaration.Initialized l d v) ≡ tree.initialized (label_of l) d (value_of v) }
-    ensures without_value { (d : ℕ) (r : Range)
-        → declaration_of (declaration.WithoutValue d (subtype.Scalar r)) ≡ tree.without_value d (type.scalar (range_of r)) }
-    ensures value { (r : Range) (e : tree.Expr) → value_of (value.Scalar r e) ≡ tree.scalar_value (range_of r) e }
-    ensures range { (r : Range) → range_of r ≡ type.between (type.static_number r.first) (type.static_number r.last) }
+    ensures without_value { (d : ℕ) (r : ScalarRange)
+        → declaration_of (declaration.WithoutValue d (subtype.Scalar r)) ≡ tree.without_value d (type.scalar (scalar_range_of r)) }
+    ensures value { (r : ScalarRange) (e : tree.Expr) → value_of (value.Scalar r e) ≡ tree.scalar_value (scalar_range_of r) e }
+    ensures range { (r : Range) → scalar_range_of (range.Known r) ≡ type.between (type.static_number r.first) (type.static_number r.last) }
 {}
 
 /// Operands are seen from the left, with their operators, and actuals in their order.
@@ -50,8 +53,8 @@ pub fn expressions_keep_their_parts()
     ensures remainder { operator_of operator.Remainder ≡ type.remainder }
     ensures object { (d : ℕ) → object_of (object.Local d) ≡ tree.local_object d }
     ensures expression { (e : tree.Expr) → actuals_of (actual.Expression e ∷ []) ≡ tree.by_expression e tree.no_actual }
-    ensures variable { (o : Object) (r : Range)
-        → actuals_of (actual.Variable o r ∷ []) ≡ tree.by_variable (object_of o) tree.whole (range_of r) tree.no_actual }
+    ensures variable { (o : Object) (r : ScalarRange)
+        → actuals_of (actual.Variable o r ∷ []) ≡ tree.by_variable (object_of o) tree.whole (scalar_range_of r) tree.no_actual }
 {}
 
 /// `and then` goes on where its left operand is True, `or else` where it is False; operands group to the

@@ -1,11 +1,11 @@
 //! How many objects a block declares.
 
 ghost use Rattle.std.specs.Prelude.{◌≡◌, length};
-ghost use Rattle.ada_meaning.specs.Objects.{objects, all_objects, branch_objects, block_objects};
+ghost use Rattle.ada_meaning.specs.Objects.{objects, all_objects, branch_objects, alternative_objects, handler_objects, block_objects};
 ghost use Rattle.ada_tree.specs.Objects.{capped};
-ghost use Rattle.ada_tree.specs.View.{statements_of, branches_of};
+ghost use Rattle.ada_tree.specs.View.{statements_of, branches_of, alternatives_of, handlers_of};
 
-use crate::statement::{Block, Branch, Statement, StatementKind};
+use crate::statement::{Alternative, Block, Branch, Handler, Statement, StatementKind};
 
 impl Block {
     ghost use Rattle.std.specs.Prelude.{◌≡◌, length};
@@ -33,7 +33,9 @@ fn objects_of_block(block: &Block) -> u32
     ensures { result ≡ capped (length (block_objects block.now)) }
 {
     let declared = objects_of_declarations(block.declarations.len());
-    declared.saturating_add(objects_of_statements(&block.statements))
+    let stated = objects_of_statements(&block.statements);
+    let handled = objects_of_handlers(&block.handlers);
+    declared.saturating_add(stated).saturating_add(handled)
 }
 
 #[cycle(objects)]
@@ -56,13 +58,21 @@ fn objects_of_statement(statement: &Statement) -> u32
         StatementKind::Loop(_, statements) | StatementKind::While(_, _, statements) => {
             objects_of_statements(statements)
         }
+        StatementKind::Case(_, _, alternatives) => objects_of_alternatives(alternatives),
+        StatementKind::For(_, _, statements) => {
+            objects_of_statements(statements).saturating_add(1)
+        }
         StatementKind::Block(block) => objects_of_block(block),
         StatementKind::Null(_)
         | StatementKind::Assignment(..)
+        | StatementKind::PartAssignment(..)
         | StatementKind::Call(..)
         | StatementKind::Exit(_)
         | StatementKind::ExitWhen(..)
-        | StatementKind::Return(_) => 0,
+        | StatementKind::Return(_)
+        | StatementKind::ReturnValue(..)
+        | StatementKind::Raise(..)
+        | StatementKind::RaiseAgain(_) => 0,
     }
 }
 
@@ -76,4 +86,28 @@ fn objects_of_branches(branches: &[Branch], otherwise: &[Statement]) -> u32
         count = count.saturating_add(objects_of_statements(&branch.statements));
     }
     count.saturating_add(objects_of_statements(otherwise))
+}
+
+/// The objects of the alternatives of a case statement.
+#[cycle(objects)]
+fn objects_of_alternatives(alternatives: &[Alternative]) -> u32
+    ensures { result ≡ capped (length (alternative_objects (alternatives_of alternatives.now))) }
+{
+    let mut count = 0u32;
+    for alternative in alternatives {
+        count = count.saturating_add(objects_of_statements(&alternative.statements));
+    }
+    count
+}
+
+/// The objects of handlers.
+#[cycle(objects)]
+fn objects_of_handlers(handlers: &[Handler]) -> u32
+    ensures { result ≡ capped (length (handler_objects (handlers_of handlers.now))) }
+{
+    let mut count = 0u32;
+    for handler in handlers {
+        count = count.saturating_add(objects_of_statements(&handler.statements));
+    }
+    count
 }

@@ -1,8 +1,8 @@
 //! Declarations, statements and blocks (Ada RM 2012, 3.3.1, 5, 6.3).
 
-use crate::expr::{Actual, Callee, Expr, Object, Test};
+use crate::expr::{Actual, Callee, ExceptionName, Expr, Object, Selector, Test};
 use crate::label::Label;
-use crate::types::{Range, Subtype};
+use crate::types::{Owner, ScalarRange, Static, Subtype};
 use cov_base::Seq;
 use std::marker::Model;
 
@@ -10,7 +10,61 @@ use std::marker::Model;
 #[derive(Drop)]
 pub enum NewValue {
     /// An expression, for a scalar object of this subtype.
-    Scalar(Range, Expr),
+    Scalar(ScalarRange, Expr),
+    /// An object or a part of one, for a composite object of the type with this number in the table of
+    /// types.
+    Composite(Owner, u32, Object, Vec<Selector>),
+    /// `(others => ..)` round a value for a scalar component of this subtype (RM 4.3.3).
+    OthersScalar(Indices, ScalarRange, Expr),
+    /// The same round a value for a composite component.
+    OthersComposite(Indices, Owner, u32, Object, Vec<Selector>),
+}
+
+/// The indices of an array, and of the arrays that are its components, as far in as `(others => ..)` goes.
+#[derive(Drop)]
+pub struct Indices {
+    pub outermost: ScalarRange,
+    pub inner: Seq<ScalarRange>,
+}
+
+/// A choice of a case alternative (RM 5.4).
+#[derive(Clone, Copy)]
+pub enum Choice {
+    Value(Static),
+    Range(Static, Static),
+    Others,
+}
+
+/// A choice of a handler (RM 11.2).
+#[derive(Clone, Copy)]
+pub enum ExceptionChoice {
+    Exception(ExceptionName),
+    Others,
+}
+
+/// The values of a loop parameter (RM 5.5).
+#[derive(Drop)]
+pub enum LoopRange {
+    /// Those of a subtype.
+    Subtype(ScalarRange),
+    /// Those between two bounds, which are evaluated when the loop begins.
+    Bounds(Expr, Expr),
+}
+
+/// The order in which a for loop takes its values (RM 5.5).
+#[derive(Clone, Copy)]
+pub enum Direction {
+    Rising,
+    Falling,
+}
+
+/// The iteration scheme of a for loop (RM 5.5): the number of its parameter among the objects of the
+/// subprogram, and the parameter's values.
+#[derive(Drop)]
+pub struct ForScheme {
+    pub parameter: u32,
+    pub direction: Direction,
+    pub values: LoopRange,
 }
 
 /// A declaration of an object (RM 3.3.1), by its number among those of the subprogram.
@@ -62,22 +116,34 @@ impl Model for Statement {
 pub enum StatementKind {
     /// `null;` (RM 5.1)
     Null(Label),
-    /// An assignment (RM 5.2).
+    /// An assignment to an object (RM 5.2).
     Assignment(Label, Object, NewValue),
+    /// An assignment to a part of an object.
+    PartAssignment(Label, Object, Vec<Selector>, NewValue),
     /// A call of a procedure (RM 6.4).
     Call(Label, Callee, Seq<Actual>),
     /// An if statement (RM 5.3): `if` and `elsif` in order, and the statements of the else part.
     If(Label, Vec<Branch>, Vec<Statement>),
+    /// A case statement (RM 5.4).
+    Case(Label, Expr, Vec<Alternative>),
     /// A loop without an iteration scheme (RM 5.5).
     Loop(Label, Vec<Statement>),
     /// A while loop (RM 5.5).
     While(Label, Decision, Vec<Statement>),
+    /// A for loop (RM 5.5).
+    For(Label, ForScheme, Vec<Statement>),
     /// `exit;` (RM 5.7)
     Exit(Label),
     /// `exit when` (RM 5.7)
     ExitWhen(Label, Decision),
     /// `return;` (RM 6.5)
     Return(Label),
+    /// A return of a function, with the subtype of its result (RM 6.5).
+    ReturnValue(Label, ScalarRange, Expr),
+    /// A raise statement with a name (RM 11.3).
+    Raise(Label, ExceptionName),
+    /// `raise;` (RM 11.3)
+    RaiseAgain(Label),
     /// A block statement (RM 5.6).
     Block(Block),
 }
@@ -90,12 +156,29 @@ pub struct Branch {
     pub statements: Vec<Statement>,
 }
 
-/// The declarations and statements of a body or of a block statement (RM 5.6, 6.3).
+/// An alternative of a case statement (RM 5.4).
+#[derive(Drop)]
+#[cycle(statement)]
+pub struct Alternative {
+    pub choices: Seq<Choice>,
+    pub statements: Vec<Statement>,
+}
+
+/// A handler of exceptions (RM 11.2).
+#[derive(Drop)]
+#[cycle(statement)]
+pub struct Handler {
+    pub choices: Seq<ExceptionChoice>,
+    pub statements: Vec<Statement>,
+}
+
+/// The declarations, statements and handlers of a body or of a block statement (RM 5.6, 6.3, 11.2).
 #[derive(Drop)]
 #[cycle(statement)]
 pub struct Block {
     pub declarations: Seq<Declaration>,
     pub statements: Vec<Statement>,
+    pub handlers: Vec<Handler>,
 }
 
 impl Model for Block {

@@ -10,7 +10,8 @@ use Rattle.kernel_ir.proofs.Joining.{joined_nothing, joined_assoc}
 use Rattle.kernel_ir.specs.Sequence.{joined}
 use Rattle.kernel_ir.specs.declared.simple.Simple.{Simple}
 use Rattle.kernel_ir.specs.Tree.{simple, Code, no_op, and_op}
-use Rattle.lower.specs.Chain.{number_of, bounds_of, operand_code, operands_code, end_of_operands}
+use Rattle.lower.specs.Known.{number_of, bounds_of}
+use Rattle.lower.specs.Chain.{operand_code, operands_code, end_of_operands}
 use Rattle.lower.specs.Lowered.{one, end_of, end_of_declarations, end_of_statements, expr_code}
 use Rattle.lower.proofs.Values.{end_is_above}
 

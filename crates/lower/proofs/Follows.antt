@@ -3,7 +3,6 @@ use Rattle.std.proofs.Common.{◌≡◌, ◌≢◌, ℕ, zero, suc, ◌+◌, ◌
 use Rattle.std.proofs.lemmas.Bool.{lt-ltb}
 use Rattle.ada_meaning.specs.Execution as source
 use Rattle.ada_meaning.specs.Program.{Subprogram, Program}
-use Rattle.ada_meaning.specs.Resolved.{number_in, bounds_in}
 use Rattle.ada_meaning.specs.State as state
 use Rattle.ada_meaning.specs.State.{World, Outcome, Gives, Raises, OutOfFuel, goes_to, give}
 use Rattle.ada_meaning.specs.Statements.{Flow}
@@ -14,6 +13,7 @@ use Rattle.kernel_ir.specs.Limits.{IsWithin, most_arguments, widest}
 use Rattle.kernel_ir.specs.Meaning as code
 use Rattle.kernel_ir.specs.World.{Memory, Ended, Ends, Cut, area_end}
 use Rattle.kernel_ir.specs.World as kernel
+use Rattle.lower.specs.Known.{number_of, bounds_of}
 use Rattle.lower.specs.Lowered.{objects_in, end_of_block, width_of, body_of, kernel_of}
 use Rattle.lower.specs.Same.{Observed, Same}
 use Rattle.lower.specs.Structured.{IsPlainProcedure, IsStructured}
@@ -74,7 +74,7 @@ IsNarrow b = (1 ≤ b.width) × (b.width + most_arguments ≤ widest)
 
 module _ (p : Program) where
   abbrev body : Subprogram → Body
-  body = body_of (number_in p zero) (bounds_in p zero)
+  body = body_of number_of bounds_of
 
   -- the body of a subprogram, in an activation
   entered : (fuel fp left : ℕ) (s : Subprogram) (w : World) (begun v : kernel.World)

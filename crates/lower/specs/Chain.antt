@@ -1,25 +1,11 @@
--- How code is made: by static expressions that are in no generic, and of operators and their right operands, each put on what was worked
--- out so far.
-use Rattle.std.specs.Prelude.{ℕ, zero, ◌+◌, ℤ, max, List, [], ◌∷◌}
-use Rattle.ada_meaning.specs.Program.{Bounds, Program}
-use Rattle.ada_meaning.specs.Resolved.{number_in, bounds_in}
-use Rattle.ada_meaning.specs.Types as type
+-- How code is made of operators and their right operands, each put on what was worked out so far.
+use Rattle.std.specs.Prelude.{ℕ, ◌+◌, max, List, [], ◌∷◌}
 use Rattle.ada_tree.specs.declared.expr.Operand.{Operand}
 use Rattle.ada_tree.specs.View.{operator_of}
 use Rattle.kernel_ir.specs.Sequence.{joined}
 use Rattle.kernel_ir.specs.Tree.{Code, no_op}
+use Rattle.lower.specs.Known.{number_of, bounds_of}
 use Rattle.lower.specs.Lowered.{one, operator_on, end_of, expr_code}
-
--- a program that holds nothing
-abbrev pub no_program : Program
-no_program = record { subprograms = []; main = 0; objects = []; constants = []; instances = []; declared = []; exceptions = [] }
-
--- the values of static expressions and the bounds of ranges, in each program without instances
-abbrev pub number_of : type.Static → ℤ
-number_of = number_in no_program zero
-
-abbrev pub bounds_of : type.Range → Bounds
-bounds_of = bounds_in no_program zero
 
 -- the code of one operator with its right operand, where k holds the left one
 abbrev pub operand_code : (k : ℕ) → Operand → Code

@@ -5,7 +5,7 @@ use Rattle.kernel_ir.specs.declared.code.Edge.{Edge}
 use Rattle.kernel_ir.specs.declared.code.Edge.TheVariants as edge
 use Rattle.kernel_ir.specs.declared.code.Node.{Node}
 use Rattle.kernel_ir.specs.Tree.{Nodes, and_node}
-use Rattle.lower.specs.Chain.{number_of, bounds_of}
+use Rattle.lower.specs.Known.{number_of, bounds_of}
 use Rattle.lower.specs.Lowered.{past, end_of_test, nodes_code}
 
 -- nodes before others

@@ -1,5 +1,6 @@
 pub mod Structured
 pub mod Sizes
+pub mod Known
 pub mod Lowered
 pub mod Same
 pub mod Marked

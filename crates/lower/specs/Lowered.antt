@@ -1,10 +1,9 @@
 -- The kernel of a program: the objects of a body and of the blocks in it are the first slots of its frame, by their numbers, and values of
 -- expressions are worked out in the slots behind them.
-use Rattle.std.specs.Prelude.{ℕ, zero, ◌+◌, ℤ, max, true, false, List, [], ◌∷◌, length, map}
+use Rattle.std.specs.Prelude.{ℕ, ◌+◌, ℤ, max, true, false, List, [], ◌∷◌, length, map}
 use Rattle.ada_meaning.specs.Arithmetic.{base_range}
 use Rattle.ada_meaning.specs.Objects.{block_objects}
 use Rattle.ada_meaning.specs.Program.{Bounds, Subprogram, Program}
-use Rattle.ada_meaning.specs.Resolved.{number_in, bounds_in}
 use Rattle.ada_meaning.specs.Tree as tree
 use Rattle.ada_meaning.specs.Types as type
 use Rattle.kernel_ir.specs.declared.code.Edge.{Edge}
@@ -18,6 +17,7 @@ use Rattle.kernel_ir.specs.declared.simple.Relation.TheVariants as relation
 use Rattle.kernel_ir.specs.declared.simple.Simple.{Simple}
 use Rattle.kernel_ir.specs.declared.simple.Simple.TheVariants as op
 use Rattle.kernel_ir.specs.Sequence.{joined}
+use Rattle.lower.specs.Known.{number_of, bounds_of}
 use Rattle.kernel_ir.specs.Tree.{Op, simple, choose, forever, exit, returns, decide, call, Code, no_op, and_op, Nodes, no_node, and_node}
 
 -- code of one operation
@@ -257,6 +257,10 @@ module _ (number : type.Static → ℤ) (bounds : type.Range → Bounds) where
   abbrev pub body_of : Subprogram → Body
   body_of s = record { code = block_code (objects_in s.body) s.body; width = width_of s.body }
 
+-- the body of a block in no generic
+abbrev pub body_of_block : tree.Block → Body
+body_of_block b = record { code = block_code number_of bounds_of (objects_in b) b; width = width_of b }
+
 -- the kernel of a program: its bodies have the numbers of the subprograms, and the exceptions are the predefined ones
 abbrev pub kernel_of : Program → Kernel
-kernel_of p = record { bodies = map (body_of (number_in p zero) (bounds_in p zero)) p.subprograms; main = p.main; layouts = []; library = []; exceptions = 4 }
+kernel_of p = record { bodies = map (body_of number_of bounds_of) p.subprograms; main = p.main; layouts = []; library = []; exceptions = 4 }

@@ -3,7 +3,6 @@ use Rattle.std.specs.Prelude.{◌≡◌, ℕ, zero, ◌<◌, ◌≤◌, true, Li
 use Rattle.ada_meaning.specs.Arithmetic.{base_range, is_within}
 use Rattle.ada_meaning.specs.Objects.{block_objects}
 use Rattle.ada_meaning.specs.Program.{Bounds, Subprogram, Program}
-use Rattle.ada_meaning.specs.Resolved.{number_in, bounds_in}
 use Rattle.ada_meaning.specs.Tree as tree
 use Rattle.ada_meaning.specs.Types as type
 use Rattle.cov_base.specs.Lists.{Everywhere, Somewhere}
@@ -29,16 +28,24 @@ abbrev pub behind_all : (visible : List ℕ) → List tree.Declaration → List 
 behind_all visible [] = visible
 behind_all visible (d ∷ ds) = behind_all (behind visible d) ds
 
-module _ (p : Program) where
-  -- values of a scalar type, outside of generics
-  abbrev pub IsPlainRange : type.Range → Type 0
-  IsPlainRange r = AreInBase (bounds_in p zero r)
+-- values of a scalar type, outside of generics
+abbrev pub IsPlainRange : type.Range → Type 0
+IsPlainRange (type.between (type.static_number x) (type.static_number y)) = AreInBase (record { low = x; high = y })
+IsPlainRange r = ⊥
 
+-- a number, or First or Last of a subtype
+abbrev pub IsPlainStatic : type.Static → Type 0
+IsPlainStatic (type.static_number x) = is_within base_range x ≡ true
+IsPlainStatic (type.static_first (type.between (type.static_number x) (type.static_number y))) = is_within base_range x ≡ true
+IsPlainStatic (type.static_last (type.between (type.static_number x) (type.static_number y))) = is_within base_range y ≡ true
+IsPlainStatic e = ⊥
+
+module _ (p : Program) where
   abbrev mutual
     -- a literal, an attribute of a type, the value of a visible object, an operation on integers, a relation, `not`, or a decision
     pub IsPlainExpr : (visible : List ℕ) → tree.Expr → Type 0
     IsPlainExpr visible (tree.literal x) = is_within base_range x ≡ true
-    IsPlainExpr visible (tree.constant e) = is_within base_range (number_in p zero e) ≡ true
+    IsPlainExpr visible (tree.constant e) = IsPlainStatic e
     IsPlainExpr visible (tree.read (tree.local_object d) tree.whole) = IsVisible visible d
     IsPlainExpr visible (tree.signed s e) = IsPlainExpr visible e
     IsPlainExpr visible (tree.operation o e f) = IsPlainExpr visible e × IsPlainExpr visible f

@@ -4,7 +4,7 @@ ghost use Rattle.std.specs.Prelude.{◌≡◌, IfOk, OnOk};
 ghost use Rattle.ada_tree.specs.View.{label_of, neutral_of};
 ghost use Rattle.kernel_ir.specs.Sequence.{joined};
 ghost use Rattle.kernel_ir.specs.Tree.{exit, no_op, Nodes};
-ghost use Rattle.lower.specs.Chain.{number_of, bounds_of};
+ghost use Rattle.lower.specs.Known.{number_of, bounds_of};
 ghost use Rattle.lower.specs.Forms.{with_nodes, operand_nodes, end_of_tests};
 ghost use Rattle.lower.specs.Lowered.{single, end_of_test, nodes_code, decide_on, decided_code};
 

@@ -1,15 +1,20 @@
 //! Code of expressions.
 
 ghost use Rattle.std.specs.Prelude.{◌≡◌, ◌+◌, IfOk, OnOk};
-ghost use Rattle.ada_tree.specs.View.{static_of, range_of, sign_of, operator_of, relation_of, object_of};
+ghost use Rattle.ada_tree.specs.View.{static_of, range_of, scalar_range_of, sign_of, operator_of, relation_of, object_of};
 ghost use Rattle.ada_meaning.specs.Tree as tree;
 ghost use Rattle.kernel_ir.specs.Sequence.{joined};
+ghost use Rattle.kernel_ir.specs.Tree.{no_op};
 ghost use Rattle.kernel_ir.specs.declared.simple.Simple.TheVariants as op;
-ghost use Rattle.lower.specs.Chain.{number_of, bounds_of, operands_code, end_of_operands};
+ghost use Rattle.lower.specs.Known.{number_of, bounds_of};
+ghost use Rattle.lower.specs.Chain.{operands_code, end_of_operands};
 ghost use Rattle.lower.specs.Lowered.{one, within, slot_of, sign_on, operator_for, operator_on, relation_for, end_of, expr_code};
 
 use crate::decisions::put_decision;
-use ada_tree::{Expr, ExprKind, Object, Operand, Operator, Range, Relation, Sign, Static};
+use ada_tree::{
+    Expr, ExprKind, Object, Operand, Operator, Owner, Range, Relation, ScalarRange, Sign, Static,
+    StaticValue,
+};
 use kernel_ir::{Code, Simple, Slot};
 use std::alloc::{AllocError, Global};
 
@@ -26,13 +31,40 @@ pub(crate) fn slot_behind(slot: Slot) -> Result<Slot, AllocError>
     slot.checked_add(1).ok_or(AllocError)
 }
 
-/// The value of a static expression.
+/// Puts nothing behind code: for what has no code yet. Answers the slot behind the one for a value.
+#[tactic(auto, using(crate::proofs::Building::nothing_put))]
+pub(crate) fn put_nothing(code: &mut Code, slot: Slot) -> Result<Slot, AllocError>
+    ensures code { OnOk result (code.new ≡ joined code.old no_op) }
+    ensures end { IfOk result (λ end. end ≡ slot + 1) }
+{
+    slot_behind(slot)
+}
+
+/// The bounds of a range that are written as numbers: 0 and 0 for one that hangs on an instance, which
+/// has no code yet.
+pub(crate) fn bounds_of(range: ScalarRange) -> Range
+    ensures first { result.first ≡ (bounds_of (scalar_range_of range)).low }
+    ensures last { result.last ≡ (bounds_of (scalar_range_of range)).high }
+{
+    match range {
+        ScalarRange::Known(range) => range,
+        ScalarRange::Between(Owner::Here, StaticValue::Number(first), StaticValue::Number(last)) => {
+            Range { first, last }
+        }
+        ScalarRange::Between(..) | ScalarRange::Formal(..) => Range { first: 0, last: 0 },
+    }
+}
+
+/// The value of a static expression that is written as a number, or as First or Last of such bounds: 0
+/// for another one, which has no code yet.
 fn number_of(value: Static) -> i32
     ensures { result ≡ number_of (static_of value) }
 {
     match value {
-        Static::First(range) => range.first,
-        Static::Last(range) => range.last,
+        Static::Value(Owner::Here, StaticValue::Number(number)) => number,
+        Static::First(range) => bounds_of(range).first,
+        Static::Last(range) => bounds_of(range).last,
+        Static::Value(..) | Static::Length(_) | Static::Signed(..) | Static::Operation(..) => 0,
     }
 }
 
@@ -40,8 +72,9 @@ fn number_of(value: Static) -> i32
 pub(crate) fn slot_of(object: Object) -> Slot
     ensures { result ≡ slot_of (object_of object) }
 {
-    let Object::Local(slot) = object;
-    slot
+    match object {
+        Object::Library(_, number) | Object::Local(number) => number,
+    }
 }
 
 /// Raises Constraint_Error unless a slot's value lies within a range.
@@ -136,7 +169,10 @@ pub(crate) fn put_expr(
     match &expr.kind {
         ExprKind::Literal(value) => put_number(code, to, *value),
         ExprKind::Constant(value) => put_number(code, to, number_of(*value)),
-        ExprKind::Read(object) => put_read(code, to, *object),
+        ExprKind::Read(object) | ExprKind::Part(object, _) => put_read(code, to, *object),
+        ExprKind::Attribute(..) | ExprKind::Conversion(..) | ExprKind::Call(..) => {
+            put_nothing(code, to)
+        }
         ExprKind::Signed(sign, operand) => {
             let end = put_expr(alloc, code, to, operand)?;
             code.push_simple(sign_on(to, *sign))?;

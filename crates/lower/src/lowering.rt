@@ -1,12 +1,13 @@
 //! Kernels of programs.
 
-ghost use Rattle.std.specs.Prelude.{◌≡◌, IfOk};
-ghost use Rattle.ada_tree.specs.View.{subprogram_of, program_of};
-ghost use Rattle.lower.specs.Chain.{number_of, bounds_of};
-ghost use Rattle.lower.specs.Lowered.{body_of, kernel_of};
+ghost use Rattle.std.specs.Prelude.{◌≡◌, List, IfOk};
+ghost use Rattle.ada_tree.specs.Programs.{subprogram_of, types_of, program_of};
+ghost use Rattle.ada_tree.specs.declared.types.CompositeType.{CompositeType};
+ghost use Rattle.lower.specs.Known.{number_of, bounds_of};
+ghost use Rattle.lower.specs.Lowered.{body_of, body_of_block, kernel_of};
 
 use crate::statements::put_block;
-use ada_tree::{Program, Subprogram};
+use ada_tree::{Block, Program, Subprogram};
 use cov_base::Seq;
 use kernel_ir::{Body, Code, Kernel};
 use std::alloc::{AllocError, Global};
@@ -14,17 +15,24 @@ use std::alloc::{AllocError, Global};
 /// How many exceptions are predefined.
 const PREDEFINED: u32 = 4;
 
-/// The body of a subprogram. A frame of 2 ^ 32 - 1 objects is too large for memory.
-fn lower_subprogram(alloc: Global, subprogram: &Subprogram) -> Result<Body, AllocError>
-    ensures { IfOk result (λ body. body ≡ body_of number_of bounds_of (subprogram_of subprogram.now)) }
+/// The body of the code of a block. A frame of 2 ^ 32 - 1 objects is too large for memory.
+fn lower_block(alloc: Global, block: &Block) -> Result<Body, AllocError>
+    ensures { IfOk result (λ body. body ≡ body_of_block block.now) }
 {
-    let objects = subprogram.body.objects();
+    let objects = block.objects();
     if objects == u32::MAX {
         return Err(AllocError);
     }
     let mut code = Code::new(alloc);
-    let width = put_block(alloc, &mut code, objects, &subprogram.body)?;
+    let width = put_block(alloc, &mut code, objects, block)?;
     Ok(Body { code, width })
+}
+
+/// The body of a subprogram, of which composite types have no code yet.
+fn lower_subprogram(alloc: Global, subprogram: &Subprogram) -> Result<Body, AllocError>
+    ensures { (types : List CompositeType) → IfOk result (λ body. body ≡ body_of number_of bounds_of (subprogram_of (types_of types) subprogram.now)) }
+{
+    lower_block(alloc, &subprogram.body)
 }
 
 /// The kernel of a program: a body for each subprogram, with its number.

@@ -3,17 +3,19 @@
 
 ghost use Rattle.std.specs.Prelude.{◌≡◌, ◌+◌, IfOk, OnOk, map, max};
 ghost use Rattle.ada_meaning.specs.Tree as tree;
-ghost use Rattle.ada_tree.specs.View.{callee_of, actuals_of, declaration_of, label_of, object_of, range_of, statements_of, branches_of, value_of};
+ghost use Rattle.ada_tree.specs.View.{callee_of, actuals_of, declaration_of, label_of, numbered, object_of, scalar_range_of, statements_of, branches_of, subtype_by, value_of};
 ghost use Rattle.kernel_ir.specs.Sequence.{joined};
 ghost use Rattle.kernel_ir.specs.Tree.{forever, exit};
-ghost use Rattle.lower.specs.Chain.{number_of, bounds_of};
+ghost use Rattle.lower.specs.Known.{number_of, bounds_of};
 ghost use Rattle.lower.specs.Lowered.{one, single, start_of, end_of_test, end_of_branches, end_of_block, decided_code, branches_code, block_code, end_of, end_of_call, end_of_declaration, end_of_declarations, end_of_put, end_of_statement, end_of_statements, end_of_value, value_code, checked_code, output_code, put_code, input_code, get_code, call_code, declaration_code, declarations_code, statement_code, statements_code};
 
 use crate::decisions::{leaving, put_decided, put_exit_when};
-use crate::expressions::{INTEGER, put_expr, slot_behind, slot_of, within};
+use crate::expressions::{
+    INTEGER, bounds_of, put_expr, put_nothing, slot_behind, slot_of, within,
+};
 use ada_tree::{
-    Actual, Block, Branch, Callee, Decision, Declaration, Expr, Label, NewValue, Object, Range,
-    Statement, StatementKind, Subtype,
+    Actual, Block, Branch, Callee, Decision, Declaration, Expr, Label, NewValue, Object, Owner,
+    ScalarRange, Statement, StatementKind, Subtype,
 };
 use cov_base::{InstId, StmtId};
 use kernel_ir::{Code, Op, Simple, Slot};
@@ -40,8 +42,12 @@ fn put_value(
     ensures code { OnOk result (code.new ≡ joined code.old (value_code number_of bounds_of objects (object_of object) (value_of value.now))) }
     ensures end { IfOk result (λ end. end ≡ end_of_value objects (value_of value.now)) }
 {
-    let NewValue::Scalar(range, expr) = value;
-    put_scalar(alloc, code, objects, object, *range, expr)
+    match value {
+        NewValue::Scalar(range, expr) => put_scalar(alloc, code, objects, object, *range, expr),
+        NewValue::Composite(..) | NewValue::OthersScalar(..) | NewValue::OthersComposite(..) => {
+            put_nothing(code, objects)
+        }
+    }
 }
 
 /// Puts behind code what sets an object to a value that lies within a range.
@@ -51,10 +57,10 @@ fn put_scalar(
     code: &mut Code,
     objects: Slot,
     object: Object,
-    range: Range,
+    range: ScalarRange,
     expr: &Expr,
 ) -> Result<Slot, AllocError>
-    ensures code { OnOk result (code.new ≡ joined code.old (value_code number_of bounds_of objects (object_of object) (tree.scalar_value (range_of range) expr.now))) }
+    ensures code { OnOk result (code.new ≡ joined code.old (value_code number_of bounds_of objects (object_of object) (tree.scalar_value (scalar_range_of range) expr.now))) }
     ensures end { IfOk result (λ end. end ≡ end_of objects expr.now) }
 {
     let end = put_expr(alloc, code, objects, expr)?;
@@ -69,11 +75,11 @@ fn put_checked(
     code: &mut Code,
     objects: Slot,
     object: Object,
-    range: Range,
+    range: ScalarRange,
 ) -> Result<(), AllocError>
-    ensures { OnOk result (code.new ≡ joined code.old (checked_code bounds_of objects (object_of object) (range_of range))) }
+    ensures { OnOk result (code.new ≡ joined code.old (checked_code bounds_of objects (object_of object) (scalar_range_of range))) }
 {
-    code.push_simple(within(objects, range))?;
+    code.push_simple(within(objects, bounds_of(range)))?;
     code.push_simple(Simple::Move {
         to: slot_of(object),
         from: objects,
@@ -95,7 +101,7 @@ fn put_output(
     };
     match actual {
         Actual::Expression(expr) => put_integer(alloc, code, objects, expr),
-        Actual::Variable(..) => slot_behind(objects),
+        Actual::Variable(..) | Actual::Part(..) | Actual::Composite(..) => put_nothing(code, objects),
     }
 }
 
@@ -126,7 +132,10 @@ fn put_input(code: &mut Code, objects: Slot, actuals: &[Actual]) -> Result<(), A
     };
     match actual {
         Actual::Expression(_) => Ok(()),
-        Actual::Variable(object, range) => put_next_word(code, objects, *object, *range),
+        Actual::Composite(_, _) => Ok(()),
+        Actual::Variable(object, range) | Actual::Part(object, _, range) => {
+            put_next_word(code, objects, *object, *range)
+        }
     }
 }
 
@@ -136,9 +145,9 @@ fn put_next_word(
     code: &mut Code,
     objects: Slot,
     object: Object,
-    subtype: Range,
+    subtype: ScalarRange,
 ) -> Result<(), AllocError>
-    ensures { OnOk result (code.new ≡ joined code.old (input_code bounds_of objects (object_of object) (range_of subtype))) }
+    ensures { OnOk result (code.new ≡ joined code.old (input_code bounds_of objects (object_of object) (scalar_range_of subtype))) }
 {
     code.push_simple(Simple::Get { to: objects })?;
     put_checked(code, objects, object, subtype)
@@ -169,6 +178,20 @@ fn put_call(
     }
 }
 
+/// Puts behind code what a composite object without an initial value takes: nothing yet.
+fn put_composite(
+    code: &mut Code,
+    objects: Slot,
+    object: u32,
+    owner: Owner,
+    number: u32,
+) -> Result<Slot, AllocError>
+    ensures code { OnOk result (code.new ≡ joined code.old (declaration_code number_of bounds_of objects (tree.without_value object (subtype_by owner (numbered number))))) }
+    ensures end { IfOk result (λ end. end ≡ objects + 1) }
+{
+    put_nothing(code, objects)
+}
+
 /// Puts a declaration behind code.
 #[tactic(auto, using(crate::proofs::Building::one_then_put))]
 fn put_declaration(
@@ -188,9 +211,12 @@ fn put_declaration(
         Declaration::WithoutValue(object, Subtype::Scalar(range)) => {
             code.push_simple(Simple::Number {
                 to: *object,
-                value: range.first,
+                value: bounds_of(*range).first,
             })?;
             slot_behind(objects)
+        }
+        Declaration::WithoutValue(object, Subtype::Composite(owner, number)) => {
+            put_composite(code, objects, *object, *owner, *number)
         }
     }
 }
@@ -303,7 +329,8 @@ fn put_statement(
             put_while(alloc, code, objects, decision, statements)
         }
         StatementKind::Null(label) => put_null(code, objects, *label),
-        StatementKind::Assignment(label, object, value) => {
+        StatementKind::Assignment(label, object, value)
+        | StatementKind::PartAssignment(label, object, _, value) => {
             put_assignment(alloc, code, objects, *label, *object, value)
         }
         StatementKind::Call(label, callee, actuals) => {
@@ -315,6 +342,11 @@ fn put_statement(
             put_exit_when(alloc, code, objects, decision)
         }
         StatementKind::Return(label) => put_return(code, objects, *label),
+        StatementKind::Case(..)
+        | StatementKind::For(..)
+        | StatementKind::ReturnValue(..)
+        | StatementKind::Raise(..)
+        | StatementKind::RaiseAgain(_) => put_nothing(code, objects),
     }
 }
 

@@ -7,3 +7,4 @@ pub mod ExceptionsShown
 pub mod GenericsShown
 pub mod WholeShown
 pub mod ApartShown
+pub mod DoublingShown

@@ -9,3 +9,4 @@ pub mod Exceptions
 pub mod Generics
 pub mod Whole
 pub mod Apart
+pub mod Doubling

@@ -15,6 +15,7 @@ ghost use Rattle.rules_examples.specs.Exceptions.{Exceptions};
 ghost use Rattle.rules_examples.specs.Generics.{Generics};
 ghost use Rattle.rules_examples.specs.Whole.{Whole};
 ghost use Rattle.rules_examples.specs.Apart.{Apart};
+ghost use Rattle.rules_examples.specs.Doubling.{Doubling};
 
 /// Objects of type Integer, assignments and calls of Test_IO.
 pub fn objects()
@@ -59,4 +60,9 @@ pub fn whole()
 /// Sources worked out by hand, for what the others leave out.
 pub fn apart()
     ensures { Apart }
+{}
+
+/// Constants of which each is twice the one before it, forty in a row.
+pub fn doubling()
+    ensures { Doubling }
 {}

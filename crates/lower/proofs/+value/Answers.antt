@@ -4,7 +4,8 @@ use Rattle.ada_tree.specs.Sizes.{expr_size, test_size}
 use Rattle.ada_tree.specs.View.{expr_at, test_at, sign_of, operator_of, relation_of, neutral_of}
 use Rattle.kernel_ir.specs.Sequence.{joined}
 use Rattle.kernel_ir.specs.Tree.{decide, no_node}
-use Rattle.lower.specs.Chain.{number_of, bounds_of, operand_code, operands_code, end_of_operands}
+use Rattle.lower.specs.Known.{number_of, bounds_of}
+use Rattle.lower.specs.Chain.{operand_code, operands_code, end_of_operands}
 use Rattle.lower.specs.Forms.{end_of_tests}
 use Rattle.lower.specs.Lowered.{one, single, sign_on, operator_on, relation_on, complement_on, end_of, end_of_test, expr_code}
 use Rattle.lower.proofs.Building.{two_put, three_put, chain_code, chain_end, chain_size, operands_size, operand_within, operands_above, expr_positive, one_more, none_left, one_further}

@@ -1,7 +1,7 @@
 use Rattle.std.proofs.Common.{ap, arith}
 use Rattle.ada_tree.specs.Sizes.{stmt_size, stmts_size}
 use Rattle.ada_tree.specs.View.{statements_of}
-use Rattle.ada_tree.proofs.Within.{statement_within, branch_within, other_within}
+use Rattle.ada_tree.proofs.Within.{statement_within, branch_within, other_within, alternative_within, handler_within}
 use Rattle.ada_tree.proofs.objects.+objects.Goals as goal
 
 pub objects_of_statements-objects_of_statement-requires : goal.objects_of_statements-objects_of_statement-requires
@@ -23,3 +23,27 @@ objects_of_branches-objects_of_statements-requires t c = (
 pub objects_of_branches-objects_of_statements-requires-2 : goal.objects_of_branches-objects_of_statements-requires-2
 objects_of_branches-objects_of_statements-requires-2 t c =
     (omega (arith, c.decreases, other_within c.args.branches.now (statements_of c.args.otherwise.now)), tt)
+
+pub objects_of_alternatives-objects_of_statements-requires : goal.objects_of_alternatives-objects_of_statements-requires
+objects_of_alternatives-objects_of_statements-requires t c = (
+  omega (
+    arith,
+    c.decreases,
+    alternative_within c.args.alternatives.now c.loop-alternative.alternative-index c.alternative-item.result (omega arith),
+    ap (λ x. stmts_size (statements_of x.statements.items)) c.alternative-item.is,
+    ap (λ xs. stmts_size (statements_of xs)) c.deref.ensures.value,
+  ),
+  tt,
+)
+
+pub objects_of_handlers-objects_of_statements-requires : goal.objects_of_handlers-objects_of_statements-requires
+objects_of_handlers-objects_of_statements-requires t c = (
+  omega (
+    arith,
+    c.decreases,
+    handler_within c.args.handlers.now c.loop-handler.handler-index c.handler-item.result (omega arith),
+    ap (λ x. stmts_size (statements_of x.statements.items)) c.handler-item.is,
+    ap (λ xs. stmts_size (statements_of xs)) c.deref.ensures.value,
+  ),
+  tt,
+)

@@ -1,6 +1,6 @@
 use Rattle.ada_tree.specs.View.{label_of}
 use Rattle.kernel_ir.specs.Tree.{choose}
-use Rattle.lower.specs.Chain.{number_of, bounds_of}
+use Rattle.lower.specs.Known.{number_of, bounds_of}
 use Rattle.lower.specs.Lowered.{single, decide_on}
 use Rattle.lower.proofs.Building.{two_put}
 use Rattle.lower.proofs.decisions.put_decided.Goals as goal

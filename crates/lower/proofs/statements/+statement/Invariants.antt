@@ -2,7 +2,7 @@ use Rattle.std.proofs.Common.{◌≡◌, ◌+◌, ◌*◌, ◌≤◌, max, drop}
 use Rattle.ada_tree.specs.Sizes.{stmt_size, stmts_size, branches_size, block_size}
 use Rattle.ada_tree.specs.View.{statements_of, branches_of}
 use Rattle.kernel_ir.specs.Sequence.{joined}
-use Rattle.lower.specs.Chain.{number_of, bounds_of}
+use Rattle.lower.specs.Known.{number_of, bounds_of}
 use Rattle.lower.specs.Lowered.{end_of_statements, statements_code}
 use Rattle.lower.proofs.statements.+statement.Given as goal
 

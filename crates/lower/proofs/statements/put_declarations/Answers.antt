@@ -1,6 +1,6 @@
 use Rattle.std.proofs.Common.{map, refl, ◌∙◌, arith}
 use Rattle.ada_tree.specs.View.{declaration_of}
-use Rattle.lower.specs.Chain.{number_of, bounds_of}
+use Rattle.lower.specs.Known.{number_of, bounds_of}
 use Rattle.lower.specs.Lowered.{end_of_declaration, end_of_declarations, declaration_code, declarations_code}
 use Rattle.lower.proofs.Building.{one_more, one_further, none_left, declarations_above}
 use Rattle.lower.proofs.statements.put_declarations.Goals as goal

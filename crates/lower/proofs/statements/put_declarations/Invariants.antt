@@ -1,7 +1,7 @@
 use Rattle.std.proofs.Common.{◌≡◌, ◌+◌, ◌≤◌, max, map, drop}
 use Rattle.ada_tree.specs.View.{declaration_of}
 use Rattle.kernel_ir.specs.Sequence.{joined}
-use Rattle.lower.specs.Chain.{number_of, bounds_of}
+use Rattle.lower.specs.Known.{number_of, bounds_of}
 use Rattle.lower.specs.Lowered.{end_of_declarations, declarations_code}
 use Rattle.lower.proofs.statements.put_declarations.Given as goal
 
