@@ -1,5 +1,5 @@
 -- Refusals of units, and how the code goes through them.
-use Rattle.std.proofs.Common.{◌≡◌, ℕ, ◌+◌, ◌<◌, length, Result, Ok, Err, true, false, List, [], ◌∷◌, ◌++◌, drop, Option, Some, None, option_map, is_some, refl, sym, ap, ◌∙◌, subst}
+use Rattle.std.proofs.Common.{◌≡◌, ℕ, ◌+◌, ◌<◌, length, Result, Ok, Err, true, false, List, [], ◌∷◌, ◌++◌, map, drop, Option, Some, None, option_map, is_some, refl, sym, ap, ◌∙◌, subst}
 use Rattle.std.specs.Option.{option_and_then}
 use Rattle.std.specs.declared.vec.Vec.{Vec}
 use Rattle.std.specs.declared.alloc.Global.{Global}
@@ -18,8 +18,17 @@ use Rattle.ada_places.specs.Places.{all_places_of}
 use Rattle.ada_expressions.specs.declared.fault.TypeFault.{TypeFault}
 use Rattle.ada_expressions.specs.declared.kind.DeclaredObject.{DeclaredObject}
 use Rattle.ada_expressions.specs.Answer.{mistyped}
+use Rattle.ada_tree.proofs.Unfolding.{block_stays}
+use Rattle.ada_tree.specs.Programs.{types_of, parameter_of, subprogram_of, library_object_of, constant_of, instance_of, exception_declaration_of, raisable_of}
+use Rattle.ada_tree.specs.declared.program.ExceptionDeclaration.{ExceptionDeclaration}
+use Rattle.ada_tree.specs.declared.program.GenericConstant.{GenericConstant}
+use Rattle.ada_tree.specs.declared.program.Instance.{Instance}
+use Rattle.ada_tree.specs.declared.program.LibraryObject.{LibraryObject}
+use Rattle.ada_tree.specs.declared.program.Parameter.{Parameter}
+use Rattle.ada_tree.specs.declared.program.Raisable.{Raisable}
+use Rattle.ada_tree.specs.declared.types.CompositeType.{CompositeType}
 use Rattle.ada_types.specs.Typing.{Context, Elaborated, outside_loops, context_of, block_of, typed_declarations, typed_statements, procedure_of, typed_body, is_plain_item, typed_unit, typed_units}
-use Rattle.ada_types.specs.Legal.{typed}
+use Rattle.ada_types.specs.Legal.{typed, program_with}
 use Rattle.ada_types.specs.TypingCode.{SomeRefused, typed_parts, ShowsUnits, subprograms_view}
 use Rattle.ada_types.specs.Rules.{parts_of_block, unit, units_from, program}
 use Rattle.ada_types.specs.Answer.{Refused, Shows}
@@ -29,7 +38,35 @@ use Rattle.ada_types.proofs.StatementLaws.{later}
 
 -- a subprogram with this body
 abbrev pub procedure_with : tree.Block → meaning.Subprogram
-procedure_with b = record { parameters = []; body = b }
+procedure_with b = record { generic = None; parameters = []; body = b }
+
+-- as a typed subprogram, whose types there are none to unfold
+pub procedure_made : (b : tree.Block) (qs : List Parameter) → qs ≡ []
+    → Some (procedure_with b) ≡ Some (subprogram_of [] (record { generic = None; parameters = qs; body = b }))
+procedure_made b qs none = λ i. Some (record { generic = None; parameters = map (parameter_of []) (sym none i); body = sym (block_stays b) i })
+
+-- a program without packages, of its parts
+pub program_made : (main : ℕ) (subprograms ss : List Subprogram) (types : List CompositeType) (objects : List LibraryObject) (constants : List GenericConstant)
+    (instances : List Instance) (exceptions : List ExceptionDeclaration) (raisable : List Raisable)
+    → ss ≡ subprograms → types ≡ [] → objects ≡ [] → constants ≡ [] → instances ≡ [] → exceptions ≡ [] → raisable ≡ []
+    → record {
+      subprograms = map (subprogram_of (types_of types)) ss;
+      main = main;
+      objects = map (library_object_of (types_of types)) objects;
+      constants = map constant_of constants;
+      instances = map instance_of instances;
+      declared = map exception_declaration_of exceptions;
+      exceptions = map raisable_of raisable;
+    } ≡ program_with main (map (subprogram_of []) subprograms)
+program_made main subprograms ss types objects constants instances exceptions raisable all t o c n d r = λ i. record {
+  subprograms = map (subprogram_of (types_of (t i))) (all i);
+  main = main;
+  objects = map (library_object_of (types_of (t i))) (o i);
+  constants = map constant_of (c i);
+  instances = map instance_of (n i);
+  declared = map exception_declaration_of (d i);
+  exceptions = map raisable_of (r i);
+}
 
 -- before the first declaration
 abbrev pub started : List Region → Region → List DeclaredObject → Places → Context

@@ -7,6 +7,7 @@ use Rattle.ada_syntax.specs.Nodes.{capped, unit_nodes}
 use Rattle.ada_syntax.specs.declared.unit.Unit.{Unit as LibraryUnit}
 use Rattle.ada_meaning.specs.Program.{Subprogram}
 use Rattle.ada_tree.specs.declared.program.UnitEntry.{UnitEntry}
+use Rattle.ada_tree.specs.declared.program.UnitRole.TheVariants.{Once}
 use Rattle.ada_names.specs.Naming.{named}
 use Rattle.ada_names.specs.Rules.{BreaksNames}
 use Rattle.ada_types.specs.declared.fault.CheckFault.{CheckFault}
@@ -24,4 +25,4 @@ pub data Refuses (units : List LibraryUnit) (main : List ℕ) : Failure CheckFau
 
 -- what the limits ask of a unit
 abbrev pub entry_of : LibraryUnit → UnitEntry
-entry_of u = record { pos = u.pos; nodes = capped (unit_nodes u) }
+entry_of u = record { pos = u.pos; nodes = capped (unit_nodes u); role = Once }

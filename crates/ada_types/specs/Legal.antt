@@ -17,7 +17,7 @@ typed units = typed_units (library_of units).region (all_places_of units) 0 unit
 -- a program without packages
 abbrev pub program_with : ℕ → List Subprogram → Program
 program_with main subprograms =
-    record { subprograms = subprograms; main = main; objects = []; instances = []; declared = []; exceptions = [] }
+    record { subprograms = subprograms; main = main; objects = []; constants = []; instances = []; declared = []; exceptions = [] }
 
 -- the earlier of two places, of which there may be none
 abbrev pub earlier : Option Pos → Option Pos → Option Pos

@@ -296,7 +296,7 @@ is_plain_item _ = false
 
 -- a subprogram without parameters, with these declarations and statements
 abbrev pub procedure_of : List tree.Declaration → List tree.Stmt → Subprogram
-procedure_of ds ss = record { parameters = []; body = block_of ds ss }
+procedure_of ds ss = record { generic = None; parameters = []; body = block_of ds ss }
 
 -- the context before the declarations of the unit with this number
 abbrev pub context_of : Region → Places → ℕ → LibraryUnit → Context

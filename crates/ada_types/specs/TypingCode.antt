@@ -19,7 +19,8 @@ use Rattle.ada_tree.specs.declared.program.Subprogram.{Subprogram}
 use Rattle.ada_tree.specs.declared.statement.Branch.{Branch}
 use Rattle.ada_tree.specs.declared.statement.Decision.{Decision}
 use Rattle.ada_tree.specs.declared.statement.Declaration.{Declaration}
-use Rattle.ada_tree.specs.View.{declaration_of, label_of, subprogram_of}
+use Rattle.ada_tree.specs.View.{declaration_of, label_of}
+use Rattle.ada_tree.specs.Programs.{subprogram_of}
 use Rattle.ada_names.specs.Names.{Region}
 use Rattle.ada_names.specs.Library.{regions_in}
 use Rattle.ada_names.specs.Naming.{declared_by}
@@ -170,7 +171,7 @@ abbrev pub parts_of_branch : Context → source.Expr → source_statement.Statem
 parts_of_branch k e ss = decision_in k e ∷ sequence k ss ∷ []
 
 abbrev pub subprograms_view : Vec Subprogram Global → List meaning.Subprogram
-subprograms_view ss = map subprogram_of ss.items
+subprograms_view ss = map (subprogram_of []) ss.items
 
 -- units of a library and their typed forms, or a refusal of one
 abbrev pub ShowsUnits : Region → Places → List LibraryUnit → Result (Vec Subprogram Global) (Failure TypeFault) → Type 0

@@ -243,6 +243,7 @@ pub fn typed_body(
     Ok(Block {
         declarations: Seq::from(declarations),
         statements,
+        handlers: Vec::new(alloc),
     })
 }
 

@@ -1,17 +1,17 @@
 //! From syntax trees to the typed program.
 
-ghost use Rattle.std.specs.Prelude.{◌≡◌, ℕ, nat_le, List, None, Some, map, true, IfOk, IfErr};
+ghost use Rattle.std.specs.Prelude.{◌≡◌, ℕ, nat_le, List, [], None, Some, map, true, IfOk, IfErr};
 ghost use Rattle.std.specs.Str.{str_to_ascii_lowercase};
 ghost use Rattle.cov_base.specs.declared.failure.Failure.TheVariants.{Fault};
 ghost use Rattle.ada_syntax.specs.declared.unit.Unit.{Unit as LibraryUnit};
-ghost use Rattle.ada_tree.specs.View.{program_of, subprogram_of};
+ghost use Rattle.ada_tree.specs.Programs.{program_of, subprogram_of};
 ghost use Rattle.ada_names.specs.Naming as naming;
 ghost use Rattle.ada_names.specs.Naming.{library_of, main_from};
 ghost use Rattle.ada_types.specs.declared.fault.CheckFault.{CheckFault};
 ghost use Rattle.ada_types.specs.Typing as spec;
 ghost use Rattle.cov_base.specs.TextOrder.{precedes};
 ghost use Rattle.ada_places.specs.Places.{all_places_of};
-ghost use Rattle.ada_types.specs.Legal.{elaborated, typed, earlier, past_limits};
+ghost use Rattle.ada_types.specs.Legal.{elaborated, typed, earlier, past_limits, program_with};
 ghost use Rattle.ada_types.specs.Checked.{Refuses, entry_of};
 ghost use Rattle.ada_types.specs.CheckCode.{naming_of, typing_of};
 
@@ -21,7 +21,7 @@ use ada_expressions::TypeFault;
 use ada_names::{Library, NameFault, Named, broken_names_are_not_named, check_names};
 use ada_places::{Places, places_of};
 use ada_syntax::{Unit, node_count};
-use ada_tree::{Program, Subprogram, UnitEntry};
+use ada_tree::{Block, Program, Subprogram, UnitEntry, UnitRole};
 use cov_base::{Failure, Pos, Seq};
 use std::alloc::{AllocError, Global};
 
@@ -69,7 +69,7 @@ fn subprograms(
 ) -> Result<Vec<Subprogram>, Failure<CheckFault>>
     requires library { library.now ≡ library_of units.now }
     requires places { places.now ≡ all_places_of units.now }
-    ensures typed { IfOk result (λ ss. typed units.now ≡ Some (map subprogram_of ss.items)) }
+    ensures typed { IfOk result (λ ss. typed units.now ≡ Some (map (subprogram_of []) ss.items)) }
     ensures refused { IfErr result (λ f. (main : List ℕ) → naming.named units.now main ≡ true → Refuses units.now main f) }
 {
     match typed_program(alloc, library, places, units) {
@@ -81,17 +81,24 @@ fn subprograms(
 /// The most words that a subprogram may declare.
 const WORD_LIMIT: u32 = 2048;
 
-/// Whether a subprogram declares no more words than it may, with those of its blocks: each object has
+/// Whether a body declares no more words than a subprogram may, with those of its blocks: each object has
 /// one.
-fn is_within_words(subprogram: &Subprogram) -> bool
-    ensures { result ≡ nat_le (spec.block_words (subprogram_of subprogram.now).body) spec.word_limit }
+fn has_few_words(body: &Block) -> bool
+    ensures { result ≡ nat_le (spec.block_words body.now) spec.word_limit }
 {
-    subprogram.body.objects() <= WORD_LIMIT
+    body.objects() <= WORD_LIMIT
+}
+
+/// Whether a subprogram declares no more words than it may.
+fn is_within_words(subprogram: &Subprogram) -> bool
+    ensures { result ≡ nat_le (spec.block_words (subprogram_of [] subprogram.now).body) spec.word_limit }
+{
+    has_few_words(&subprogram.body)
 }
 
 /// The place of the first unit whose subprogram declares too many words.
 fn too_many_words(units: &[Unit], subprograms: &[Subprogram]) -> Option<Pos>
-    ensures { result ≡ spec.too_many_words units.now (map subprogram_of subprograms.now) }
+    ensures { result ≡ spec.too_many_words units.now (map (subprogram_of []) subprograms.now) }
 {
     let mut left = subprograms;
     for unit in units {
@@ -122,6 +129,7 @@ fn entry(unit: &Unit) -> UnitEntry
     UnitEntry {
         pos: unit.pos,
         nodes: node_count(unit),
+        role: UnitRole::Once,
     }
 }
 
@@ -145,8 +153,8 @@ fn within_limits(
     units: &[Unit],
 ) -> Result<Vec<Subprogram>, Failure<CheckFault>>
     requires { library.now ≡ library_of units.now }
-    ensures typed { IfOk result (λ ss. typed units.now ≡ Some (map subprogram_of ss.items)) }
-    ensures limits { IfOk result (λ ss. past_limits units.now (map subprogram_of ss.items) ≡ None) }
+    ensures typed { IfOk result (λ ss. typed units.now ≡ Some (map (subprogram_of []) ss.items)) }
+    ensures limits { IfOk result (λ ss. past_limits units.now (map (subprogram_of []) ss.items) ≡ None) }
     ensures refused { IfErr result (λ f. (main : List ℕ) → naming.named units.now main ≡ true → Refuses units.now main f) }
 {
     let places = places_of(alloc, units)?;
@@ -155,6 +163,29 @@ fn within_limits(
     match earlier(large, places.wide) {
         Some(pos) => Err(Failure::Fault(CheckFault::Limit(LimitFault { pos }))),
         None => Ok(subprograms),
+    }
+}
+
+/// The program of these subprograms, which has no packages and no generics.
+fn program_of_main(
+    alloc: Global,
+    main: u32,
+    subprograms: Vec<Subprogram>,
+    units: Vec<UnitEntry>,
+) -> Program
+    ensures program { program_of result ≡ program_with main (map (subprogram_of []) subprograms.items) }
+    ensures units { result.units ≡ units.items }
+{
+    Program {
+        subprograms: Seq::from(subprograms),
+        main,
+        types: Seq::from(Vec::new(alloc)),
+        objects: Seq::from(Vec::new(alloc)),
+        constants: Seq::from(Vec::new(alloc)),
+        instances: Seq::from(Vec::new(alloc)),
+        declared: Seq::from(Vec::new(alloc)),
+        exceptions: Seq::from(Vec::new(alloc)),
+        units: Seq::from(units),
     }
 }
 
@@ -170,11 +201,7 @@ pub fn check(alloc: Global, units: &[Unit], main: &str) -> Result<Program, Failu
     let named = named(alloc, units, lower.as_slice())?;
     let subprograms = within_limits(alloc, &named.library, units)?;
     let entries = entries(alloc, units)?;
-    Ok(Program {
-        subprograms: Seq::from(subprograms),
-        main: named.main,
-        units: Seq::from(entries),
-    })
+    Ok(program_of_main(alloc, named.main, subprograms, entries))
 }
 
 /// Units that are refused are no legal program.

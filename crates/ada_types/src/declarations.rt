@@ -18,7 +18,7 @@ use ada_expressions::{
 use ada_names::{Scope, hiding, numbered};
 use ada_places::Ranks;
 use ada_syntax::{Bounds, Declaration, DeclarationKind, Identifier, Initial, SubtypeIndication};
-use ada_tree::{Label, NewValue, Range, Subtype};
+use ada_tree::{Label, NewValue, Range, ScalarRange, Subtype};
 use cov_base::{Failure, Pos};
 use std::alloc::{AllocError, Global};
 
@@ -72,7 +72,7 @@ fn scalar_value(subtype: ScalarSubtype, value: Judged) -> Option<NewValue>
     ensures { option_map value_of result ≡ spec.value_for subtype [] value }
 {
     if fits(subtype.of, value.kind) {
-        Some(NewValue::Scalar(subtype.range, value.expr))
+        Some(NewValue::Scalar(ScalarRange::Known(subtype.range), value.expr))
     } else {
         None
     }
@@ -118,7 +118,8 @@ fn without_values(
     let mut next = first as usize;
     for _name in names {
         let number = numbered(next)?;
-        declarations.push(ada_tree::Declaration::WithoutValue(number, Subtype::Scalar(range)))?;
+        let subtype = Subtype::Scalar(ScalarRange::Known(range));
+        declarations.push(ada_tree::Declaration::WithoutValue(number, subtype))?;
         next += 1;
     }
     Ok(declarations)

@@ -1,7 +1,7 @@
 //! Library units (Ada RM 2012, 6.3, 10.1).
 
-ghost use Rattle.std.specs.Prelude.{◌≡◌};
-ghost use Rattle.ada_tree.specs.View.{subprogram_of};
+ghost use Rattle.std.specs.Prelude.{◌≡◌, []};
+ghost use Rattle.ada_tree.specs.Programs.{subprogram_of};
 ghost use Rattle.ada_names.specs.Naming.{library_of};
 ghost use Rattle.ada_places.specs.Places.{all_places_of};
 ghost use Rattle.ada_types.specs.Legal.{typed};
@@ -19,7 +19,7 @@ use ada_names::{
 use ada_places::Places;
 use ada_syntax::{LibraryItem, Unit};
 use ada_tree::Subprogram;
-use cov_base::Failure;
+use cov_base::{Failure, Seq};
 use std::alloc::Global;
 
 /// Whether a unit is a procedure without parameters and handlers.
@@ -43,7 +43,7 @@ fn typed_unit(
     number: u32,
     unit: &Unit,
 ) -> Result<Subprogram, Failure<TypeFault>>
-    ensures { Shows subprogram_of (spec.typed_unit library.now places.now number unit.now) (rules.unit library.now places.now number unit.now) result }
+    ensures { Shows (subprogram_of []) (spec.typed_unit library.now places.now number unit.now) (rules.unit library.now places.now number unit.now) result }
 {
     let seen = seen(alloc, library, number, unit)?;
     let around = Around {
@@ -62,7 +62,11 @@ fn typed_unit(
     if !is_plain(&unit.item) {
         return Err(mistyped(unit.pos));
     }
-    Ok(Subprogram { body })
+    Ok(Subprogram {
+        generic: None,
+        parameters: Seq::from(Vec::new(alloc)),
+        body,
+    })
 }
 
 /// All units, of which all obligations stand at these places.

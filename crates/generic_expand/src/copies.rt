@@ -13,6 +13,6 @@ pub struct BodyCopy {
 /// The copies of a program.
 #[derive(Drop)]
 pub struct Copies {
-    /// In the order of the instances, and of the subprograms in each.
+    /// In the order of the subprograms, and of the instances of each.
     pub bodies: Seq<BodyCopy>,
 }

@@ -3,14 +3,14 @@
 use cov_base::Pos;
 use thiserror::Error;
 
-/// The expanded program is too large. The place is that of the first token of what takes it past the
-/// limit.
+/// The expanded program is too large. The place is that of the first token of the unit with which, in the
+/// order of the files, the count first passes the limit.
 #[derive(Clone, Copy, Debug, PartialEq, Eq, Error)]
 pub enum ExpandFault {
-    /// It has more than 4096 nodes: the place is that of a unit.
+    /// It has more than 4096 nodes.
     #[error("too many nodes")]
     TooBig { pos: Pos },
-    /// It has too many instances: the place is that of an instance. So far there is none.
+    /// It has more than 64 instances.
     #[error("too many instances")]
     TooMany { pos: Pos },
 }

@@ -48,9 +48,8 @@ pub(crate) fn bounds_of(range: ScalarRange) -> Range
 {
     match range {
         ScalarRange::Known(range) => range,
-        ScalarRange::Between(Owner::Here, StaticValue::Number(first), StaticValue::Number(last)) => {
-            Range { first, last }
-        }
+        ScalarRange::Between(Owner::Here, StaticValue::Number(first), StaticValue::Number(last)) =>
+            { Range { first, last } }
         ScalarRange::Between(..) | ScalarRange::Formal(..) => Range { first: 0, last: 0 },
     }
 }

@@ -10,9 +10,7 @@ ghost use Rattle.lower.specs.Known.{number_of, bounds_of};
 ghost use Rattle.lower.specs.Lowered.{one, single, start_of, end_of_test, end_of_branches, end_of_block, decided_code, branches_code, block_code, end_of, end_of_call, end_of_declaration, end_of_declarations, end_of_put, end_of_statement, end_of_statements, end_of_value, value_code, checked_code, output_code, put_code, input_code, get_code, call_code, declaration_code, declarations_code, statement_code, statements_code};
 
 use crate::decisions::{leaving, put_decided, put_exit_when};
-use crate::expressions::{
-    INTEGER, bounds_of, put_expr, put_nothing, slot_behind, slot_of, within,
-};
+use crate::expressions::{INTEGER, bounds_of, put_expr, put_nothing, slot_behind, slot_of, within};
 use ada_tree::{
     Actual, Block, Branch, Callee, Decision, Declaration, Expr, Label, NewValue, Object, Owner,
     ScalarRange, Statement, StatementKind, Subtype,
@@ -101,7 +99,9 @@ fn put_output(
     };
     match actual {
         Actual::Expression(expr) => put_integer(alloc, code, objects, expr),
-        Actual::Variable(..) | Actual::Part(..) | Actual::Composite(..) => put_nothing(code, objects),
+        Actual::Variable(..) | Actual::Part(..) | Actual::Composite(..) => put_nothing(
+            code, objects,
+        ),
     }
 }
 

@@ -310,7 +310,7 @@ typed_body-returns t c =
     c.in_ok-declarations.ensures.form in
     record {
       form = body.a_body (opened a old) ds ss xs (context a second) declared ys c.in_ok-statements.ensures.form
-          ∙ ap (λ zs. Some (tree.block (map declaration_of zs) (view.statements_of ys) tree.no_handler)) (sym c.from.ensures);
+          ∙ (λ i. Some (tree.block (map declaration_of (sym c.from.ensures i)) (view.statements_of ys) (view.handlers_of (sym c.new.ensures.items i))));
       passed = body.body_passed (spec.declared_by_all ds) (objects_in_all ss) old first second third new c.in_ok-open.ensures refl refl
           c.in_ok-declarations.ensures.grown c.in_ok-statements.ensures.passed c.close.ensures
           (c.truncate.ensures.items ∙ ap (λ n. take n third.objects.items) count) refl;

@@ -43,3 +43,4 @@ returns c =
     let typed : typed_parts (context_of library places n u) (declarations_of_item u.item) (statements_of_item u.item) ≡ Some b =
     moved (λ k ds ss. typed_parts k ds ss ≡ Some b) start c.declarations_of-declarations.ensures c.statements_of-statements.ensures c.in_ok-body.ensures.form in
     law.a_plain_unit library places n u b typed (sym c.is_plain.ensures ∙ c.if-not-is_plain.false)
+    ∙ law.procedure_made b c.from.result (c.from.ensures ∙ c.new-3.ensures.items)

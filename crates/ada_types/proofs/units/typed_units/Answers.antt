@@ -1,7 +1,7 @@
 use Rattle.std.proofs.Common.{◌≡◌, ◌+◌, ◌++◌, ◌∷◌, [], List, rules, arith, ap, sym, ◌∙◌, subst, drop, map, option_map, Some}
 use Rattle.std.proofs.lemmas.List.{map-append}
 use Rattle.ada_meaning.specs.Program.{Subprogram}
-use Rattle.ada_tree.specs.View.{subprogram_of}
+use Rattle.ada_tree.specs.Programs.{subprogram_of}
 use Rattle.ada_types.specs.Typing as spec
 use Rattle.ada_types.specs.Rules as rule
 use Rattle.ada_types.specs.Answer.{Refused}
@@ -28,11 +28,11 @@ loop-index-preserved c =
     let u = c.index-units-index.result in
     let old = c.loop-index.typed.items in
     let x = c.in_ok-subprogram.subprogram in
-    let typed : spec.typed_unit library places i u ≡ Some (subprogram_of x) = subst
-    (λ n. spec.typed_unit library places n u ≡ Some (subprogram_of x)) c.in_ok-numbered.ensures c.in_ok-subprogram.ensures in
-    let new = ap (λ ys. map subprogram_of ys) c.in_ok-push.ensures.items ∙ map-append subprogram_of old (x ∷ []) in
+    let typed : spec.typed_unit library places i u ≡ Some (subprogram_of [] x) = subst
+    (λ n. spec.typed_unit library places n u ≡ Some (subprogram_of [] x)) c.in_ok-numbered.ensures c.in_ok-subprogram.ensures in
+    let new = ap (λ ys. map (subprogram_of []) ys) c.in_ok-push.ensures.items ∙ map-append (subprogram_of []) old (x ∷ []) in
     record {
-      typed = c.loop-index.invariant.typed ∙ (law.units_more library places us i u (map subprogram_of old) (subprogram_of x) (omega arith) c.index-units-index.is typed
+      typed = c.loop-index.invariant.typed ∙ (law.units_more library places us i u (map (subprogram_of []) old) (subprogram_of [] x) (omega arith) c.index-units-index.is typed
           ∙ ap (λ (ys : List Subprogram). option_map (λ more. ys ++ more) (spec.typed_units library places (i + 1) (drop (i + 1) us))) (sym new));
       refused = λ f r. c.loop-index.invariant.refused f (law.after_unit library places us i u (omega arith) c.index-units-index.is r);
     }

@@ -4,4 +4,4 @@ use Rattle.generic_expand.specs.Expanded as spec
 use Rattle.generic_expand.proofs.expansion.first_past.Given as goal
 
 abbrev pub invariant-loop-unit : goal.invariant-loop-unit
-invariant-loop-unit l = spec.first_past l.nodes (drop l.unit-index l.units) ≡ spec.first_past 0 l.units
+invariant-loop-unit l = spec.past_nodes l.units l.nodes (drop l.unit-index l.units) ≡ spec.past_nodes l.units 0 l.units

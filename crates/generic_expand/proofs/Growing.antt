@@ -1,0 +1,23 @@
+-- Lists that grow by what each item of another list gives.
+use Rattle.std.proofs.Common.{◌≡◌, ℕ, ◌+◌, ◌<◌, ◌≤◌, List, [], ◌∷◌, ◌++◌, length, get_or, drop, sym, ap, ◌∙◌}
+use Rattle.std.proofs.lemmas.List.{append_assoc, append-nil, at_drop_more, at_drop_all}
+
+-- one more item, and where none is left
+pub one_grown : {X Y : Type 0} (F : List X → List Y) (f : X → List Y) → ((x : X) (xs : List X) → F (x ∷ xs) ≡ f x ++ F xs)
+    → (xs : List X) (i : ℕ) (d x : X) (a c : List Y) → i < length xs → x ≡ get_or xs i d → c ≡ a ++ f x → c ++ F (drop (i + 1) xs) ≡ a ++ F (drop i xs)
+one_grown F f step xs i d x a c lt is grown =
+    ap (λ z. z ++ F (drop (i + 1) xs)) (grown ∙ ap (λ y. a ++ f y) is) ∙ append_assoc a (f (get_or xs i d)) (F (drop (i + 1) xs))
+    ∙ ap (λ z. a ++ z) (sym (step (get_or xs i d) (drop (i + 1) xs)) ∙ sym (at_drop_more F xs i d lt))
+
+pub none_grown : {X Y : Type 0} (F : List X → List Y) → F [] ≡ [] → (xs : List X) (i : ℕ) (a c : List Y) → length xs ≤ i → a ++ F (drop i xs) ≡ c → a ≡ c
+none_grown F empty xs i a c all whole = sym (append-nil a) ∙ ap (λ z. a ++ z) (sym (at_drop_all F xs i all ∙ empty)) ∙ whole
+
+-- the same where the items are numbered, from n on
+pub one_numbered : {X Y : Type 0} (F : ℕ → List X → List Y) (f : ℕ → X → List Y) → ((n : ℕ) (x : X) (xs : List X) → F n (x ∷ xs) ≡ f n x ++ F (n + 1) xs)
+    → (xs : List X) (i : ℕ) (d x : X) (a c : List Y) → i < length xs → x ≡ get_or xs i d → c ≡ a ++ f i x → c ++ F (i + 1) (drop (i + 1) xs) ≡ a ++ F i (drop i xs)
+one_numbered F f step xs i d x a c lt is grown =
+    ap (λ z. z ++ F (i + 1) (drop (i + 1) xs)) (grown ∙ ap (λ y. a ++ f i y) is) ∙ append_assoc a (f i (get_or xs i d)) (F (i + 1) (drop (i + 1) xs))
+    ∙ ap (λ z. a ++ z) (sym (step i (get_or xs i d) (drop (i + 1) xs)) ∙ sym (at_drop_more (F i) xs i d lt))
+
+pub none_numbered : {X Y : Type 0} (F : ℕ → List X → List Y) → ((n : ℕ) → F n [] ≡ []) → (xs : List X) (i : ℕ) (a c : List Y) → length xs ≤ i → a ++ F i (drop i xs) ≡ c → a ≡ c
+none_numbered F empty xs i a c all whole = sym (append-nil a) ∙ ap (λ z. a ++ z) (sym (at_drop_all (F i) xs i all ∙ empty i)) ∙ whole
