@@ -22,6 +22,8 @@ use Rattle.ada_parser.specs.Trees.{with_alternative, with_handler}
 use Rattle.ada_parser.specs.Parts.{alternative_parts, handler_parts}
 use Rattle.ada_parser.specs.StatementReading as read
 use Rattle.ada_parser.specs.StatementDepth as at
+use Rattle.ada_parser.specs.Lists.{before}
+use Rattle.ada_parser.proofs.BeforeWords.{before_then, before_stuck}
 use Rattle.ada_parser.proofs.Steps.{both, first_fails, word_then, no_word, deeper, takes, leaves, refuses, turns, list_step, list_step_fail, list_end}
 
 -- statements within a statement
@@ -33,9 +35,6 @@ module _ (x : Extent) {A : Type 0} where
   inner_stuck {us = us} k r m h = ap (goes_on k) (deeper (read.statements x) us r m h)
 
   -- behind a word
-  pub behind : {s : Symbol} {ts us rest : Tokens} {ss : List Statement} (k : List Statement → A) → Skipped s ts us → Reads (at.at_statements x) us (Got ss rest) → Reads (λ m. skip s (read.statements x m >>= λ zs. got (k zs))) ts (Got (k ss) rest)
-  behind k w r = record { by = λ m h. got_bind (λ _. read.statements x m >>= λ zs. got (k zs)) w.here (inner_then k r m (omega (arith, w.shorter))) }
-
   pub behind_fails : {s : Symbol} {ts us rest : Tokens} (k : List Statement → Reader A) → Skipped s ts us → Reads (at.at_statements x) us (Stuck rest) → Reads (λ m. skip s (read.statements x m >>= k)) ts (Stuck rest)
   behind_fails k w r = record { by = λ m h. got_bind (λ _. read.statements x m >>= k) w.here (inner_stuck k r m (omega (arith, w.shorter))) }
 
@@ -49,17 +48,17 @@ handler_list_push (z ∷ zs) a = ap (λ r. tree.handler z.choices (statements_of
 
 module _ (x : Extent) where
   -- choice {| choice} => stmts
-  pub alternative_read : (ts us vs rest : Tokens) (cs : List Choice) (ss : List Statement) → Reads (read.choices_by x) ts (Got cs us) → length us < length ts → Skipped symbol.Arrow us vs → Reads (at.at_statements x) vs (Got ss rest) → Reads (at.at_alternative x) ts (Got (cs, ss) rest)
-  alternative_read ts us vs rest cs ss r l w s = both (λ m zs. skip symbol.Arrow (read.statements x m >>= λ ss. got (zs, ss))) r (omega arith) (behind x (λ zs. (cs, zs)) w s)
+  abbrev alternative_rest : ℕ → List Choice → Reader (List Choice × List Statement)
+  alternative_rest m cs = read.statements x m >>= λ ss. got (cs, ss)
 
-  pub alternative_fail : (ts rest : Tokens) → Reads (read.choices_by x) ts (Stuck rest) → Reads (at.at_alternative x) ts (Stuck rest)
-  alternative_fail ts rest r = first_fails (λ m zs. skip symbol.Arrow (read.statements x m >>= λ ss. got (zs, ss))) r
+  pub alternative_read : (ts us rest : Tokens) (cs : List Choice) (ss : List Statement) → Reads (before symbol.Arrow (read.choices_by x)) ts (Got cs us) → length us < length ts → Reads (at.at_statements x) us (Got ss rest) → Reads (at.at_alternative x) ts (Got (cs, ss) rest)
+  alternative_read ts us rest cs ss r l s = before_then symbol.Arrow (read.choices_by x) alternative_rest ts us cs (Got (cs, ss) rest) r l (inner_then x (λ zs. (cs, zs)) s)
 
-  pub alternative_open : (ts us rest : Tokens) (cs : List Choice) → Reads (read.choices_by x) ts (Got cs us) → length us < length ts → expect symbol.Arrow us ≡ Stuck rest → Reads (at.at_alternative x) ts (Stuck rest)
-  alternative_open ts us rest cs r l e = both (λ m zs. skip symbol.Arrow (read.statements x m >>= λ ss. got (zs, ss))) r (omega arith) (no_word symbol.Arrow (λ m. read.statements x m >>= λ ss. got (cs, ss)) e)
+  pub alternative_fail : (ts rest : Tokens) → Reads (before symbol.Arrow (read.choices_by x)) ts (Stuck rest) → Reads (at.at_alternative x) ts (Stuck rest)
+  alternative_fail ts rest r = before_stuck symbol.Arrow (read.choices_by x) alternative_rest ts rest r
 
-  pub alternative_empty : (ts us vs rest : Tokens) (cs : List Choice) → Reads (read.choices_by x) ts (Got cs us) → length us < length ts → Skipped symbol.Arrow us vs → Reads (at.at_statements x) vs (Stuck rest) → Reads (at.at_alternative x) ts (Stuck rest)
-  alternative_empty ts us vs rest cs r l w s = both (λ m zs. skip symbol.Arrow (read.statements x m >>= λ ss. got (zs, ss))) r (omega arith) (behind_fails x (λ ss. got (cs, ss)) w s)
+  pub alternative_empty : (ts us rest : Tokens) (cs : List Choice) → Reads (before symbol.Arrow (read.choices_by x)) ts (Got cs us) → length us < length ts → Reads (at.at_statements x) us (Stuck rest) → Reads (at.at_alternative x) ts (Stuck rest)
+  alternative_empty ts us rest cs r l s = before_then symbol.Arrow (read.choices_by x) alternative_rest ts us cs (Stuck rest) r l (inner_stuck x (λ ss. got (cs, ss)) s)
 
   -- a list of them
   abbrev pub alternative_turns : ℕ → Symbol → Token → Alternatives → Turn Alternatives
@@ -88,17 +87,17 @@ module _ (x : Extent) where
   alternatives_end ts zs e = list_end symbol.When (at.at_alternative x) with_alternative ts (alternatives_of zs) e
 
   -- exch {| exch} => stmts
-  pub handler_read : (ts us vs rest : Tokens) (cs : List ExceptionChoice) (ss : List Statement) → Reads (read.exceptions_by x) ts (Got cs us) → length us < length ts → Skipped symbol.Arrow us vs → Reads (at.at_statements x) vs (Got ss rest) → Reads (at.at_handler x) ts (Got (cs, ss) rest)
-  handler_read ts us vs rest cs ss r l w s = both (λ m zs. skip symbol.Arrow (read.statements x m >>= λ ss. got (zs, ss))) r (omega arith) (behind x (λ zs. (cs, zs)) w s)
+  abbrev handler_rest : ℕ → List ExceptionChoice → Reader (List ExceptionChoice × List Statement)
+  handler_rest m cs = read.statements x m >>= λ ss. got (cs, ss)
 
-  pub handler_fail : (ts rest : Tokens) → Reads (read.exceptions_by x) ts (Stuck rest) → Reads (at.at_handler x) ts (Stuck rest)
-  handler_fail ts rest r = first_fails (λ m zs. skip symbol.Arrow (read.statements x m >>= λ ss. got (zs, ss))) r
+  pub handler_read : (ts us rest : Tokens) (cs : List ExceptionChoice) (ss : List Statement) → Reads (before symbol.Arrow (read.exceptions_by x)) ts (Got cs us) → length us < length ts → Reads (at.at_statements x) us (Got ss rest) → Reads (at.at_handler x) ts (Got (cs, ss) rest)
+  handler_read ts us rest cs ss r l s = before_then symbol.Arrow (read.exceptions_by x) handler_rest ts us cs (Got (cs, ss) rest) r l (inner_then x (λ zs. (cs, zs)) s)
 
-  pub handler_open : (ts us rest : Tokens) (cs : List ExceptionChoice) → Reads (read.exceptions_by x) ts (Got cs us) → length us < length ts → expect symbol.Arrow us ≡ Stuck rest → Reads (at.at_handler x) ts (Stuck rest)
-  handler_open ts us rest cs r l e = both (λ m zs. skip symbol.Arrow (read.statements x m >>= λ ss. got (zs, ss))) r (omega arith) (no_word symbol.Arrow (λ m. read.statements x m >>= λ ss. got (cs, ss)) e)
+  pub handler_fail : (ts rest : Tokens) → Reads (before symbol.Arrow (read.exceptions_by x)) ts (Stuck rest) → Reads (at.at_handler x) ts (Stuck rest)
+  handler_fail ts rest r = before_stuck symbol.Arrow (read.exceptions_by x) handler_rest ts rest r
 
-  pub handler_empty : (ts us vs rest : Tokens) (cs : List ExceptionChoice) → Reads (read.exceptions_by x) ts (Got cs us) → length us < length ts → Skipped symbol.Arrow us vs → Reads (at.at_statements x) vs (Stuck rest) → Reads (at.at_handler x) ts (Stuck rest)
-  handler_empty ts us vs rest cs r l w s = both (λ m zs. skip symbol.Arrow (read.statements x m >>= λ ss. got (zs, ss))) r (omega arith) (behind_fails x (λ ss. got (cs, ss)) w s)
+  pub handler_empty : (ts us rest : Tokens) (cs : List ExceptionChoice) → Reads (before symbol.Arrow (read.exceptions_by x)) ts (Got cs us) → length us < length ts → Reads (at.at_statements x) us (Stuck rest) → Reads (at.at_handler x) ts (Stuck rest)
+  handler_empty ts us rest cs r l s = before_then symbol.Arrow (read.exceptions_by x) handler_rest ts us cs (Stuck rest) r l (inner_stuck x (λ ss. got (cs, ss)) s)
 
   -- a list of them
   abbrev pub handler_turns : ℕ → Symbol → Token → Handlers → Turn Handlers
@@ -148,11 +147,7 @@ module _ (x : Extent) where
       let n = after_some symbol.Exception ts us e in
       rw n.here (refuses (Leave tree.no_handlers) handler_turn_on n.t us (λ m. ap (λ s. handler_turn_on m s n.t) n.is ∙ ap (λ b. provided b (Take (at.at_handler_list x m))) o))
 
-pub ruleset alternative_rules = (alternative_read, alternative_fail, alternative_open, alternative_empty)
-
 pub ruleset alternatives_rules = (alternatives_begin, alternatives_none, alternatives_fail, alternatives_step, alternatives_step_fail, alternatives_end)
-
-pub ruleset handler_rules = (handler_read, handler_fail, handler_open, handler_empty)
 
 pub ruleset handler_list_rules = (handler_list_begin, handler_list_none, handler_list_fail, handler_list_step, handler_list_step_fail, handler_list_end)
 

@@ -26,13 +26,15 @@ use Rattle.expression_parser.proofs.Comes.{got_bind}
 use Rattle.expression_parser.proofs.NameCode.{after_some, after_none}
 use Rattle.declaration_parser.specs.SubtypeReading.{range_by}
 use Rattle.declaration_parser.specs.DeclarationReading.{declarations_by}
-use Rattle.ada_parser.specs.Lists.{closing, ending}
+use Rattle.ada_parser.specs.Lists.{closing, ending, before}
 use Rattle.ada_parser.specs.Endings.{Closed, NotClosed, Ended, NotEnded}
 use Rattle.ada_parser.specs.Trees.{with_branch}
 use Rattle.ada_parser.specs.Parts.{branch_parts}
+use Rattle.ada_parser.specs.Bodies.{at_if_rest, at_case_arms}
 use Rattle.ada_parser.specs.StatementReading as read
 use Rattle.ada_parser.specs.StatementDepth as at
-use Rattle.ada_parser.proofs.ArmCode.{behind, behind_fails}
+use Rattle.ada_parser.proofs.ArmCode.{inner_then, inner_stuck, behind_fails}
+use Rattle.ada_parser.proofs.BeforeWords.{before_then, before_stuck}
 use Rattle.ada_parser.proofs.Steps.{both, first_fails, word_then, no_word, deeper, takes, takes_deeper, looks, leaves, refuses, turns, list_step, list_step_fail, list_end, closing_then, no_closing, ending_then, no_ending}
 
 branches_push : (zs : List Branch) (a : Branch) → branches_of (zs ++ a ∷ []) ≡ with_branch (branches_of zs) (branch_parts a)
@@ -41,17 +43,17 @@ branches_push (z ∷ zs) a = ap (λ r. tree.branch z.condition (statements_of z.
 
 module _ (x : Extent) where
   -- expr THEN stmts
-  pub branch_read : (ts us vs rest : Tokens) (e : Expr) (ss : List Statement) → Reads (at_expr x) ts (Got e us) → length us < length ts → Skipped symbol.Then us vs → Reads (at.at_statements x) vs (Got ss rest) → Reads (at.at_branch x) ts (Got (e, ss) rest)
-  branch_read ts us vs rest e ss r l w s = both (λ m z. skip symbol.Then (read.statements x m >>= λ ss. got (z, ss))) r (omega arith) (behind x (λ zs. (e, zs)) w s)
+  abbrev branch_rest : ℕ → Expr → Reader (Expr × List Statement)
+  branch_rest m e = read.statements x m >>= λ ss. got (e, ss)
 
-  pub branch_fail : (ts rest : Tokens) → Reads (at_expr x) ts (Stuck rest) → Reads (at.at_branch x) ts (Stuck rest)
-  branch_fail ts rest r = first_fails (λ m z. skip symbol.Then (read.statements x m >>= λ ss. got (z, ss))) r
+  pub branch_read : (ts us rest : Tokens) (e : Expr) (ss : List Statement) → Reads (before symbol.Then (at_expr x)) ts (Got e us) → length us < length ts → Reads (at.at_statements x) us (Got ss rest) → Reads (at.at_branch x) ts (Got (e, ss) rest)
+  branch_read ts us rest e ss r l s = before_then symbol.Then (at_expr x) branch_rest ts us e (Got (e, ss) rest) r l (inner_then x (λ zs. (e, zs)) s)
 
-  pub branch_open : (ts us rest : Tokens) (e : Expr) → Reads (at_expr x) ts (Got e us) → length us < length ts → expect symbol.Then us ≡ Stuck rest → Reads (at.at_branch x) ts (Stuck rest)
-  branch_open ts us rest e r l n = both (λ m z. skip symbol.Then (read.statements x m >>= λ ss. got (z, ss))) r (omega arith) (no_word symbol.Then (λ m. read.statements x m >>= λ ss. got (e, ss)) n)
+  pub branch_fail : (ts rest : Tokens) → Reads (before symbol.Then (at_expr x)) ts (Stuck rest) → Reads (at.at_branch x) ts (Stuck rest)
+  branch_fail ts rest r = before_stuck symbol.Then (at_expr x) branch_rest ts rest r
 
-  pub branch_empty : (ts us vs rest : Tokens) (e : Expr) → Reads (at_expr x) ts (Got e us) → length us < length ts → Skipped symbol.Then us vs → Reads (at.at_statements x) vs (Stuck rest) → Reads (at.at_branch x) ts (Stuck rest)
-  branch_empty ts us vs rest e r l w s = both (λ m z. skip symbol.Then (read.statements x m >>= λ ss. got (z, ss))) r (omega arith) (behind_fails x (λ ss. got (e, ss)) w s)
+  pub branch_empty : (ts us rest : Tokens) (e : Expr) → Reads (before symbol.Then (at_expr x)) ts (Got e us) → length us < length ts → Reads (at.at_statements x) us (Stuck rest) → Reads (at.at_branch x) ts (Stuck rest)
+  branch_empty ts us rest e r l s = before_then symbol.Then (at_expr x) branch_rest ts us e (Stuck rest) r l (inner_stuck x (λ ss. got (e, ss)) s)
 
   -- {ELSIF expr THEN stmts}
   abbrev pub branch_turns : ℕ → Symbol → Token → Branches → Turn Branches
@@ -96,47 +98,49 @@ module _ (x : Extent) where
     abbrev after_others : Expr × List Statement → ℕ → Branches → Reader Statement
     after_others b m bs = at.at_else x m >>= λ es. if_closes b bs es
 
-    pub if_read : (ts us vs ws rest : Tokens) (b : Branch) (bs : Branches) (es : List Statement) → Reads (at.at_branch x) ts (Got (branch_parts b) us) → length us < length ts → Reads (at.at_branches x) us (Got bs vs) → length vs ≤ length us
-        → Reads (at.at_else x) vs (Got es ws) → length ws ≤ length vs → Closed symbol.If ws rest → Reads (at.at_if x p) ts (Got (tree.conditional p b.condition (statements_of b.statements.items) bs (statements_of es)) rest)
-    if_read ts us vs ws rest b bs es r l s k e n c = both after_first r (omega arith) (both (after_others (branch_parts b)) s k (both (λ m zs. if_closes (branch_parts b) bs zs) e n (closing_then _ c)))
+    module _ (b : Expr × List Statement) where
+      pub if_rest_read : (ts us vs rest : Tokens) (bs : Branches) (es : List Statement) → Reads (at.at_branches x) ts (Got bs us) → length us ≤ length ts → Reads (at.at_else x) us (Got es vs) → length vs ≤ length us → Closed symbol.If vs rest
+          → Reads (at_if_rest x p b) ts (Got (tree.conditional p b.0 (statements_of b.1) bs (statements_of es)) rest)
+      if_rest_read ts us vs rest bs es s k e n c = both (after_others b) s k (both (λ m zs. if_closes b bs zs) e n (closing_then _ c))
+
+      pub if_others_fail : (ts rest : Tokens) → Reads (at.at_branches x) ts (Stuck rest) → Reads (at_if_rest x p b) ts (Stuck rest)
+      if_others_fail ts rest s = first_fails (after_others b) s
+
+      pub if_else_fail : (ts us rest : Tokens) (bs : Branches) → Reads (at.at_branches x) ts (Got bs us) → length us ≤ length ts → Reads (at.at_else x) us (Stuck rest) → Reads (at_if_rest x p b) ts (Stuck rest)
+      if_else_fail ts us rest bs s k e = both (after_others b) s k (first_fails (λ m zs. if_closes b bs zs) e)
+
+      pub if_open : (ts us vs rest : Tokens) (bs : Branches) (es : List Statement) → Reads (at.at_branches x) ts (Got bs us) → length us ≤ length ts → Reads (at.at_else x) us (Got es vs) → length vs ≤ length us → NotClosed symbol.If vs rest
+          → Reads (at_if_rest x p b) ts (Stuck rest)
+      if_open ts us vs rest bs es s k e n c = both (after_others b) s k (both (λ m zs. if_closes b bs zs) e n (no_closing _ c))
+
+    pub if_then : (ts us : Tokens) (b : Branch) (q : Reading Statement) → Reads (at.at_branch x) ts (Got (branch_parts b) us) → length us < length ts → Reads (at_if_rest x p (branch_parts b)) us q → Reads (at.at_if x p) ts q
+    if_then ts us b q r l f = both after_first r (omega arith) f
 
     pub if_fail : (ts rest : Tokens) → Reads (at.at_branch x) ts (Stuck rest) → Reads (at.at_if x p) ts (Stuck rest)
     if_fail ts rest r = first_fails after_first r
 
-    pub if_others_fail : (ts us rest : Tokens) (b : Branch) → Reads (at.at_branch x) ts (Got (branch_parts b) us) → length us < length ts → Reads (at.at_branches x) us (Stuck rest) → Reads (at.at_if x p) ts (Stuck rest)
-    if_others_fail ts us rest b r l s = both after_first r (omega arith) (first_fails (after_others (branch_parts b)) s)
-
-    pub if_else_fail : (ts us vs rest : Tokens) (b : Branch) (bs : Branches) → Reads (at.at_branch x) ts (Got (branch_parts b) us) → length us < length ts → Reads (at.at_branches x) us (Got bs vs) → length vs ≤ length us
-        → Reads (at.at_else x) vs (Stuck rest) → Reads (at.at_if x p) ts (Stuck rest)
-    if_else_fail ts us vs rest b bs r l s k e = both after_first r (omega arith) (both (after_others (branch_parts b)) s k (first_fails (λ m zs. if_closes (branch_parts b) bs zs) e))
-
-    pub if_open : (ts us vs ws rest : Tokens) (b : Branch) (bs : Branches) (es : List Statement) → Reads (at.at_branch x) ts (Got (branch_parts b) us) → length us < length ts → Reads (at.at_branches x) us (Got bs vs) → length vs ≤ length us
-        → Reads (at.at_else x) vs (Got es ws) → length ws ≤ length vs → NotClosed symbol.If ws rest → Reads (at.at_if x p) ts (Stuck rest)
-    if_open ts us vs ws rest b bs es r l s k e n c = both after_first r (omega arith) (both (after_others (branch_parts b)) s k (both (λ m zs. if_closes (branch_parts b) bs zs) e n (no_closing _ c)))
-
     -- CASE
-    abbrev after_selector : ℕ → Expr → Reader Statement
-    after_selector m e = skip symbol.Is (at.at_alternatives x m >>= λ alts. closing symbol.Case (tree.case_of p e alts))
+    abbrev case_rest : ℕ → Expr → Reader Statement
+    case_rest m e = at_case_arms x p e m
 
-    abbrev case_closes : Expr → ℕ → Alternatives → Reader Statement
-    case_closes e m alts = closing symbol.Case (tree.case_of p e alts)
+    pub case_then : (ts us : Tokens) (e : Expr) (q : Reading Statement) → Reads (before symbol.Is (at_expr x)) ts (Got e us) → length us < length ts → Reads (at_case_arms x p e) us q → Reads (at.at_case x p) ts q
+    case_then ts us e q r l f = before_then symbol.Is (at_expr x) case_rest ts us e q r l (λ m h. f.by m (omega (arith, h)))
 
-    pub case_read : (ts us vs ws rest : Tokens) (e : Expr) (alts : Alternatives) → Reads (at_expr x) ts (Got e us) → length us < length ts → Skipped symbol.Is us vs → Reads (at.at_alternatives x) vs (Got alts ws) → length ws < length vs → Closed symbol.Case ws rest
-        → Reads (at.at_case x p) ts (Got (tree.case_of p e alts) rest)
-    case_read ts us vs ws rest e alts r l w s k c = both after_selector r (omega arith) (word_then (λ m. at.at_alternatives x m >>= case_closes e m) w (both (case_closes e) s (omega arith) (closing_then _ c)))
+    pub case_fail : (ts rest : Tokens) → Reads (before symbol.Is (at_expr x)) ts (Stuck rest) → Reads (at.at_case x p) ts (Stuck rest)
+    case_fail ts rest r = before_stuck symbol.Is (at_expr x) case_rest ts rest r
 
-    pub case_fail : (ts rest : Tokens) → Reads (at_expr x) ts (Stuck rest) → Reads (at.at_case x p) ts (Stuck rest)
-    case_fail ts rest r = first_fails after_selector r
+    module _ (e : Expr) where
+      abbrev case_closes : ℕ → Alternatives → Reader Statement
+      case_closes m alts = closing symbol.Case (tree.case_of p e alts)
 
-    pub case_no_is : (ts us rest : Tokens) (e : Expr) → Reads (at_expr x) ts (Got e us) → length us < length ts → expect symbol.Is us ≡ Stuck rest → Reads (at.at_case x p) ts (Stuck rest)
-    case_no_is ts us rest e r l w = both after_selector r (omega arith) (no_word symbol.Is (λ m. at.at_alternatives x m >>= case_closes e m) w)
+      pub arms_read : (ts us rest : Tokens) (alts : Alternatives) → Reads (at.at_alternatives x) ts (Got alts us) → length us < length ts → Closed symbol.Case us rest → Reads (at_case_arms x p e) ts (Got (tree.case_of p e alts) rest)
+      arms_read ts us rest alts r l c = both case_closes r (omega arith) (closing_then _ c)
 
-    pub case_empty : (ts us vs rest : Tokens) (e : Expr) → Reads (at_expr x) ts (Got e us) → length us < length ts → Skipped symbol.Is us vs → Reads (at.at_alternatives x) vs (Stuck rest) → Reads (at.at_case x p) ts (Stuck rest)
-    case_empty ts us vs rest e r l w s = both after_selector r (omega arith) (word_then (λ m. at.at_alternatives x m >>= case_closes e m) w (first_fails (case_closes e) s))
+      pub arms_fail : (ts rest : Tokens) → Reads (at.at_alternatives x) ts (Stuck rest) → Reads (at_case_arms x p e) ts (Stuck rest)
+      arms_fail ts rest r = first_fails case_closes r
 
-    pub case_open : (ts us vs ws rest : Tokens) (e : Expr) (alts : Alternatives) → Reads (at_expr x) ts (Got e us) → length us < length ts → Skipped symbol.Is us vs → Reads (at.at_alternatives x) vs (Got alts ws) → length ws < length vs → NotClosed symbol.Case ws rest
-        → Reads (at.at_case x p) ts (Stuck rest)
-    case_open ts us vs ws rest e alts r l w s k c = both after_selector r (omega arith) (word_then (λ m. at.at_alternatives x m >>= case_closes e m) w (both (case_closes e) s (omega arith) (no_closing _ c)))
+      pub arms_open : (ts us rest : Tokens) (alts : Alternatives) → Reads (at.at_alternatives x) ts (Got alts us) → length us < length ts → NotClosed symbol.Case us rest → Reads (at_case_arms x p e) ts (Stuck rest)
+      arms_open ts us rest alts r l c = both case_closes r (omega arith) (no_closing _ c)
 
     -- LOOP
     module _ (s : LoopScheme) where
@@ -211,20 +215,17 @@ module _ (x : Extent) where
     abbrev blocks : List Declaration → ℕ → Reader Statement
     blocks ds m = read.block_by x (read.statements x m) m p (Some ds)
 
-    abbrev after_declarations : ℕ → List Declaration → Reader Statement
-    after_declarations m ds = skip symbol.Begin (blocks ds m)
+    abbrev begun : ℕ → List Declaration → Reader Statement
+    begun m ds = blocks ds m
 
-    begun : {ts us : Tokens} {q : Reading Statement} (ds : List Declaration) → Skipped symbol.Begin ts us → Reads (at.at_block x p (Some ds)) us q → Reads (λ m. after_declarations m ds) ts q
-    begun {us = us} ds w f = record { by = λ m h. got_bind (λ _. blocks ds m) w.here (deeper (blocks ds) us f m (omega (arith, w.shorter))) }
+    pub block_at : (es ds : List Declaration) (ts : Tokens) (q : Reading Statement) → es ≡ ds → Reads (at.at_block x p (Some es)) ts q → Reads (at.at_block x p (Some ds)) ts q
+    block_at es ds ts q e f = subst (λ z. Reads (at.at_block x p (Some z)) ts q) e f
 
-    pub declaring_read : (ts us vs : Tokens) (ds : List Declaration) (q : Reading Statement) → Reads (declarations_by x) ts (Got ds us) → length us ≤ length ts → Skipped symbol.Begin us vs → Reads (at.at_block x p (Some ds)) vs q → Reads (at.at_declaring x p) ts q
-    declaring_read ts us vs ds q r l w f = both after_declarations r l (begun ds w f)
+    pub declaring_read : (ts us : Tokens) (ds : List Declaration) (q : Reading Statement) → Reads (before symbol.Begin (declarations_by x)) ts (Got ds us) → length us < length ts → Reads (at.at_block x p (Some ds)) us q → Reads (at.at_declaring x p) ts q
+    declaring_read ts us ds q r l f = before_then symbol.Begin (declarations_by x) begun ts us ds q r l (λ m h. deeper (blocks ds) us f m h)
 
-    pub declaring_fail : (ts rest : Tokens) → Reads (declarations_by x) ts (Stuck rest) → Reads (at.at_declaring x p) ts (Stuck rest)
-    declaring_fail ts rest r = first_fails after_declarations r
-
-    pub declaring_no_begin : (ts us rest : Tokens) (ds : List Declaration) → Reads (declarations_by x) ts (Got ds us) → length us ≤ length ts → expect symbol.Begin us ≡ Stuck rest → Reads (at.at_declaring x p) ts (Stuck rest)
-    declaring_no_begin ts us rest ds r l e = both after_declarations r l (no_word symbol.Begin (blocks ds) e)
+    pub declaring_fail : (ts rest : Tokens) → Reads (before symbol.Begin (declarations_by x)) ts (Stuck rest) → Reads (at.at_declaring x p) ts (Stuck rest)
+    declaring_fail ts rest r = before_stuck symbol.Begin (declarations_by x) begun ts rest r
 
   -- by the first token
   abbrev compound_on : ℕ → Symbol → Token → Turn Statement
@@ -292,24 +293,6 @@ module _ (x : Extent) where
       → (symbol_of t.lexeme ≡ symbol.Begin → ⊥) → (symbol_of t.lexeme ≡ symbol.Declare → ⊥) → Reads (at.at_compound x) (t ∷ us) (Stuck (t ∷ us))
   no_statement t us a b c d e f g = refuses Refuse compound_on t us (λ m. not_compound m (symbol_of t.lexeme) t a b c d e f g)
 
-pub ruleset branch_rules = (branch_read, branch_fail, branch_open, branch_empty)
-
 pub ruleset branches_rules = (branches_begin, branches_step, branches_step_fail, branches_end)
-
-pub ruleset else_rules = (no_else, an_else)
-
-pub ruleset if_rules = (if_read, if_fail, if_others_fail, if_else_fail, if_open)
-
-pub ruleset case_rules = (case_read, case_fail, case_no_is, case_empty, case_open)
-
-pub ruleset loop_rules = (loop_read, loop_open, loop_none, loop_empty)
-
-pub ruleset while_rules = (while_read, while_fail)
-
-pub ruleset for_rules = (for_read, for_fail, for_no_in, for_range_fail)
-
-pub ruleset block_rules = (block_read, block_fail, block_open)
-
-pub ruleset declaring_rules = (declaring_read, declaring_fail, declaring_no_begin)
 
 pub ruleset compound_rules = (no_compound, an_if, if_closed, a_case, case_closed, a_loop, loop_closed, a_while, while_closed, a_for, for_closed, a_block, block_closed, a_declaring, declaring_closed, no_statement)

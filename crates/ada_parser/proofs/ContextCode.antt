@@ -7,10 +7,15 @@ use Rattle.expression_parser.specs.declared.symbol.Symbol.{Symbol}
 use Rattle.expression_parser.specs.declared.symbol.Symbol.TheVariants as symbol
 use Rattle.expression_parser.specs.Symbols.{symbol_of, identifier_of}
 use Rattle.expression_parser.specs.Reading.{Tokens, Reading, Reader, Got, Stuck, Turn, Leave, got, goes_on, ◌>>=◌, turned, expect, skip}
-use Rattle.expression_parser.specs.Shows.{Reads, More, Skipped, Identified, after}
+use Rattle.expression_parser.specs.Shows.{Shows, Reads, More, Skipped, Identified, after}
 use Rattle.expression_parser.proofs.Comes.{got_bind, got_expect, on_symbol}
 use Rattle.expression_parser.proofs.Yields.{Yields, Takes, taken, expect_yields}
+use Rattle.std.specs.Prelude.{Result}
+use Rattle.std.specs.Borrow.{Bor}
+use Rattle.expression_parser.specs.declared.fault.Fault.{Fault}
+use Rattle.declaration_parser.specs.Closing.{Closes}
 use Rattle.declaration_parser.specs.Identifiers.{identifiers_by}
+use Rattle.declaration_parser.proofs.Closings.{Within, Below, below_behind, leads, closes, leads_got, word_goes, closed_below, read_then, closed}
 use Rattle.ada_parser.specs.StatementReading.{pushed}
 use Rattle.ada_parser.proofs.Steps.{both, first_fails, word_then, no_word, done, turns, list_step, list_step_fail, list_end}
 use Rattle.ada_parser.specs.UnitReading as read
@@ -83,22 +88,16 @@ close m n = skip symbol.Semicolon (got n)
 abbrev after_end : ℕ → Reader (Option Identifier)
 after_end m = read.end_name_by >>= close m
 
-pub end_read : (ts us vs rest : Tokens) (n : Option Identifier) → Skipped symbol.End ts us → Reads at.at_end_name us (Got n vs) → length vs ≤ length us → Skipped symbol.Semicolon vs rest → Reads at.at_end ts (Got n rest)
-end_read ts us vs rest n a r l c = word_then after_end a (both close r l (word_then (λ m. got n) c (done n rest)))
+module _ (ts us : Tokens) (p r : Result (Option Identifier × Bor Tokens) Fault) where
+  pub end_shows : Skipped symbol.End ts us → Shows (Reads at.at_end_name us) p → Within us p → Closes symbol.Semicolon p r → Shows (Reads at.at_end ts) r
+  end_shows e h l c = word_goes symbol.End after_end ts us r e (leads_got (λ z. z) (closed symbol.Semicolon (read_then at.at_end_name)) us r (closes (λ z. z) (read_then at.at_end_name) symbol.Semicolon us p r (leads (Option Identifier) (λ z. z) at.at_end_name us p h l) c))
+
+  pub end_below : Skipped symbol.End ts us → Within us p → Closes symbol.Semicolon p r → Below ts r
+  end_below e l c = below_behind ts us r (omega (arith, e.shorter)) (closed_below symbol.Semicolon us p r l c)
 
 pub end_fail : (ts rest : Tokens) → expect symbol.End ts ≡ Stuck rest → Reads at.at_end ts (Stuck rest)
 end_fail ts rest e = no_word symbol.End after_end e
 
-pub end_name_fail : (ts us rest : Tokens) → Skipped symbol.End ts us → Reads at.at_end_name us (Stuck rest) → Reads at.at_end ts (Stuck rest)
-end_name_fail ts us rest a r = word_then after_end a (first_fails close r)
-
-pub end_open : (ts us vs rest : Tokens) (n : Option Identifier) → Skipped symbol.End ts us → Reads at.at_end_name us (Got n vs) → length vs ≤ length us → expect symbol.Semicolon vs ≡ Stuck rest → Reads at.at_end ts (Stuck rest)
-end_open ts us vs rest n a r l e = word_then after_end a (both close r l (no_word symbol.Semicolon (λ m. got n) e))
-
-pub ruleset with_rules = (with_read, with_fail, with_open)
-
 pub ruleset withs_rules = (withs_begin, withs_step, withs_step_fail, withs_end)
 
 pub ruleset end_name_rules = (end_name_read, no_end_name_at_end, no_end_name, end_name_never)
-
-pub ruleset end_rules = (end_read, end_fail, end_name_fail, end_open)

@@ -6,6 +6,7 @@ pub mod StatementSound
 pub mod Complete
 pub mod StatementComplete
 pub mod Steps
+pub mod BeforeWords
 pub mod Parts
 pub mod SimpleCode
 pub mod StatementNodes

@@ -1,5 +1,5 @@
 -- How packages are read, answer by answer.
-use Rattle.std.proofs.Common.{◌≡◌, ℕ, ◌<◌, ◌≤◌, true, false, List, [], ◌∷◌, length, Option, Some, None, refl, ap, ◌∙◌, arith}
+use Rattle.std.proofs.Common.{◌≡◌, ℕ, ◌<◌, ◌≤◌, true, false, List, [], ◌∷◌, length, Option, Some, None, refl, ap, ◌∙◌, subst, arith}
 use Rattle.ada_lexer.specs.declared.token.Token.{Token}
 use Rattle.ada_syntax.specs.Tree.{Expr}
 use Rattle.ada_syntax.specs.declared.name.Identifier.{Identifier}
@@ -15,9 +15,15 @@ use Rattle.expression_parser.specs.Symbols.{symbol_of, same, Is, identifier_of}
 use Rattle.expression_parser.specs.Extents.{opens}
 use Rattle.expression_parser.specs.Reading.{Tokens, Reading, Reader, Got, Stuck, Turn, Refuse, Leave, Take, Look, got, ◌>>=◌, provided, expect, skip}
 use Rattle.expression_parser.specs.Depth.{at_exprs}
-use Rattle.expression_parser.specs.Shows.{Reads, Skipped, Identified, after}
+use Rattle.expression_parser.specs.Shows.{ShowsAs, Reads, Skipped, Identified, after}
 use Rattle.expression_parser.proofs.NameCode.{after_some, after_none}
+use Rattle.std.specs.Prelude.{Result}
+use Rattle.std.specs.Borrow.{Bor}
+use Rattle.expression_parser.specs.declared.fault.Fault.{Fault}
+use Rattle.declaration_parser.specs.Closing.{Closes}
 use Rattle.declaration_parser.specs.FormalReading.{formals_by}
+use Rattle.declaration_parser.proofs.Closings.{Within, leads, closes, leads_got, closed_below, within_below, below_behind, read_then, closed}
+use Rattle.ada_parser.proofs.Parts.{shown_so}
 use Rattle.ada_parser.proofs.Steps.{both, first_fails, word_then, no_word, done, takes, looks, leaves, refuses}
 use Rattle.ada_parser.specs.Grammar.{packaged, package_bodied, instanced}
 use Rattle.ada_parser.specs.UnitReading as read
@@ -29,11 +35,8 @@ module _ (x : Extent) where
   abbrev actuals_on : ℕ → Symbol → Token → Turn (List Expr)
   actuals_on = read.actuals_turn x
 
-  abbrev closes : ℕ → List Expr → Reader (List Expr)
-  closes m es = skip symbol.RightParenthesis (got es)
-
   abbrev enclosed : ℕ → Reader (List Expr)
-  enclosed m = at_exprs x m >>= closes m
+  enclosed m = at_exprs x m >>= λ es. skip symbol.RightParenthesis (got es)
 
   actuals_leave : (m : ℕ) (s : Symbol) (t : Token) → same s symbol.LeftParenthesis ≡ false → actuals_on m s t ≡ Leave []
   actuals_leave m symbol.LeftParenthesis t h = cc
@@ -46,14 +49,12 @@ module _ (x : Extent) where
   behind_parenthesis : (ts us : Tokens) (q : Reading (List Expr)) → after symbol.LeftParenthesis ts ≡ Some us → Reads enclosed us q → Reads (read.actuals_by x) ts q
   behind_parenthesis ts us q e f = let n = after_some symbol.LeftParenthesis ts us e in rw n.here (takes (Leave []) actuals_on n.t us enclosed (λ m. ap (λ s. actuals_on m s n.t) n.is) f)
 
-  pub some_actuals : (ts us vs rest : Tokens) (es : List Expr) → after symbol.LeftParenthesis ts ≡ Some us → Reads (at_exprs x) us (Got es vs) → length vs < length us → Skipped symbol.RightParenthesis vs rest → Reads (read.actuals_by x) ts (Got es rest)
-  some_actuals ts us vs rest es e r l w = behind_parenthesis ts us _ e (both closes r (omega arith) (word_then (λ m. got es) w (done es rest)))
+  module _ {C : Type 0} (view : C → List Expr) (ts us : Tokens) (p r : Result (C × Bor Tokens) Fault) where
+    pub actuals_show : after symbol.LeftParenthesis ts ≡ Some us → ShowsAs view (Reads (at_exprs x) us) p → Within us p → Closes symbol.RightParenthesis p r → ShowsAs view (Reads (read.actuals_by x) ts) r
+    actuals_show e h l c = shown_so view (Reads enclosed us) (Reads (read.actuals_by x) ts) r (leads_got view (closed symbol.RightParenthesis (read_then (at_exprs x))) us r (closes view (read_then (at_exprs x)) symbol.RightParenthesis us p r (leads (List Expr) view (at_exprs x) us p h l) c)) (λ q. behind_parenthesis ts us q e)
 
-  pub actuals_fail : (ts us rest : Tokens) → after symbol.LeftParenthesis ts ≡ Some us → Reads (at_exprs x) us (Stuck rest) → Reads (read.actuals_by x) ts (Stuck rest)
-  actuals_fail ts us rest e r = behind_parenthesis ts us _ e (first_fails closes r)
-
-  pub actuals_open : (ts us vs rest : Tokens) (es : List Expr) → after symbol.LeftParenthesis ts ≡ Some us → Reads (at_exprs x) us (Got es vs) → length vs < length us → expect symbol.RightParenthesis vs ≡ Stuck rest → Reads (read.actuals_by x) ts (Stuck rest)
-  actuals_open ts us vs rest es e r l w = behind_parenthesis ts us _ e (both closes r (omega arith) (no_word symbol.RightParenthesis (λ m. got es) w))
+    pub actuals_within : after symbol.LeftParenthesis ts ≡ Some us → Within us p → Closes symbol.RightParenthesis p r → Within ts r
+    actuals_within e l c = within_below ts r (below_behind ts us r (omega (arith, ap length (after_some symbol.LeftParenthesis ts us e).here)) (closed_below symbol.RightParenthesis us p r l c))
 
   module _ (i : Identifier) where
     -- behind NEW
@@ -181,6 +182,9 @@ module _ (x : Extent) where
       → Reads (read.generic_by x) ts q
   generic_then ts us vs ws zs fs i q r l p k w f = both generic_after_formals r l (word_then (generic_after_package fs) p (identified (generic_after_name fs) k (word_then (at.at_package x (Some fs) i) w f)))
 
+  pub generic_at : (gs fs : List Formal) (i : Identifier) (ts : Tokens) (q : Reading LibraryItem) → gs ≡ fs → Reads (at.at_package x (Some gs) i) ts q → Reads (at.at_package x (Some fs) i) ts q
+  generic_at gs fs i ts q e f = subst (λ z. Reads (at.at_package x (Some z) i) ts q) e f
+
   pub generic_fail : (ts rest : Tokens) → Reads (formals_by x) ts (Stuck rest) → Reads (read.generic_by x) ts (Stuck rest)
   generic_fail ts rest r = first_fails generic_after_formals r
 
@@ -193,16 +197,4 @@ module _ (x : Extent) where
   pub generic_no_is : (ts us vs ws rest : Tokens) (fs : List Formal) (i : Identifier) → Reads (formals_by x) ts (Got fs us) → length us ≤ length ts → Skipped symbol.Package us vs → Identified vs ws i → expect symbol.Is ws ≡ Stuck rest → Reads (read.generic_by x) ts (Stuck rest)
   generic_no_is ts us vs ws rest fs i r l p k e = both generic_after_formals r l (word_then (generic_after_package fs) p (identified (generic_after_name fs) k (no_word symbol.Is (at.at_package x (Some fs) i) e)))
 
-pub ruleset actuals_rules = (no_actuals, some_actuals, actuals_fail, actuals_open)
-
-pub ruleset instance_rules = (instance_read, instance_fail, instance_actuals_fail, instance_open)
-
-pub ruleset package_rest_rules = (package_read, package_items_fail, package_end_fail)
-
 pub ruleset package_or_instance_rules = (nothing_packaged, is_package, is_instance, instance_closed)
-
-pub ruleset package_body_rules = (package_body_read, package_body_fail, package_body_no_is, package_body_items_fail, package_body_end_fail)
-
-pub ruleset package_rules = (is_body, named_then, named_fail, named_no_is)
-
-pub ruleset generic_rules = (generic_then, generic_fail, generic_no_package, generic_no_name, generic_no_is)

@@ -295,12 +295,6 @@ pub ruleset named_rules = (named_then, named_fail)
 
 pub ruleset condition_rules = (no_condition, a_condition, condition_fail)
 
-pub ruleset exit_rules = (exit_read, exit_fail, exit_open)
-
 pub ruleset result_rules = (no_result_at_end, no_result, a_result, result_fail, result_closed)
 
-pub ruleset return_rules = (return_read, return_fail, return_open)
-
 pub ruleset raised_rules = (not_raised_at_end, not_raised, raised_name, raised_fail)
-
-pub ruleset raise_rules = (raise_read, raise_fail, raise_open)

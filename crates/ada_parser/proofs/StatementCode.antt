@@ -108,5 +108,3 @@ module _ (x : Extent) where
 pub ruleset statement_rules = (nothing_left, a_null, a_name, a_pragma, an_exit, exit_closed, a_return, a_raise, raise_closed, other)
 
 pub ruleset statements_rules = (statements_begin, statements_fail, statements_step, statements_step_fail, statements_end)
-
-pub ruleset handled_rules = (handled_read, handled_fail, handlers_fail)

@@ -17,14 +17,6 @@ pub record Closed (s : Symbol) (ts rest : Tokens) : Type 0 where
 pub record NotClosed (s : Symbol) (ts rest : Tokens) : Type 0 where
   pub by : (a : Statement) → closing s a ts ≡ Stuck rest
 
--- a part was read, and END, a word and a semicolon are taken behind it
-abbrev pub EndsBy : {A : Type 0} → Symbol → Result (A × Bor Tokens) Fault → Result (A × Bor Tokens) Fault → Type 0
-EndsBy s (Ok x) (Ok y) = (y.0 ≡ x.0) × Closed s x.1.now y.1.now
-EndsBy s (Ok x) (Err (Syntax rest)) = NotClosed s x.1.now rest.now
-EndsBy s (Ok x) (Err Memory) = ⊤
-EndsBy s (Err f) (Ok y) = ⊥
-EndsBy s (Err f) (Err g) = g ≡ f
-
 abbrev pub TakesClosing : Symbol → Tokens → Result (Bor Tokens) Fault → Type 0
 TakesClosing s ts (Ok rest) = Closed s ts rest.now
 TakesClosing s ts (Err (Syntax rest)) = NotClosed s ts rest.now

@@ -6,6 +6,7 @@ pub mod StatementReading
 pub mod StatementDepth
 pub mod Endings
 pub mod Parts
+pub mod Bodies
 pub mod Grammar
 pub mod UnitReading
 pub mod UnitDepth

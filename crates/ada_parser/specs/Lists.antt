@@ -1,5 +1,5 @@
 -- Lists whose further items each stand behind the same word.
-use Rattle.std.specs.Prelude.{Bool, true, false}
+use Rattle.std.specs.Prelude.{ℕ, Bool, true, false}
 use Rattle.ada_lexer.specs.declared.token.Token.{Token}
 use Rattle.expression_parser.specs.declared.symbol.Symbol.{Symbol}
 use Rattle.expression_parser.specs.declared.symbol.Symbol.TheVariants as symbol
@@ -21,3 +21,7 @@ closing s a = skip symbol.End (skip s (skip symbol.Semicolon (got a)))
 -- END, a semicolon, and what was read before them
 abbrev pub ending : {A : Type 0} → A → Reader A
 ending a = skip symbol.End (skip symbol.Semicolon (got a))
+
+-- a part, and a word behind it
+abbrev pub before : {A : Type 0} → Symbol → (ℕ → Reader A) → ℕ → Reader A
+before s r m = r m >>= λ a. skip s (got a)

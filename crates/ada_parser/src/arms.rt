@@ -6,7 +6,7 @@ ghost use Rattle.expression_parser.specs.Shows.{ShowsAs, Reads};
 ghost use Rattle.ada_parser.specs.StatementDepth as at;
 ghost use Rattle.ada_parser.specs.Parts.{alternative_parts, handler_parts};
 
-use crate::choices::{choices, exceptions};
+use crate::heads::{choices_to_arrow, exceptions_to_arrow};
 use crate::statements::nested;
 use ada_lexer::Token;
 use ada_syntax::{Alternative, Handler};
@@ -15,13 +15,11 @@ use expression_parser::{Extent, Parsed, Parser, Symbol, behind, word};
 
 /// `choice {| choice} => stmts` behind `WHEN`
 #[cycle(statement)]
-#[tactic(auto, using(crate::proofs::ArmCode::alternative_rules))]
 fn alternative<'a>(parser: Parser, depth: u32, tokens: &'a [Token]) -> Parsed<'a, Alternative>
     ensures reads { ShowsAs alternative_parts (Reads (at.at_alternative parser.extent) tokens.now) result }
     ensures shorter { IfOk result (λ x. length x.1.now < length tokens.now) }
 {
-    let (choices, rest) = choices(parser, tokens)?;
-    let rest = word(Symbol::Arrow, rest)?;
+    let (choices, rest) = choices_to_arrow(parser, tokens)?;
     let (statements, rest) = nested(parser, depth, rest)?;
     let choices = Seq::from(choices);
     let alternative = Alternative {
@@ -56,13 +54,11 @@ pub fn alternatives<'a>(
 
 /// `exch {| exch} => stmts` behind `WHEN`
 #[cycle(statement)]
-#[tactic(auto, using(crate::proofs::ArmCode::handler_rules))]
 fn handler<'a>(parser: Parser, depth: u32, tokens: &'a [Token]) -> Parsed<'a, Handler>
     ensures reads { ShowsAs handler_parts (Reads (at.at_handler parser.extent) tokens.now) result }
     ensures shorter { IfOk result (λ x. length x.1.now < length tokens.now) }
 {
-    let (choices, rest) = exceptions(parser, tokens)?;
-    let rest = word(Symbol::Arrow, rest)?;
+    let (choices, rest) = exceptions_to_arrow(parser, tokens)?;
     let (statements, rest) = nested(parser, depth, rest)?;
     let choices = Seq::from(choices);
     let handler = Handler {

@@ -1,29 +1,30 @@
 //! Statements with statements in them (Ada RM 2012, 5.3 to 5.6).
 
 ghost use Rattle.std.specs.Prelude.{◌<◌, ◌≤◌, length, Option, IfOk};
-ghost use Rattle.ada_syntax.specs.StatementView.{branches_of};
+ghost use Rattle.ada_syntax.specs.StatementView.{branches_of, alternatives_of};
 ghost use Rattle.expression_parser.specs.Shows.{Shows, ShowsAs, Reads};
 ghost use Rattle.ada_parser.specs.StatementDepth as at;
 ghost use Rattle.ada_parser.specs.Parts.{branch_parts};
+ghost use Rattle.ada_parser.specs.Bodies.{ReadsIfRest, ReadsCaseArms, ReadsLoopBody};
 
 use crate::arms::alternatives;
+use crate::heads::{declarations_to_begin, expr_before};
 use crate::simple::direction;
 use crate::statements::{handled, nested};
-use crate::words::{end, ended_by};
+use crate::words::{closing, end};
 use ada_lexer::Token;
-use ada_syntax::{Branch, Declaration, LoopScheme, Statement, StatementKind};
+use ada_syntax::{Alternative, Branch, Declaration, LoopScheme, Statement, StatementKind};
 use cov_base::{Pos, Seq};
-use declaration_parser::{closed_by, local_declarations, range};
+use declaration_parser::range;
 use expression_parser::{Extent, Fault, Parsed, Parser, Symbol, behind, symbol_in, word};
 
 /// `expr THEN stmts`
 #[cycle(statement)]
-#[tactic(auto, using(crate::proofs::CompoundCode::branch_rules))]
 fn branch<'a>(parser: Parser, depth: u32, tokens: &'a [Token]) -> Parsed<'a, Branch>
     ensures reads { ShowsAs branch_parts (Reads (at.at_branch parser.extent) tokens.now) result }
     ensures shorter { IfOk result (λ x. length x.1.now < length tokens.now) }
 {
-    let (condition, rest) = closed_by(Symbol::Then, parser.expr(tokens))?;
+    let (condition, rest) = expr_before(parser, Symbol::Then, tokens)?;
     let (statements, rest) = nested(parser, depth, rest)?;
     let branch = Branch {
         condition,
@@ -51,7 +52,6 @@ fn branches<'a>(parser: Parser, depth: u32, tokens: &'a [Token]) -> Parsed<'a, V
 
 /// `[ELSE stmts]`
 #[cycle(statement)]
-#[tactic(auto, using(crate::proofs::CompoundCode::else_rules))]
 fn else_part<'a>(parser: Parser, depth: u32, tokens: &'a [Token]) -> Parsed<'a, Vec<Statement>>
     ensures reads { ShowsAs (λ v. v.items) (Reads (at.at_else parser.extent) tokens.now) result }
     ensures no_longer { IfOk result (λ x. length x.1.now ≤ length tokens.now) }
@@ -62,9 +62,24 @@ fn else_part<'a>(parser: Parser, depth: u32, tokens: &'a [Token]) -> Parsed<'a, 
     nested(parser, depth, after)
 }
 
+/// `{ELSIF expr THEN stmts} [ELSE stmts] END IF ;` behind a first branch
+#[cycle(statement)]
+fn if_rest<'a>(
+    parser: Parser,
+    depth: u32,
+    tokens: &'a [Token],
+) -> Parsed<'a, (Vec<Branch>, Vec<Statement>)>
+    ensures reads { ReadsIfRest (λ v. (branches_of v.0.items, v.1.items)) parser.extent tokens.now result }
+    ensures shorter { IfOk result (λ x. length x.1.now < length tokens.now) }
+{
+    let (others, rest) = branches(parser, depth, tokens)?;
+    let (otherwise, rest) = else_part(parser, depth, rest)?;
+    let rest = closing(Symbol::If, rest)?;
+    Ok(((others, otherwise), rest))
+}
+
 /// `expr THEN stmts {ELSIF expr THEN stmts} [ELSE stmts] END IF ;` behind `IF`
 #[cycle(statement)]
-#[tactic(auto, using(crate::proofs::CompoundCode::if_rules))]
 fn if_statement<'a>(
     parser: Parser,
     depth: u32,
@@ -75,15 +90,24 @@ fn if_statement<'a>(
     ensures shorter { IfOk result (λ x. length x.1.now < length tokens.now) }
 {
     let (first, rest) = branch(parser, depth, tokens)?;
-    let (others, rest) = branches(parser, depth, rest)?;
-    let (otherwise, rest) = ended_by(Symbol::If, else_part(parser, depth, rest))?;
+    let ((others, otherwise), rest) = if_rest(parser, depth, rest)?;
     let kind = StatementKind::If(first, others, otherwise);
     Ok((Statement { pos, kind }, rest))
 }
 
+/// `alt {alt} END CASE ;`
+#[cycle(statement)]
+fn case_arms<'a>(parser: Parser, depth: u32, tokens: &'a [Token]) -> Parsed<'a, Vec<Alternative>>
+    ensures reads { ReadsCaseArms (λ v. alternatives_of v.items) parser.extent tokens.now result }
+    ensures shorter { IfOk result (λ x. length x.1.now < length tokens.now) }
+{
+    let (alternatives, rest) = alternatives(parser, depth, tokens)?;
+    let rest = closing(Symbol::Case, rest)?;
+    Ok((alternatives, rest))
+}
+
 /// `expr IS alt {alt} END CASE ;` behind `CASE`
 #[cycle(statement)]
-#[tactic(auto, using(crate::proofs::CompoundCode::case_rules))]
 fn case_statement<'a>(
     parser: Parser,
     depth: u32,
@@ -93,15 +117,26 @@ fn case_statement<'a>(
     ensures reads { Shows (Reads (at.at_case parser.extent pos) tokens.now) result }
     ensures shorter { IfOk result (λ x. length x.1.now < length tokens.now) }
 {
-    let (selector, rest) = closed_by(Symbol::Is, parser.expr(tokens))?;
-    let (alternatives, rest) = ended_by(Symbol::Case, alternatives(parser, depth, rest))?;
+    let (selector, rest) = expr_before(parser, Symbol::Is, tokens)?;
+    let (alternatives, rest) = case_arms(parser, depth, rest)?;
     let kind = StatementKind::Case(selector, alternatives);
     Ok((Statement { pos, kind }, rest))
 }
 
 /// `LOOP stmts END LOOP ;`
 #[cycle(statement)]
-#[tactic(auto, using(crate::proofs::CompoundCode::loop_rules))]
+fn loop_body<'a>(parser: Parser, depth: u32, tokens: &'a [Token]) -> Parsed<'a, Vec<Statement>>
+    ensures reads { ReadsLoopBody (λ v. v.items) parser.extent tokens.now result }
+    ensures shorter { IfOk result (λ x. length x.1.now < length tokens.now) }
+{
+    let rest = word(Symbol::Loop, tokens)?;
+    let (statements, rest) = nested(parser, depth, rest)?;
+    let rest = closing(Symbol::Loop, rest)?;
+    Ok((statements, rest))
+}
+
+/// `LOOP stmts END LOOP ;` of the loop with this scheme
+#[cycle(statement)]
 fn loop_rest<'a>(
     parser: Parser,
     depth: u32,
@@ -112,15 +147,13 @@ fn loop_rest<'a>(
     ensures reads { Shows (Reads (at.at_loop parser.extent pos scheme) tokens.now) result }
     ensures shorter { IfOk result (λ x. length x.1.now < length tokens.now) }
 {
-    let (scheme, rest) = closed_by(Symbol::Loop, Ok((scheme, tokens)))?;
-    let (statements, rest) = ended_by(Symbol::Loop, nested(parser, depth, rest))?;
+    let (statements, rest) = loop_body(parser, depth, tokens)?;
     let kind = StatementKind::Loop(scheme, statements);
     Ok((Statement { pos, kind }, rest))
 }
 
 /// `expr LOOP stmts END LOOP ;` behind `WHILE`
 #[cycle(statement)]
-#[tactic(auto, using(crate::proofs::CompoundCode::while_rules))]
 fn while_loop<'a>(
     parser: Parser,
     depth: u32,
@@ -136,7 +169,6 @@ fn while_loop<'a>(
 
 /// `id IN [REVERSE] range LOOP stmts END LOOP ;` behind `FOR`
 #[cycle(statement)]
-#[tactic(auto, using(crate::proofs::CompoundCode::for_rules))]
 fn for_loop<'a>(parser: Parser, depth: u32, pos: Pos, tokens: &'a [Token]) -> Parsed<'a, Statement>
     ensures reads { Shows (Reads (at.at_for parser.extent pos) tokens.now) result }
     ensures shorter { IfOk result (λ x. length x.1.now < length tokens.now) }
@@ -151,7 +183,6 @@ fn for_loop<'a>(parser: Parser, depth: u32, pos: Pos, tokens: &'a [Token]) -> Pa
 
 /// `stmts [handlers] END ;` behind `BEGIN`
 #[cycle(statement)]
-#[tactic(auto, using(crate::proofs::CompoundCode::block_rules))]
 fn block<'a>(
     parser: Parser,
     depth: u32,
@@ -170,7 +201,6 @@ fn block<'a>(
 
 /// `{ldecl} BEGIN stmts [handlers] END ;` behind `DECLARE`
 #[cycle(statement)]
-#[tactic(auto, using(crate::proofs::CompoundCode::declaring_rules))]
 fn declaring_block<'a>(
     parser: Parser,
     depth: u32,
@@ -180,8 +210,7 @@ fn declaring_block<'a>(
     ensures reads { Shows (Reads (at.at_declaring parser.extent pos) tokens.now) result }
     ensures shorter { IfOk result (λ x. length x.1.now < length tokens.now) }
 {
-    let (declarations, rest) = local_declarations(parser, tokens)?;
-    let rest = word(Symbol::Begin, rest)?;
+    let (declarations, rest) = declarations_to_begin(parser, tokens)?;
     block(parser, depth, pos, Some(Seq::from(declarations)), rest)
 }
 

@@ -8,17 +8,15 @@ ghost use Rattle.ada_parser.specs.UnitDepth as at;
 use ada_lexer::Token;
 use ada_syntax::{Identifier, WithClause};
 use cov_base::Seq;
-use declaration_parser::identifiers;
+use declaration_parser::{closed_by, identifiers};
 use expression_parser::{Parsed, Parser, Symbol, behind, symbol_in, word};
 
 /// `id {, id} ;` behind `WITH`
-#[tactic(auto, using(crate::proofs::ContextCode::with_rules))]
 fn with_clause<'a>(parser: Parser, tokens: &'a [Token]) -> Parsed<'a, WithClause>
     ensures reads { Shows (Reads read.with_by tokens.now) result }
     ensures shorter { IfOk result (λ x. length x.1.now < length tokens.now) }
 {
-    let (names, rest) = identifiers(parser, tokens)?;
-    let rest = word(Symbol::Semicolon, rest)?;
+    let (names, rest) = closed_by(Symbol::Semicolon, identifiers(parser, tokens))?;
     let names = Seq::from(names);
     Ok((WithClause { names }, rest))
 }
@@ -56,13 +54,10 @@ fn end_name<'a>(parser: Parser, tokens: &'a [Token]) -> Parsed<'a, Option<Identi
 }
 
 /// `END [id] ;`
-#[tactic(auto, using(crate::proofs::ContextCode::end_rules))]
 pub fn end<'a>(parser: Parser, tokens: &'a [Token]) -> Parsed<'a, Option<Identifier>>
     ensures reads { Shows (Reads at.at_end tokens.now) result }
     ensures shorter { IfOk result (λ x. length x.1.now < length tokens.now) }
 {
     let rest = word(Symbol::End, tokens)?;
-    let (name, rest) = end_name(parser, rest)?;
-    let rest = word(Symbol::Semicolon, rest)?;
-    Ok((name, rest))
+    closed_by(Symbol::Semicolon, end_name(parser, rest))
 }

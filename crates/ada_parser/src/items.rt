@@ -8,8 +8,8 @@ ghost use Rattle.ada_parser.specs.UnitDepth as at;
 use crate::bodies::body_rest;
 use ada_lexer::Token;
 use ada_syntax::{BodyItem, PackageItem, Specification};
-use declaration_parser::{begins_declaration, declaration, specification};
-use expression_parser::{Fault, Parsed, Parser, Symbol, symbol_in, word};
+use declaration_parser::{begins_declaration, closed_by, declaration, specification};
+use expression_parser::{Fault, Parsed, Parser, Symbol, symbol_in};
 
 /// Whether the next token begins a specification.
 fn begins_specification(tokens: &[Token]) -> bool
@@ -46,8 +46,7 @@ fn package_item<'a>(parser: Parser, tokens: &'a [Token]) -> Parsed<'a, PackageIt
         let (declaration, rest) = declaration(parser, tokens)?;
         return Ok((PackageItem::Declaration(declaration), rest));
     }
-    let (specification, rest) = specification(parser, tokens)?;
-    let rest = word(Symbol::Semicolon, rest)?;
+    let (specification, rest) = closed_by(Symbol::Semicolon, specification(parser, tokens))?;
     Ok((PackageItem::Subprogram(specification), rest))
 }
 

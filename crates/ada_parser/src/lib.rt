@@ -15,6 +15,7 @@ mod bodies;
 mod choices;
 mod compound;
 mod contexts;
+mod heads;
 mod items;
 mod packages;
 mod refusal;

@@ -12,11 +12,10 @@ use ada_syntax::{
     Expr, Formal, Identifier, Instance, LibraryItem, PackageBody, PackageSpecification,
 };
 use cov_base::Seq;
-use declaration_parser::formals;
-use expression_parser::{Extent, Fault, Parsed, Parser, Symbol, behind, symbol_in, word};
+use declaration_parser::{closed_by, formals};
+use expression_parser::{Extent, Fault, Parsed, Parser, Symbol, behind, symbol_in};
 
 /// `[( expr {, expr} )]`
-#[tactic(auto, using(crate::proofs::PackageCode::actuals_rules))]
 fn actuals<'a>(parser: Parser, tokens: &'a [Token]) -> Parsed<'a, Vec<Expr>>
     ensures reads { ShowsAs (λ v. v.items) (Reads (read.actuals_by parser.extent) tokens.now) result }
     ensures no_longer { IfOk result (λ x. length x.1.now ≤ length tokens.now) }
@@ -24,20 +23,16 @@ fn actuals<'a>(parser: Parser, tokens: &'a [Token]) -> Parsed<'a, Vec<Expr>>
     let Some(after) = behind(Symbol::LeftParenthesis, tokens) else {
         return Ok((Vec::new(parser.alloc), tokens));
     };
-    let (actuals, rest) = parser.exprs(after)?;
-    let rest = word(Symbol::RightParenthesis, rest)?;
-    Ok((actuals, rest))
+    closed_by(Symbol::RightParenthesis, parser.exprs(after))
 }
 
 /// `id [( expr {, expr} )] ;` behind `NEW`, of the instance of this name
-#[tactic(auto, using(crate::proofs::PackageCode::instance_rules))]
 fn instance<'a>(parser: Parser, name: Identifier, tokens: &'a [Token]) -> Parsed<'a, LibraryItem>
     ensures reads { Shows (Reads (at.at_instance parser.extent name) tokens.now) result }
     ensures shorter { IfOk result (λ x. length x.1.now < length tokens.now) }
 {
     let (generic_name, rest) = parser.identifier(tokens)?;
-    let (actuals, rest) = actuals(parser, rest)?;
-    let rest = word(Symbol::Semicolon, rest)?;
+    let (actuals, rest) = closed_by(Symbol::Semicolon, actuals(parser, rest))?;
     let instance = Instance {
         name,
         generic_name,
@@ -47,7 +42,6 @@ fn instance<'a>(parser: Parser, name: Identifier, tokens: &'a [Token]) -> Parsed
 }
 
 /// `{decl} END [id] ;` of the package of this name, with its formals where it is generic
-#[tactic(auto, using(crate::proofs::PackageCode::package_rest_rules))]
 fn package_rest<'a>(
     parser: Parser,
     formals: Option<Seq<Formal>>,
@@ -90,13 +84,11 @@ fn package_or_instance<'a>(
 }
 
 /// `id IS {decl | body} END [id] ;` behind `BODY`
-#[tactic(auto, using(crate::proofs::PackageCode::package_body_rules))]
 fn package_body<'a>(parser: Parser, tokens: &'a [Token]) -> Parsed<'a, LibraryItem>
     ensures reads { Shows (Reads (read.package_body_by parser.extent) tokens.now) result }
     ensures shorter { IfOk result (λ x. length x.1.now < length tokens.now) }
 {
-    let (name, rest) = parser.identifier(tokens)?;
-    let rest = word(Symbol::Is, rest)?;
+    let (name, rest) = closed_by(Symbol::Is, parser.identifier(tokens))?;
     let (items, rest) = body_items(parser, rest)?;
     let (end_name, rest) = end(parser, rest)?;
     let body = PackageBody {
@@ -108,7 +100,6 @@ fn package_body<'a>(parser: Parser, tokens: &'a [Token]) -> Parsed<'a, LibraryIt
 }
 
 /// What stands behind `PACKAGE`.
-#[tactic(auto, using(crate::proofs::PackageCode::package_rules))]
 pub fn package<'a>(parser: Parser, tokens: &'a [Token]) -> Parsed<'a, LibraryItem>
     ensures reads { Shows (Reads (read.package_by parser.extent) tokens.now) result }
     ensures shorter { IfOk result (λ x. length x.1.now < length tokens.now) }
@@ -116,20 +107,16 @@ pub fn package<'a>(parser: Parser, tokens: &'a [Token]) -> Parsed<'a, LibraryIte
     if let Some(rest) = behind(Symbol::Body, tokens) {
         return package_body(parser, rest);
     }
-    let (name, rest) = parser.identifier(tokens)?;
-    let rest = word(Symbol::Is, rest)?;
+    let (name, rest) = closed_by(Symbol::Is, parser.identifier(tokens))?;
     package_or_instance(parser, name, rest)
 }
 
 /// `{formal} PACKAGE id IS {decl} END [id] ;` behind `GENERIC`
-#[tactic(auto, using(crate::proofs::PackageCode::generic_rules))]
 pub fn generic<'a>(parser: Parser, tokens: &'a [Token]) -> Parsed<'a, LibraryItem>
     ensures reads { Shows (Reads (read.generic_by parser.extent) tokens.now) result }
     ensures shorter { IfOk result (λ x. length x.1.now < length tokens.now) }
 {
-    let (formals, rest) = formals(parser, tokens)?;
-    let rest = word(Symbol::Package, rest)?;
-    let (name, rest) = parser.identifier(rest)?;
-    let rest = word(Symbol::Is, rest)?;
+    let (formals, rest) = closed_by(Symbol::Package, formals(parser, tokens))?;
+    let (name, rest) = closed_by(Symbol::Is, parser.identifier(rest))?;
     package_rest(parser, Some(Seq::from(formals)), name, rest)
 }

@@ -83,13 +83,11 @@ fn condition<'a>(parser: Parser, tokens: &'a [Token]) -> Parsed<'a, Option<Expr>
 }
 
 /// `[WHEN expr] ;` behind `EXIT`
-#[tactic(auto, using(crate::proofs::SimpleCode::exit_rules))]
 pub fn exit<'a>(parser: Parser, pos: Pos, tokens: &'a [Token]) -> Parsed<'a, Statement>
     ensures reads { Shows (Reads (at.at_exit parser.extent pos) tokens.now) result }
     ensures shorter { IfOk result (λ x. length x.1.now < length tokens.now) }
 {
-    let (condition, rest) = condition(parser, tokens)?;
-    let rest = word(Symbol::Semicolon, rest)?;
+    let (condition, rest) = closed_by(Symbol::Semicolon, condition(parser, tokens))?;
     let kind = StatementKind::Exit(condition);
     Ok((Statement { pos, kind }, rest))
 }
@@ -112,13 +110,11 @@ fn result_value<'a>(parser: Parser, tokens: &'a [Token]) -> Parsed<'a, Option<Ex
 }
 
 /// `[expr] ;` behind `RETURN`
-#[tactic(auto, using(crate::proofs::SimpleCode::return_rules))]
 pub fn returns<'a>(parser: Parser, pos: Pos, tokens: &'a [Token]) -> Parsed<'a, Statement>
     ensures reads { Shows (Reads (at.at_return parser.extent pos) tokens.now) result }
     ensures shorter { IfOk result (λ x. length x.1.now < length tokens.now) }
 {
-    let (value, rest) = result_value(parser, tokens)?;
-    let rest = word(Symbol::Semicolon, rest)?;
+    let (value, rest) = closed_by(Symbol::Semicolon, result_value(parser, tokens))?;
     let kind = StatementKind::Return(value);
     Ok((Statement { pos, kind }, rest))
 }
@@ -140,13 +136,11 @@ fn raised<'a>(parser: Parser, tokens: &'a [Token]) -> Parsed<'a, Option<Name>>
 }
 
 /// `[name] ;` behind `RAISE`
-#[tactic(auto, using(crate::proofs::SimpleCode::raise_rules))]
 pub fn raise<'a>(parser: Parser, pos: Pos, tokens: &'a [Token]) -> Parsed<'a, Statement>
     ensures reads { Shows (Reads (at.at_raise parser.extent pos) tokens.now) result }
     ensures shorter { IfOk result (λ x. length x.1.now < length tokens.now) }
 {
-    let (name, rest) = raised(parser, tokens)?;
-    let rest = word(Symbol::Semicolon, rest)?;
+    let (name, rest) = closed_by(Symbol::Semicolon, raised(parser, tokens))?;
     let kind = StatementKind::Raise(name);
     Ok((Statement { pos, kind }, rest))
 }

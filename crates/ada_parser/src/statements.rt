@@ -100,7 +100,6 @@ pub fn nested<'a>(parser: Parser, depth: u32, tokens: &'a [Token]) -> Parsed<'a,
 
 /// `stmts [handlers]`
 #[cycle(statement)]
-#[tactic(auto, using(crate::proofs::StatementCode::handled_rules))]
 pub fn handled<'a>(parser: Parser, depth: u32, tokens: &'a [Token]) -> Parsed<'a, HandledStatements>
     ensures reads { Shows (Reads (at.at_handled parser.extent) tokens.now) result }
     ensures shorter { IfOk result (λ x. length x.1.now < length tokens.now) }

@@ -1,10 +1,10 @@
 //! Words at the end of statements.
 
 ghost use Rattle.std.specs.Prelude.{◌≡◌, ◌<◌, length};
-ghost use Rattle.ada_parser.specs.Endings.{TakesClosing, TakesEnd, EndsBy};
+ghost use Rattle.ada_parser.specs.Endings.{TakesClosing, TakesEnd};
 
 use ada_lexer::Token;
-use expression_parser::{Fault, Parsed, Symbol, word};
+use expression_parser::{Fault, Symbol, word};
 
 /// `END word ;`
 #[tactic(auto, using(crate::proofs::Steps::closing_rules))]
@@ -15,15 +15,6 @@ pub fn closing<'a>(wanted: Symbol, tokens: &'a [Token]) -> Result<&'a [Token], F
     let rest = word(wanted, rest)?;
     let rest = word(Symbol::Semicolon, rest)?;
     Ok(rest)
-}
-
-/// What was read, with `END word ;` behind it, which is taken too.
-pub fn ended_by<'a, T: Drop>(wanted: Symbol, parsed: Parsed<'a, T>) -> Parsed<'a, T>
-    ensures { EndsBy wanted parsed.entry result }
-{
-    let (value, tokens) = parsed?;
-    let rest = closing(wanted, tokens)?;
-    Ok((value, rest))
 }
 
 /// `END ;`

@@ -1,17 +1,28 @@
-use Rattle.std.proofs.Common.{◌<◌, ◌≤◌, List, length, ap, sym, subst, arith}
+use Rattle.std.proofs.Common.{List, Some, length, ap, sym, subst, arith}
 use Rattle.std.proofs.lemmas.Result.{err_from_is_err_and}
-use Rattle.ada_syntax.specs.StatementView.{branches_of, alternatives_of, handlers_of}
+use Rattle.ada_syntax.specs.StatementTree.{conditional, case_of}
+use Rattle.ada_syntax.specs.StatementView.{statements_of, branches_of, alternatives_of, handlers_of}
 use Rattle.ada_syntax.specs.declared.statement.Branch.{Branch}
 use Rattle.ada_syntax.specs.declared.statement.Alternative.{Alternative}
 use Rattle.ada_syntax.specs.declared.statement.Handler.{Handler}
+use Rattle.ada_syntax.specs.declared.statement.LoopScheme.TheVariants.{While, For}
 use Rattle.expression_parser.specs.declared.symbol.Symbol.TheVariants as symbol
-use Rattle.expression_parser.specs.Reading.{Got}
+use Rattle.expression_parser.specs.Reading.{Got, Stuck}
 use Rattle.expression_parser.specs.Shows.{More, Reads}
 use Rattle.expression_parser.specs.Depth.{at_expr}
+use Rattle.expression_parser.proofs.Faults.{word_handed_on}
 use Rattle.expression_parser.proofs.NameCode.{after_some}
-use Rattle.ada_parser.proofs.ArmCode.{alternative_turns, alternatives_step, alternatives_end, handler_turns, handler_list_step, handler_list_end}
-use Rattle.ada_parser.proofs.CompoundCode.{branch_turns, branches_step, branches_end, branch_read, branch_fail, branch_open, branch_empty, if_read, if_else_fail, if_open, case_read, case_fail, case_no_is, case_empty, case_open, loop_read, loop_none, loop_empty, loop_open}
-use Rattle.ada_parser.proofs.Parts.{before_word, before_end, word_fails, end_fails, given_fails, part_fails}
+use Rattle.declaration_parser.specs.SubtypeReading.{range_by}
+use Rattle.declaration_parser.specs.DeclarationReading.{declarations_by}
+use Rattle.declaration_parser.proofs.Closings.{within_below, below_behind}
+use Rattle.ada_parser.specs.Bodies.{at_if_rest, at_case_arms}
+use Rattle.ada_parser.specs.Lists.{before}
+use Rattle.ada_parser.specs.Parts.{branch_parts}
+use Rattle.ada_parser.specs.StatementReading as read
+use Rattle.ada_parser.proofs.StatementCode.{handled_read, handled_fail, handlers_fail, statement_rules, statements_rules}
+use Rattle.ada_parser.proofs.ArmCode.{alternative_turns, alternatives_step, alternatives_end, handler_turns, handler_list_step, handler_list_end, alternative_read, alternative_fail, alternative_empty, handler_read, handler_fail, handler_empty, alternatives_rules, handler_list_rules, handlers_rules}
+use Rattle.ada_parser.proofs.CompoundCode.{branch_turns, branches_step, branches_end, branch_read, branch_fail, branch_empty, if_rest_read, if_others_fail, if_else_fail, if_open, if_then, if_fail, arms_read, arms_fail, arms_open, case_then, case_fail, loop_read, loop_none, loop_empty, loop_open, while_read, while_fail, for_read, for_fail, for_no_in, for_range_fail, block_read, block_fail, block_open, block_at, declaring_read, declaring_fail, no_else, an_else, branches_rules, compound_rules}
+use Rattle.ada_parser.proofs.Parts.{part_fails, name_fails, closing_fails, end_fails, shown_so}
 use Rattle.ada_parser.specs.StatementDepth as at
 use Rattle.ada_parser.proofs.+statement.Goals as goal
 
@@ -66,54 +77,115 @@ compound::branches-returns-clause-reads t c =
     let rest = c.loop-after.rest.now in
     c.loop-after.invariant.reads (Got (branches_of zs) rest) (branches_end c.args.parser.extent rest zs (sym c.in_default.ensures))
 
-pub compound::branch-returns-in_err-condition-clause-reads : goal.compound::branch-returns-in_err-condition-clause-reads
-compound::branch-returns-in_err-condition-clause-reads t c =
+pub compound::if_rest-returns-in_err-others-clause-reads : goal.compound::if_rest-returns-in_err-others-clause-reads
+compound::if_rest-returns-in_err-others-clause-reads t c =
     let p = err_from_is_err_and c.from_residual.result c.from_residual.ensures.1 in
-    rw (p.1, p.2) (word_fails (λ z. z) (at_expr c.args.parser.extent) (λ n. n < length c.args.tokens.now) symbol.Then c.args.tokens.now (Reads (at.at_branch c.args.parser.extent) c.args.tokens.now) (λ rest h. branch_fail c.args.parser.extent c.args.tokens.now rest h) c.expr.result c.in_err-condition.field-0.0 c.expr.ensures.reads c.expr.ensures.shorter c.in_err-condition.ensures (λ e us rest h l n. branch_open c.args.parser.extent c.args.tokens.now us rest e h l n))
+    rw (p.1, p.2) (λ p b. part_fails (Reads (at.at_branches c.args.parser.extent) c.args.tokens.now) (Reads (at_if_rest c.args.parser.extent p b) c.args.tokens.now) c.in_err-others.field-0.0 c.in_err-others.ensures.reads (λ rest h. if_others_fail c.args.parser.extent p b c.args.tokens.now rest h))
 
-pub compound::branch-returns-in_err-condition-clause-shorter : goal.compound::branch-returns-in_err-condition-clause-shorter
-compound::branch-returns-in_err-condition-clause-shorter t c = rw ((err_from_is_err_and c.from_residual.result c.from_residual.ensures.1).1) tt
+pub compound::if_rest-returns-in_err-others-clause-shorter : goal.compound::if_rest-returns-in_err-others-clause-shorter
+compound::if_rest-returns-in_err-others-clause-shorter t c = rw ((err_from_is_err_and c.from_residual.result c.from_residual.ensures.1).1) tt
 
-pub compound::branch-returns-in_err-statements-clause-reads : goal.compound::branch-returns-in_err-statements-clause-reads
-compound::branch-returns-in_err-statements-clause-reads t c =
-    let p = err_from_is_err_and c.from_residual-in_err-statements.result c.from_residual-in_err-statements.ensures.1 in
-    rw (p.1, p.2) (let w = before_word (λ z. z) (at_expr c.args.parser.extent) (λ n. n < length c.args.tokens.now) symbol.Then c.args.tokens.now c.expr.result c.in_ok-condition.condition c.in_ok-condition.rest c.expr.ensures.reads c.expr.ensures.shorter c.in_ok-condition.ensures in part_fails (Reads (at.at_statements c.args.parser.extent) c.in_ok-condition.rest.now) (Reads (at.at_branch c.args.parser.extent) c.args.tokens.now) c.in_err-statements.field-0.0 c.in_err-statements.ensures.reads (λ rest h. branch_empty c.args.parser.extent c.args.tokens.now w.before c.in_ok-condition.rest.now rest c.in_ok-condition.condition w.reads w.near w.word h))
-
-pub compound::branch-returns-in_err-statements-clause-shorter : goal.compound::branch-returns-in_err-statements-clause-shorter
-compound::branch-returns-in_err-statements-clause-shorter t c = rw ((err_from_is_err_and c.from_residual-in_err-statements.result c.from_residual-in_err-statements.ensures.1).1) tt
-
-pub compound::branch-returns-clause-reads : goal.compound::branch-returns-clause-reads
-compound::branch-returns-clause-reads t c =
-    let w = before_word (λ z. z) (at_expr c.args.parser.extent) (λ n. n < length c.args.tokens.now) symbol.Then c.args.tokens.now c.expr.result c.in_ok-condition.condition c.in_ok-condition.rest c.expr.ensures.reads c.expr.ensures.shorter c.in_ok-condition.ensures in
-    branch_read c.args.parser.extent c.args.tokens.now w.before c.in_ok-condition.rest.now c.in_ok-statements.rest.now c.in_ok-condition.condition c.in_ok-statements.statements.items w.reads w.near w.word c.in_ok-statements.ensures.reads
-
-pub compound::branch-returns-clause-shorter : goal.compound::branch-returns-clause-shorter
-compound::branch-returns-clause-shorter t c =
-    let w = before_word (λ z. z) (at_expr c.args.parser.extent) (λ n. n < length c.args.tokens.now) symbol.Then c.args.tokens.now c.expr.result c.in_ok-condition.condition c.in_ok-condition.rest c.expr.ensures.reads c.expr.ensures.shorter c.in_ok-condition.ensures in
-    omega (arith, w.near, w.word.shorter, c.in_ok-statements.ensures.shorter)
-
-pub compound::if_statement-returns-in_err-otherwise-clause-reads : goal.compound::if_statement-returns-in_err-otherwise-clause-reads
-compound::if_statement-returns-in_err-otherwise-clause-reads t c =
+pub compound::if_rest-returns-in_err-otherwise-clause-reads : goal.compound::if_rest-returns-in_err-otherwise-clause-reads
+compound::if_rest-returns-in_err-otherwise-clause-reads t c =
     let p = err_from_is_err_and c.from_residual-in_err-otherwise.result c.from_residual-in_err-otherwise.ensures.1 in
-    rw (p.1, p.2) (end_fails (λ v. v.items) (at.at_else c.args.parser.extent) (λ n. n ≤ length c.in_ok-others.rest.now) symbol.If c.in_ok-others.rest.now (Reads (at.at_if c.args.parser.extent c.args.pos) c.args.tokens.now) (λ rest h. if_else_fail c.args.parser.extent c.args.pos c.args.tokens.now c.in_ok-first.rest.now c.in_ok-others.rest.now rest c.in_ok-first.first (branches_of c.in_ok-others.others.items) c.in_ok-first.ensures.reads c.in_ok-first.ensures.shorter c.in_ok-others.ensures.reads c.in_ok-others.ensures.no_longer h) c.else_part.result c.in_err-otherwise.field-0.0 c.else_part.ensures.reads c.else_part.ensures.no_longer c.in_err-otherwise.ensures (λ v us rest h l n. if_open c.args.parser.extent c.args.pos c.args.tokens.now c.in_ok-first.rest.now c.in_ok-others.rest.now us rest c.in_ok-first.first (branches_of c.in_ok-others.others.items) v.items c.in_ok-first.ensures.reads c.in_ok-first.ensures.shorter c.in_ok-others.ensures.reads c.in_ok-others.ensures.no_longer h l n))
+    rw (p.1, p.2) (λ p b. part_fails (Reads (at.at_else c.args.parser.extent) c.in_ok-others.rest.now) (Reads (at_if_rest c.args.parser.extent p b) c.args.tokens.now) c.in_err-otherwise.field-0.0 c.in_err-otherwise.ensures.reads (λ rest h. if_else_fail c.args.parser.extent p b c.args.tokens.now c.in_ok-others.rest.now rest (branches_of c.in_ok-others.others.items) c.in_ok-others.ensures.reads c.in_ok-others.ensures.no_longer h))
 
-pub compound::if_statement-returns-in_err-otherwise-clause-shorter : goal.compound::if_statement-returns-in_err-otherwise-clause-shorter
-compound::if_statement-returns-in_err-otherwise-clause-shorter t c = rw ((err_from_is_err_and c.from_residual-in_err-otherwise.result c.from_residual-in_err-otherwise.ensures.1).1) tt
+pub compound::if_rest-returns-in_err-otherwise-clause-shorter : goal.compound::if_rest-returns-in_err-otherwise-clause-shorter
+compound::if_rest-returns-in_err-otherwise-clause-shorter t c = rw ((err_from_is_err_and c.from_residual-in_err-otherwise.result c.from_residual-in_err-otherwise.ensures.1).1) tt
+
+pub compound::if_rest-returns-in_err-rest-clause-reads : goal.compound::if_rest-returns-in_err-rest-clause-reads
+compound::if_rest-returns-in_err-rest-clause-reads t c =
+    let p = err_from_is_err_and c.from_residual-in_err-rest.result c.from_residual-in_err-rest.ensures.1 in
+    rw (p.1, p.2) (λ p b. closing_fails (Reads (at_if_rest c.args.parser.extent p b) c.args.tokens.now) symbol.If c.in_ok-otherwise.rest.now c.in_err-rest.field-0.0 c.in_err-rest.ensures (λ rest h. if_open c.args.parser.extent p b c.args.tokens.now c.in_ok-others.rest.now c.in_ok-otherwise.rest.now rest (branches_of c.in_ok-others.others.items) c.in_ok-otherwise.otherwise.items c.in_ok-others.ensures.reads c.in_ok-others.ensures.no_longer c.in_ok-otherwise.ensures.reads c.in_ok-otherwise.ensures.no_longer h))
+
+pub compound::if_rest-returns-in_err-rest-clause-shorter : goal.compound::if_rest-returns-in_err-rest-clause-shorter
+compound::if_rest-returns-in_err-rest-clause-shorter t c = rw ((err_from_is_err_and c.from_residual-in_err-rest.result c.from_residual-in_err-rest.ensures.1).1) tt
+
+pub compound::if_rest-returns-clause-reads : goal.compound::if_rest-returns-clause-reads
+compound::if_rest-returns-clause-reads t c = λ p b. if_rest_read c.args.parser.extent p b c.args.tokens.now c.in_ok-others.rest.now c.in_ok-otherwise.rest.now c.in_ok-rest.rest.now (branches_of c.in_ok-others.others.items) c.in_ok-otherwise.otherwise.items c.in_ok-others.ensures.reads c.in_ok-others.ensures.no_longer c.in_ok-otherwise.ensures.reads c.in_ok-otherwise.ensures.no_longer c.in_ok-rest.ensures
+
+pub compound::if_rest-returns-clause-shorter : goal.compound::if_rest-returns-clause-shorter
+compound::if_rest-returns-clause-shorter t c = omega (arith, c.in_ok-others.ensures.no_longer, c.in_ok-otherwise.ensures.no_longer, c.in_ok-rest.ensures.shorter)
+
+pub compound::if_statement-returns-in_err-first-clause-reads : goal.compound::if_statement-returns-in_err-first-clause-reads
+compound::if_statement-returns-in_err-first-clause-reads t c =
+    let p = err_from_is_err_and c.from_residual.result c.from_residual.ensures.1 in
+    rw (p.1, p.2) (part_fails (Reads (at.at_branch c.args.parser.extent) c.args.tokens.now) (Reads (at.at_if c.args.parser.extent c.args.pos) c.args.tokens.now) c.in_err-first.field-0.0 c.in_err-first.ensures.reads (λ rest h. if_fail c.args.parser.extent c.args.pos c.args.tokens.now rest h))
+
+pub compound::if_statement-returns-in_err-first-clause-shorter : goal.compound::if_statement-returns-in_err-first-clause-shorter
+compound::if_statement-returns-in_err-first-clause-shorter t c = rw ((err_from_is_err_and c.from_residual.result c.from_residual.ensures.1).1) tt
+
+pub compound::if_statement-returns-in_err-others-clause-reads : goal.compound::if_statement-returns-in_err-others-clause-reads
+compound::if_statement-returns-in_err-others-clause-reads t c =
+    let p = err_from_is_err_and c.from_residual-in_err-others.result c.from_residual-in_err-others.ensures.1 in
+    rw (p.1, p.2) (part_fails (Reads (at_if_rest c.args.parser.extent c.args.pos (branch_parts c.in_ok-first.first)) c.in_ok-first.rest.now) (Reads (at.at_if c.args.parser.extent c.args.pos) c.args.tokens.now) c.in_err-others.field-0.0 (c.in_err-others.ensures.reads c.args.pos (branch_parts c.in_ok-first.first)) (λ rest h. if_then c.args.parser.extent c.args.pos c.args.tokens.now c.in_ok-first.rest.now c.in_ok-first.first (Stuck rest) c.in_ok-first.ensures.reads c.in_ok-first.ensures.shorter h))
+
+pub compound::if_statement-returns-in_err-others-clause-shorter : goal.compound::if_statement-returns-in_err-others-clause-shorter
+compound::if_statement-returns-in_err-others-clause-shorter t c = rw ((err_from_is_err_and c.from_residual-in_err-others.result c.from_residual-in_err-others.ensures.1).1) tt
 
 pub compound::if_statement-returns-clause-reads : goal.compound::if_statement-returns-clause-reads
 compound::if_statement-returns-clause-reads t c =
-    let w = before_end (λ v. v.items) (at.at_else c.args.parser.extent) (λ n. n ≤ length c.in_ok-others.rest.now) symbol.If c.in_ok-others.rest.now c.else_part.result c.in_ok-otherwise.otherwise c.in_ok-otherwise.rest c.else_part.ensures.reads c.else_part.ensures.no_longer c.in_ok-otherwise.ensures in
-    if_read c.args.parser.extent c.args.pos c.args.tokens.now c.in_ok-first.rest.now c.in_ok-others.rest.now w.before c.in_ok-otherwise.rest.now c.in_ok-first.first (branches_of c.in_ok-others.others.items) c.in_ok-otherwise.otherwise.items c.in_ok-first.ensures.reads c.in_ok-first.ensures.shorter c.in_ok-others.ensures.reads c.in_ok-others.ensures.no_longer w.reads w.near w.word
+    if_then c.args.parser.extent c.args.pos c.args.tokens.now c.in_ok-first.rest.now c.in_ok-first.first (Got (conditional c.args.pos c.in_ok-first.first.condition (statements_of c.in_ok-first.first.statements.items) (branches_of c.in_ok-others.others.items) (statements_of c.in_ok-others.otherwise.items)) c.in_ok-others.rest.now) c.in_ok-first.ensures.reads c.in_ok-first.ensures.shorter (c.in_ok-others.ensures.reads c.args.pos (branch_parts c.in_ok-first.first))
 
 pub compound::if_statement-returns-clause-shorter : goal.compound::if_statement-returns-clause-shorter
-compound::if_statement-returns-clause-shorter t c =
-    let w = before_end (λ v. v.items) (at.at_else c.args.parser.extent) (λ n. n ≤ length c.in_ok-others.rest.now) symbol.If c.in_ok-others.rest.now c.else_part.result c.in_ok-otherwise.otherwise c.in_ok-otherwise.rest c.else_part.ensures.reads c.else_part.ensures.no_longer c.in_ok-otherwise.ensures in
-    omega (arith, c.in_ok-first.ensures.shorter, c.in_ok-others.ensures.no_longer, w.near, w.word.shorter)
+compound::if_statement-returns-clause-shorter t c = omega (arith, c.in_ok-first.ensures.shorter, c.in_ok-others.ensures.shorter)
+
+pub compound::loop_body-returns-in_err-rest-clause-reads : goal.compound::loop_body-returns-in_err-rest-clause-reads
+compound::loop_body-returns-in_err-rest-clause-reads t c =
+    let p = err_from_is_err_and c.from_residual.result c.from_residual.ensures.1 in
+    rw (p.1, p.2) (λ p s. word_handed_on (Reads (at.at_loop c.args.parser.extent p s) c.args.tokens.now) symbol.Loop c.args.tokens.now c.in_err-rest.field-0.0 c.in_err-rest.ensures (λ rest e. loop_none c.args.parser.extent p s c.args.tokens.now rest e))
+
+pub compound::loop_body-returns-in_err-rest-clause-shorter : goal.compound::loop_body-returns-in_err-rest-clause-shorter
+compound::loop_body-returns-in_err-rest-clause-shorter t c = rw ((err_from_is_err_and c.from_residual.result c.from_residual.ensures.1).1) tt
+
+pub compound::loop_body-returns-in_err-statements-clause-reads : goal.compound::loop_body-returns-in_err-statements-clause-reads
+compound::loop_body-returns-in_err-statements-clause-reads t c =
+    let p = err_from_is_err_and c.from_residual-in_err-statements.result c.from_residual-in_err-statements.ensures.1 in
+    rw (p.1, p.2) (λ p s. part_fails (Reads (at.at_statements c.args.parser.extent) c.in_ok-rest.rest.now) (Reads (at.at_loop c.args.parser.extent p s) c.args.tokens.now) c.in_err-statements.field-0.0 c.in_err-statements.ensures.reads (λ rest h. loop_empty c.args.parser.extent p s c.args.tokens.now c.in_ok-rest.rest.now rest c.in_ok-rest.ensures h))
+
+pub compound::loop_body-returns-in_err-statements-clause-shorter : goal.compound::loop_body-returns-in_err-statements-clause-shorter
+compound::loop_body-returns-in_err-statements-clause-shorter t c = rw ((err_from_is_err_and c.from_residual-in_err-statements.result c.from_residual-in_err-statements.ensures.1).1) tt
+
+pub compound::loop_body-returns-in_err-rest-2-clause-reads : goal.compound::loop_body-returns-in_err-rest-2-clause-reads
+compound::loop_body-returns-in_err-rest-2-clause-reads t c =
+    let p = err_from_is_err_and c.from_residual-in_err-rest-2.result c.from_residual-in_err-rest-2.ensures.1 in
+    rw (p.1, p.2) (λ p s. closing_fails (Reads (at.at_loop c.args.parser.extent p s) c.args.tokens.now) symbol.Loop c.in_ok-statements.rest.now c.in_err-rest-2.field-0.0 c.in_err-rest-2.ensures (λ rest h. loop_open c.args.parser.extent p s c.args.tokens.now c.in_ok-rest.rest.now c.in_ok-statements.rest.now rest c.in_ok-statements.statements.items c.in_ok-rest.ensures c.in_ok-statements.ensures.reads h))
+
+pub compound::loop_body-returns-in_err-rest-2-clause-shorter : goal.compound::loop_body-returns-in_err-rest-2-clause-shorter
+compound::loop_body-returns-in_err-rest-2-clause-shorter t c = rw ((err_from_is_err_and c.from_residual-in_err-rest-2.result c.from_residual-in_err-rest-2.ensures.1).1) tt
+
+pub compound::loop_body-returns-clause-reads : goal.compound::loop_body-returns-clause-reads
+compound::loop_body-returns-clause-reads t c = λ p s. loop_read c.args.parser.extent p s c.args.tokens.now c.in_ok-rest.rest.now c.in_ok-statements.rest.now c.in_ok-rest-2.rest.now c.in_ok-statements.statements.items c.in_ok-rest.ensures c.in_ok-statements.ensures.reads c.in_ok-rest-2.ensures
+
+pub compound::loop_body-returns-clause-shorter : goal.compound::loop_body-returns-clause-shorter
+compound::loop_body-returns-clause-shorter t c = omega (arith, c.in_ok-rest.ensures.shorter, c.in_ok-statements.ensures.shorter, c.in_ok-rest-2.ensures.shorter)
+
+pub compound::case_arms-returns-in_err-alternatives-clause-reads : goal.compound::case_arms-returns-in_err-alternatives-clause-reads
+compound::case_arms-returns-in_err-alternatives-clause-reads t c =
+    let p = err_from_is_err_and c.from_residual.result c.from_residual.ensures.1 in
+    rw (p.1, p.2) (λ p e. part_fails (Reads (at.at_alternatives c.args.parser.extent) c.args.tokens.now) (Reads (at_case_arms c.args.parser.extent p e) c.args.tokens.now) c.in_err-alternatives.field-0.0 c.in_err-alternatives.ensures.reads (λ rest h. arms_fail c.args.parser.extent p e c.args.tokens.now rest h))
+
+pub compound::case_arms-returns-in_err-alternatives-clause-shorter : goal.compound::case_arms-returns-in_err-alternatives-clause-shorter
+compound::case_arms-returns-in_err-alternatives-clause-shorter t c = rw ((err_from_is_err_and c.from_residual.result c.from_residual.ensures.1).1) tt
+
+pub compound::case_arms-returns-in_err-rest-clause-reads : goal.compound::case_arms-returns-in_err-rest-clause-reads
+compound::case_arms-returns-in_err-rest-clause-reads t c =
+    let p = err_from_is_err_and c.from_residual-in_err-rest.result c.from_residual-in_err-rest.ensures.1 in
+    rw (p.1, p.2) (λ p e. closing_fails (Reads (at_case_arms c.args.parser.extent p e) c.args.tokens.now) symbol.Case c.in_ok-alternatives.rest.now c.in_err-rest.field-0.0 c.in_err-rest.ensures (λ rest h. arms_open c.args.parser.extent p e c.args.tokens.now c.in_ok-alternatives.rest.now rest (alternatives_of c.in_ok-alternatives.alternatives.items) c.in_ok-alternatives.ensures.reads c.in_ok-alternatives.ensures.shorter h))
+
+pub compound::case_arms-returns-in_err-rest-clause-shorter : goal.compound::case_arms-returns-in_err-rest-clause-shorter
+compound::case_arms-returns-in_err-rest-clause-shorter t c = rw ((err_from_is_err_and c.from_residual-in_err-rest.result c.from_residual-in_err-rest.ensures.1).1) tt
+
+pub compound::case_arms-returns-clause-reads : goal.compound::case_arms-returns-clause-reads
+compound::case_arms-returns-clause-reads t c = λ p e. arms_read c.args.parser.extent p e c.args.tokens.now c.in_ok-alternatives.rest.now c.in_ok-rest.rest.now (alternatives_of c.in_ok-alternatives.alternatives.items) c.in_ok-alternatives.ensures.reads c.in_ok-alternatives.ensures.shorter c.in_ok-rest.ensures
+
+pub compound::case_arms-returns-clause-shorter : goal.compound::case_arms-returns-clause-shorter
+compound::case_arms-returns-clause-shorter t c = omega (arith, c.in_ok-alternatives.ensures.shorter, c.in_ok-rest.ensures.shorter)
 
 pub compound::case_statement-returns-in_err-selector-clause-reads : goal.compound::case_statement-returns-in_err-selector-clause-reads
 compound::case_statement-returns-in_err-selector-clause-reads t c =
     let p = err_from_is_err_and c.from_residual.result c.from_residual.ensures.1 in
-    rw (p.1, p.2) (word_fails (λ z. z) (at_expr c.args.parser.extent) (λ n. n < length c.args.tokens.now) symbol.Is c.args.tokens.now (Reads (at.at_case c.args.parser.extent c.args.pos) c.args.tokens.now) (λ rest h. case_fail c.args.parser.extent c.args.pos c.args.tokens.now rest h) c.expr.result c.in_err-selector.field-0.0 c.expr.ensures.reads c.expr.ensures.shorter c.in_err-selector.ensures (λ e us rest h l n. case_no_is c.args.parser.extent c.args.pos c.args.tokens.now us rest e h l n))
+    rw (p.1, p.2) (part_fails (Reads (before symbol.Is (at_expr c.args.parser.extent)) c.args.tokens.now) (Reads (at.at_case c.args.parser.extent c.args.pos) c.args.tokens.now) c.in_err-selector.field-0.0 c.in_err-selector.ensures.reads (λ rest h. case_fail c.args.parser.extent c.args.pos c.args.tokens.now rest h))
 
 pub compound::case_statement-returns-in_err-selector-clause-shorter : goal.compound::case_statement-returns-in_err-selector-clause-shorter
 compound::case_statement-returns-in_err-selector-clause-shorter t c = rw ((err_from_is_err_and c.from_residual.result c.from_residual.ensures.1).1) tt
@@ -121,45 +193,288 @@ compound::case_statement-returns-in_err-selector-clause-shorter t c = rw ((err_f
 pub compound::case_statement-returns-in_err-alternatives-clause-reads : goal.compound::case_statement-returns-in_err-alternatives-clause-reads
 compound::case_statement-returns-in_err-alternatives-clause-reads t c =
     let p = err_from_is_err_and c.from_residual-in_err-alternatives.result c.from_residual-in_err-alternatives.ensures.1 in
-    rw (p.1, p.2) (let w = before_word (λ z. z) (at_expr c.args.parser.extent) (λ n. n < length c.args.tokens.now) symbol.Is c.args.tokens.now c.expr.result c.in_ok-selector.selector c.in_ok-selector.rest c.expr.ensures.reads c.expr.ensures.shorter c.in_ok-selector.ensures in end_fails (λ v. alternatives_of v.items) (at.at_alternatives c.args.parser.extent) (λ n. n < length c.in_ok-selector.rest.now) symbol.Case c.in_ok-selector.rest.now (Reads (at.at_case c.args.parser.extent c.args.pos) c.args.tokens.now) (λ rest h. case_empty c.args.parser.extent c.args.pos c.args.tokens.now w.before c.in_ok-selector.rest.now rest c.in_ok-selector.selector w.reads w.near w.word h) c.alternatives.result c.in_err-alternatives.field-0.0 c.alternatives.ensures.reads c.alternatives.ensures.shorter c.in_err-alternatives.ensures (λ v ys rest h l n. case_open c.args.parser.extent c.args.pos c.args.tokens.now w.before c.in_ok-selector.rest.now ys rest c.in_ok-selector.selector (alternatives_of v.items) w.reads w.near w.word h l n))
+    rw (p.1, p.2) (part_fails (Reads (at_case_arms c.args.parser.extent c.args.pos c.in_ok-selector.selector) c.in_ok-selector.rest.now) (Reads (at.at_case c.args.parser.extent c.args.pos) c.args.tokens.now) c.in_err-alternatives.field-0.0 (c.in_err-alternatives.ensures.reads c.args.pos c.in_ok-selector.selector) (λ rest h. case_then c.args.parser.extent c.args.pos c.args.tokens.now c.in_ok-selector.rest.now c.in_ok-selector.selector (Stuck rest) c.in_ok-selector.ensures.reads c.in_ok-selector.ensures.shorter h))
 
 pub compound::case_statement-returns-in_err-alternatives-clause-shorter : goal.compound::case_statement-returns-in_err-alternatives-clause-shorter
 compound::case_statement-returns-in_err-alternatives-clause-shorter t c = rw ((err_from_is_err_and c.from_residual-in_err-alternatives.result c.from_residual-in_err-alternatives.ensures.1).1) tt
 
 pub compound::case_statement-returns-clause-reads : goal.compound::case_statement-returns-clause-reads
 compound::case_statement-returns-clause-reads t c =
-    let w = before_word (λ z. z) (at_expr c.args.parser.extent) (λ n. n < length c.args.tokens.now) symbol.Is c.args.tokens.now c.expr.result c.in_ok-selector.selector c.in_ok-selector.rest c.expr.ensures.reads c.expr.ensures.shorter c.in_ok-selector.ensures in
-    let e = before_end (λ v. alternatives_of v.items) (at.at_alternatives c.args.parser.extent) (λ n. n < length c.in_ok-selector.rest.now) symbol.Case c.in_ok-selector.rest.now c.alternatives.result c.in_ok-alternatives.alternatives c.in_ok-alternatives.rest c.alternatives.ensures.reads c.alternatives.ensures.shorter c.in_ok-alternatives.ensures in
-    case_read c.args.parser.extent c.args.pos c.args.tokens.now w.before c.in_ok-selector.rest.now e.before c.in_ok-alternatives.rest.now c.in_ok-selector.selector (alternatives_of c.in_ok-alternatives.alternatives.items) w.reads w.near w.word e.reads e.near e.word
+    case_then c.args.parser.extent c.args.pos c.args.tokens.now c.in_ok-selector.rest.now c.in_ok-selector.selector (Got (case_of c.args.pos c.in_ok-selector.selector (alternatives_of c.in_ok-alternatives.alternatives.items)) c.in_ok-alternatives.rest.now) c.in_ok-selector.ensures.reads c.in_ok-selector.ensures.shorter (c.in_ok-alternatives.ensures.reads c.args.pos c.in_ok-selector.selector)
 
 pub compound::case_statement-returns-clause-shorter : goal.compound::case_statement-returns-clause-shorter
-compound::case_statement-returns-clause-shorter t c =
-    let w = before_word (λ z. z) (at_expr c.args.parser.extent) (λ n. n < length c.args.tokens.now) symbol.Is c.args.tokens.now c.expr.result c.in_ok-selector.selector c.in_ok-selector.rest c.expr.ensures.reads c.expr.ensures.shorter c.in_ok-selector.ensures in
-    let e = before_end (λ v. alternatives_of v.items) (at.at_alternatives c.args.parser.extent) (λ n. n < length c.in_ok-selector.rest.now) symbol.Case c.in_ok-selector.rest.now c.alternatives.result c.in_ok-alternatives.alternatives c.in_ok-alternatives.rest c.alternatives.ensures.reads c.alternatives.ensures.shorter c.in_ok-alternatives.ensures in
-    omega (arith, w.near, w.word.shorter, e.near, e.word.shorter)
+compound::case_statement-returns-clause-shorter t c = omega (arith, c.in_ok-selector.ensures.shorter, c.in_ok-alternatives.ensures.shorter)
 
-pub compound::loop_rest-returns-in_err-scheme-clause-reads : goal.compound::loop_rest-returns-in_err-scheme-clause-reads
-compound::loop_rest-returns-in_err-scheme-clause-reads t c =
+pub compound::branch-returns-in_err-condition-clause-reads : goal.compound::branch-returns-in_err-condition-clause-reads
+compound::branch-returns-in_err-condition-clause-reads t c =
     let p = err_from_is_err_and c.from_residual.result c.from_residual.ensures.1 in
-    rw (p.1, p.2) (given_fails (Reads (at.at_loop c.args.parser.extent c.args.pos c.args.scheme) c.args.tokens.now) symbol.Loop c.args.scheme c.args.tokens c.in_err-scheme.field-0.0 c.in_err-scheme.ensures (λ rest n. loop_none c.args.parser.extent c.args.pos c.args.scheme c.args.tokens.now rest n))
+    rw (p.1, p.2) (part_fails (Reads (before symbol.Then (at_expr c.args.parser.extent)) c.args.tokens.now) (Reads (at.at_branch c.args.parser.extent) c.args.tokens.now) c.in_err-condition.field-0.0 c.in_err-condition.ensures.reads (λ rest h. branch_fail c.args.parser.extent c.args.tokens.now rest h))
 
-pub compound::loop_rest-returns-in_err-scheme-clause-shorter : goal.compound::loop_rest-returns-in_err-scheme-clause-shorter
-compound::loop_rest-returns-in_err-scheme-clause-shorter t c = rw ((err_from_is_err_and c.from_residual.result c.from_residual.ensures.1).1) tt
+pub compound::branch-returns-in_err-condition-clause-shorter : goal.compound::branch-returns-in_err-condition-clause-shorter
+compound::branch-returns-in_err-condition-clause-shorter t c = rw ((err_from_is_err_and c.from_residual.result c.from_residual.ensures.1).1) tt
+
+pub compound::branch-returns-in_err-statements-clause-reads : goal.compound::branch-returns-in_err-statements-clause-reads
+compound::branch-returns-in_err-statements-clause-reads t c =
+    let p = err_from_is_err_and c.from_residual-in_err-statements.result c.from_residual-in_err-statements.ensures.1 in
+    rw (p.1, p.2) (part_fails (Reads (at.at_statements c.args.parser.extent) c.in_ok-condition.rest.now) (Reads (at.at_branch c.args.parser.extent) c.args.tokens.now) c.in_err-statements.field-0.0 c.in_err-statements.ensures.reads (λ rest h. branch_empty c.args.parser.extent c.args.tokens.now c.in_ok-condition.rest.now rest c.in_ok-condition.condition c.in_ok-condition.ensures.reads c.in_ok-condition.ensures.shorter h))
+
+pub compound::branch-returns-in_err-statements-clause-shorter : goal.compound::branch-returns-in_err-statements-clause-shorter
+compound::branch-returns-in_err-statements-clause-shorter t c = rw ((err_from_is_err_and c.from_residual-in_err-statements.result c.from_residual-in_err-statements.ensures.1).1) tt
+
+pub compound::branch-returns-clause-reads : goal.compound::branch-returns-clause-reads
+compound::branch-returns-clause-reads t c = branch_read c.args.parser.extent c.args.tokens.now c.in_ok-condition.rest.now c.in_ok-statements.rest.now c.in_ok-condition.condition c.in_ok-statements.statements.items c.in_ok-condition.ensures.reads c.in_ok-condition.ensures.shorter c.in_ok-statements.ensures.reads
+
+pub compound::branch-returns-clause-shorter : goal.compound::branch-returns-clause-shorter
+compound::branch-returns-clause-shorter t c = omega (arith, c.in_ok-condition.ensures.shorter, c.in_ok-statements.ensures.shorter)
 
 pub compound::loop_rest-returns-in_err-statements-clause-reads : goal.compound::loop_rest-returns-in_err-statements-clause-reads
 compound::loop_rest-returns-in_err-statements-clause-reads t c =
-    let p = err_from_is_err_and c.from_residual-in_err-statements.result c.from_residual-in_err-statements.ensures.1 in
-    rw (p.1, p.2) (end_fails (λ v. v.items) (at.at_statements c.args.parser.extent) (λ n. n < length c.in_ok-scheme.rest.now) symbol.Loop c.in_ok-scheme.rest.now (Reads (at.at_loop c.args.parser.extent c.args.pos c.args.scheme) c.args.tokens.now) (λ rest h. loop_empty c.args.parser.extent c.args.pos c.args.scheme c.args.tokens.now c.in_ok-scheme.rest.now rest c.in_ok-scheme.ensures.1 h) c.nested.result c.in_err-statements.field-0.0 c.nested.ensures.reads c.nested.ensures.shorter c.in_err-statements.ensures (λ v vs rest h l n. loop_open c.args.parser.extent c.args.pos c.args.scheme c.args.tokens.now c.in_ok-scheme.rest.now vs rest v.items c.in_ok-scheme.ensures.1 h n))
+    let p = err_from_is_err_and c.from_residual.result c.from_residual.ensures.1 in
+    rw (p.1, p.2) (c.in_err-statements.ensures.reads c.args.pos c.args.scheme)
 
 pub compound::loop_rest-returns-in_err-statements-clause-shorter : goal.compound::loop_rest-returns-in_err-statements-clause-shorter
-compound::loop_rest-returns-in_err-statements-clause-shorter t c = rw ((err_from_is_err_and c.from_residual-in_err-statements.result c.from_residual-in_err-statements.ensures.1).1) tt
+compound::loop_rest-returns-in_err-statements-clause-shorter t c = rw ((err_from_is_err_and c.from_residual.result c.from_residual.ensures.1).1) tt
 
 pub compound::loop_rest-returns-clause-reads : goal.compound::loop_rest-returns-clause-reads
-compound::loop_rest-returns-clause-reads t c =
-    let w = before_end (λ v. v.items) (at.at_statements c.args.parser.extent) (λ n. n < length c.in_ok-scheme.rest.now) symbol.Loop c.in_ok-scheme.rest.now c.nested.result c.in_ok-statements.statements c.in_ok-statements.rest c.nested.ensures.reads c.nested.ensures.shorter c.in_ok-statements.ensures in
-    rw c.in_ok-scheme.ensures.0 (loop_read c.args.parser.extent c.args.pos c.args.scheme c.args.tokens.now c.in_ok-scheme.rest.now w.before c.in_ok-statements.rest.now c.in_ok-statements.statements.items c.in_ok-scheme.ensures.1 w.reads w.word)
+compound::loop_rest-returns-clause-reads t c = c.in_ok-statements.ensures.reads c.args.pos c.args.scheme
 
 pub compound::loop_rest-returns-clause-shorter : goal.compound::loop_rest-returns-clause-shorter
-compound::loop_rest-returns-clause-shorter t c =
-    let w = before_end (λ v. v.items) (at.at_statements c.args.parser.extent) (λ n. n < length c.in_ok-scheme.rest.now) symbol.Loop c.in_ok-scheme.rest.now c.nested.result c.in_ok-statements.statements c.in_ok-statements.rest c.nested.ensures.reads c.nested.ensures.shorter c.in_ok-statements.ensures in
-    omega (arith, c.in_ok-scheme.ensures.1.shorter, w.near, w.word.shorter)
+compound::loop_rest-returns-clause-shorter t c = c.in_ok-statements.ensures.shorter
+
+pub compound::while_loop-returns-in_err-condition-clause-reads : goal.compound::while_loop-returns-in_err-condition-clause-reads
+compound::while_loop-returns-in_err-condition-clause-reads t c =
+    let p = err_from_is_err_and c.from_residual.result c.from_residual.ensures.1 in
+    rw (p.1, p.2) (part_fails (Reads (at_expr c.args.parser.extent) c.args.tokens.now) (Reads (at.at_while c.args.parser.extent c.args.pos) c.args.tokens.now) c.in_err-condition.field-0.0 c.in_err-condition.ensures.reads (λ rest h. while_fail c.args.parser.extent c.args.pos c.args.tokens.now rest h))
+
+pub compound::while_loop-returns-in_err-condition-clause-shorter : goal.compound::while_loop-returns-in_err-condition-clause-shorter
+compound::while_loop-returns-in_err-condition-clause-shorter t c = rw ((err_from_is_err_and c.from_residual.result c.from_residual.ensures.1).1) tt
+
+pub compound::while_loop-returns-clause-reads : goal.compound::while_loop-returns-clause-reads
+compound::while_loop-returns-clause-reads t c = shown_so (λ z. z) (Reads (at.at_loop c.args.parser.extent c.args.pos (While c.in_ok-condition.condition)) c.in_ok-condition.rest.now) (Reads (at.at_while c.args.parser.extent c.args.pos) c.args.tokens.now) c.loop_rest.result c.loop_rest.ensures.reads (λ q. while_read c.args.parser.extent c.args.pos c.args.tokens.now c.in_ok-condition.rest.now c.in_ok-condition.condition q c.in_ok-condition.ensures.reads c.in_ok-condition.ensures.shorter)
+
+pub compound::while_loop-returns-clause-shorter : goal.compound::while_loop-returns-clause-shorter
+compound::while_loop-returns-clause-shorter t c = below_behind c.args.tokens.now c.in_ok-condition.rest.now c.loop_rest.result (omega (arith, c.in_ok-condition.ensures.shorter)) c.loop_rest.ensures.shorter
+
+pub compound::for_loop-returns-in_err-parameter-clause-reads : goal.compound::for_loop-returns-in_err-parameter-clause-reads
+compound::for_loop-returns-in_err-parameter-clause-reads t c =
+    let p = err_from_is_err_and c.from_residual.result c.from_residual.ensures.1 in
+    rw (p.1, p.2) (name_fails (Reads (at.at_for c.args.parser.extent c.args.pos) c.args.tokens.now) c.args.tokens.now (λ rest e. for_fail c.args.parser.extent c.args.pos c.args.tokens.now rest e) c.in_err-parameter.field-0.0 c.in_err-parameter.ensures)
+
+pub compound::for_loop-returns-in_err-parameter-clause-shorter : goal.compound::for_loop-returns-in_err-parameter-clause-shorter
+compound::for_loop-returns-in_err-parameter-clause-shorter t c = rw ((err_from_is_err_and c.from_residual.result c.from_residual.ensures.1).1) tt
+
+pub compound::for_loop-returns-in_err-rest-clause-reads : goal.compound::for_loop-returns-in_err-rest-clause-reads
+compound::for_loop-returns-in_err-rest-clause-reads t c =
+    let p = err_from_is_err_and c.from_residual-in_err-rest.result c.from_residual-in_err-rest.ensures.1 in
+    rw (p.1, p.2) (word_handed_on (Reads (at.at_for c.args.parser.extent c.args.pos) c.args.tokens.now) symbol.In c.in_ok-parameter.rest.now c.in_err-rest.field-0.0 c.in_err-rest.ensures (λ rest e. for_no_in c.args.parser.extent c.args.pos c.args.tokens.now c.in_ok-parameter.rest.now rest c.in_ok-parameter.parameter c.in_ok-parameter.ensures e))
+
+pub compound::for_loop-returns-in_err-rest-clause-shorter : goal.compound::for_loop-returns-in_err-rest-clause-shorter
+compound::for_loop-returns-in_err-rest-clause-shorter t c = rw ((err_from_is_err_and c.from_residual-in_err-rest.result c.from_residual-in_err-rest.ensures.1).1) tt
+
+pub compound::for_loop-returns-in_err-values-clause-reads : goal.compound::for_loop-returns-in_err-values-clause-reads
+compound::for_loop-returns-in_err-values-clause-reads t c =
+    let p = err_from_is_err_and c.from_residual-in_err-values.result c.from_residual-in_err-values.ensures.1 in
+    rw (p.1, p.2) (part_fails (Reads (range_by c.args.parser.extent) c.direction-direction.result.1.now) (Reads (at.at_for c.args.parser.extent c.args.pos) c.args.tokens.now) c.in_err-values.field-0.0 c.in_err-values.ensures.reads (λ rest h. for_range_fail c.args.parser.extent c.args.pos c.args.tokens.now c.in_ok-parameter.rest.now c.in_ok-rest.rest.now c.direction-direction.result.1.now rest c.in_ok-parameter.parameter c.direction-direction.result.0 c.in_ok-parameter.ensures c.in_ok-rest.ensures c.direction-direction.ensures.reads c.direction-direction.ensures.no_longer h))
+
+pub compound::for_loop-returns-in_err-values-clause-shorter : goal.compound::for_loop-returns-in_err-values-clause-shorter
+compound::for_loop-returns-in_err-values-clause-shorter t c = rw ((err_from_is_err_and c.from_residual-in_err-values.result c.from_residual-in_err-values.ensures.1).1) tt
+
+pub compound::for_loop-returns-clause-reads : goal.compound::for_loop-returns-clause-reads
+compound::for_loop-returns-clause-reads t c =
+    shown_so (λ z. z) (Reads (at.at_loop c.args.parser.extent c.args.pos (For c.in_ok-parameter.parameter c.direction-direction.result.0 c.in_ok-values.values)) c.in_ok-values.rest.now) (Reads (at.at_for c.args.parser.extent c.args.pos) c.args.tokens.now) c.loop_rest.result c.loop_rest.ensures.reads (λ q. for_read c.args.parser.extent c.args.pos c.args.tokens.now c.in_ok-parameter.rest.now c.in_ok-rest.rest.now c.direction-direction.result.1.now c.in_ok-values.rest.now c.in_ok-parameter.parameter c.direction-direction.result.0 c.in_ok-values.values q c.in_ok-parameter.ensures c.in_ok-rest.ensures c.direction-direction.ensures.reads c.direction-direction.ensures.no_longer c.in_ok-values.ensures.reads c.in_ok-values.ensures.shorter)
+
+pub compound::for_loop-returns-clause-shorter : goal.compound::for_loop-returns-clause-shorter
+compound::for_loop-returns-clause-shorter t c = below_behind c.args.tokens.now c.in_ok-values.rest.now c.loop_rest.result (omega (arith, c.in_ok-parameter.ensures.shorter, c.in_ok-rest.ensures.shorter, c.direction-direction.ensures.no_longer, c.in_ok-values.ensures.shorter)) c.loop_rest.ensures.shorter
+
+pub compound::block-returns-in_err-handled-clause-reads : goal.compound::block-returns-in_err-handled-clause-reads
+compound::block-returns-in_err-handled-clause-reads t c =
+    let p = err_from_is_err_and c.from_residual.result c.from_residual.ensures.1 in
+    rw (p.1, p.2) (part_fails (Reads (at.at_handled c.args.parser.extent) c.args.tokens.now) (Reads (at.at_block c.args.parser.extent c.args.pos c.args.declarations) c.args.tokens.now) c.in_err-handled.field-0.0 c.in_err-handled.ensures.reads (λ rest h. block_fail c.args.parser.extent c.args.pos c.args.declarations c.args.tokens.now rest h))
+
+pub compound::block-returns-in_err-handled-clause-shorter : goal.compound::block-returns-in_err-handled-clause-shorter
+compound::block-returns-in_err-handled-clause-shorter t c = rw ((err_from_is_err_and c.from_residual.result c.from_residual.ensures.1).1) tt
+
+pub compound::block-returns-in_err-rest-clause-reads : goal.compound::block-returns-in_err-rest-clause-reads
+compound::block-returns-in_err-rest-clause-reads t c =
+    let p = err_from_is_err_and c.from_residual-in_err-rest.result c.from_residual-in_err-rest.ensures.1 in
+    rw (p.1, p.2) (end_fails (Reads (at.at_block c.args.parser.extent c.args.pos c.args.declarations) c.args.tokens.now) c.in_ok-handled.rest.now c.in_err-rest.field-0.0 c.in_err-rest.ensures (λ rest n. block_open c.args.parser.extent c.args.pos c.args.declarations c.args.tokens.now c.in_ok-handled.rest.now rest c.in_ok-handled.handled c.in_ok-handled.ensures.reads c.in_ok-handled.ensures.shorter n))
+
+pub compound::block-returns-in_err-rest-clause-shorter : goal.compound::block-returns-in_err-rest-clause-shorter
+compound::block-returns-in_err-rest-clause-shorter t c = rw ((err_from_is_err_and c.from_residual-in_err-rest.result c.from_residual-in_err-rest.ensures.1).1) tt
+
+pub compound::block-returns-clause-reads : goal.compound::block-returns-clause-reads
+compound::block-returns-clause-reads t c = block_read c.args.parser.extent c.args.pos c.args.declarations c.args.tokens.now c.in_ok-handled.rest.now c.in_ok-rest.rest.now c.in_ok-handled.handled c.in_ok-handled.ensures.reads c.in_ok-handled.ensures.shorter c.in_ok-rest.ensures
+
+pub compound::block-returns-clause-shorter : goal.compound::block-returns-clause-shorter
+compound::block-returns-clause-shorter t c = omega (arith, c.in_ok-handled.ensures.shorter, c.in_ok-rest.ensures.shorter)
+
+pub compound::declaring_block-returns-in_err-declarations-clause-reads : goal.compound::declaring_block-returns-in_err-declarations-clause-reads
+compound::declaring_block-returns-in_err-declarations-clause-reads t c =
+    let p = err_from_is_err_and c.from_residual.result c.from_residual.ensures.1 in
+    rw (p.1, p.2) (part_fails (Reads (before symbol.Begin (declarations_by c.args.parser.extent)) c.args.tokens.now) (Reads (at.at_declaring c.args.parser.extent c.args.pos) c.args.tokens.now) c.in_err-declarations.field-0.0 c.in_err-declarations.ensures.reads (λ rest h. declaring_fail c.args.parser.extent c.args.pos c.args.tokens.now rest h))
+
+pub compound::declaring_block-returns-in_err-declarations-clause-shorter : goal.compound::declaring_block-returns-in_err-declarations-clause-shorter
+compound::declaring_block-returns-in_err-declarations-clause-shorter t c = rw ((err_from_is_err_and c.from_residual.result c.from_residual.ensures.1).1) tt
+
+pub compound::declaring_block-returns-clause-reads : goal.compound::declaring_block-returns-clause-reads
+compound::declaring_block-returns-clause-reads t c =
+    shown_so (λ z. z) (Reads (at.at_block c.args.parser.extent c.args.pos (Some c.from.result)) c.in_ok-declarations.rest.now) (Reads (at.at_declaring c.args.parser.extent c.args.pos) c.args.tokens.now) c.block.result c.block.ensures.reads (λ q f. declaring_read c.args.parser.extent c.args.pos c.args.tokens.now c.in_ok-declarations.rest.now c.in_ok-declarations.declarations.items q c.in_ok-declarations.ensures.reads c.in_ok-declarations.ensures.shorter (block_at c.args.parser.extent c.args.pos c.from.result c.in_ok-declarations.declarations.items c.in_ok-declarations.rest.now q c.from.ensures f))
+
+pub compound::declaring_block-returns-clause-shorter : goal.compound::declaring_block-returns-clause-shorter
+compound::declaring_block-returns-clause-shorter t c = below_behind c.args.tokens.now c.in_ok-declarations.rest.now c.block.result (omega (arith, c.in_ok-declarations.ensures.shorter)) c.block.ensures.shorter
+
+pub compound::else_part-returns-in_default-clause-reads : goal.compound::else_part-returns-in_default-clause-reads
+compound::else_part-returns-in_default-clause-reads t c = rw c.new.ensures.items (no_else c.args.parser.extent c.args.tokens.now (sym c.in_default.ensures))
+
+pub compound::else_part-returns-in_default-clause-no_longer : goal.compound::else_part-returns-in_default-clause-no_longer
+compound::else_part-returns-in_default-clause-no_longer t c = omega arith
+
+pub compound::else_part-returns-clause-reads : goal.compound::else_part-returns-clause-reads
+compound::else_part-returns-clause-reads t c = shown_so (λ v. v.items) (Reads (at.at_statements c.args.parser.extent) c.in-Some.after.now) (Reads (at.at_else c.args.parser.extent) c.args.tokens.now) c.nested.result c.nested.ensures.reads (λ q. an_else c.args.parser.extent c.args.tokens.now c.in-Some.after.now q (sym c.in-Some.ensures))
+
+pub compound::else_part-returns-clause-no_longer : goal.compound::else_part-returns-clause-no_longer
+compound::else_part-returns-clause-no_longer t c = within_below c.args.tokens.now c.nested.result (below_behind c.args.tokens.now c.in-Some.after.now c.nested.result (omega (arith, ap length (after_some symbol.Else c.args.tokens.now c.in-Some.after.now (sym c.in-Some.ensures)).here)) c.nested.ensures.shorter)
+
+pub statements::handled-returns-in_err-statements-clause-reads : goal.statements::handled-returns-in_err-statements-clause-reads
+statements::handled-returns-in_err-statements-clause-reads t c =
+    let p = err_from_is_err_and c.from_residual.result c.from_residual.ensures.1 in
+    rw (p.1, p.2) (part_fails (Reads (at.at_statements c.args.parser.extent) c.args.tokens.now) (Reads (at.at_handled c.args.parser.extent) c.args.tokens.now) c.in_err-statements.field-0.0 c.in_err-statements.ensures.reads (λ rest h. handled_fail c.args.parser.extent c.args.tokens.now rest h))
+
+pub statements::handled-returns-in_err-statements-clause-shorter : goal.statements::handled-returns-in_err-statements-clause-shorter
+statements::handled-returns-in_err-statements-clause-shorter t c = rw ((err_from_is_err_and c.from_residual.result c.from_residual.ensures.1).1) tt
+
+pub statements::handled-returns-in_err-handlers-clause-reads : goal.statements::handled-returns-in_err-handlers-clause-reads
+statements::handled-returns-in_err-handlers-clause-reads t c =
+    let p = err_from_is_err_and c.from_residual-in_err-handlers.result c.from_residual-in_err-handlers.ensures.1 in
+    rw (p.1, p.2) (part_fails (Reads (at.at_handlers c.args.parser.extent) c.in_ok-statements.rest.now) (Reads (at.at_handled c.args.parser.extent) c.args.tokens.now) c.in_err-handlers.field-0.0 c.in_err-handlers.ensures.reads (λ rest h. handlers_fail c.args.parser.extent c.args.tokens.now c.in_ok-statements.rest.now rest c.in_ok-statements.statements.items c.in_ok-statements.ensures.reads c.in_ok-statements.ensures.shorter h))
+
+pub statements::handled-returns-in_err-handlers-clause-shorter : goal.statements::handled-returns-in_err-handlers-clause-shorter
+statements::handled-returns-in_err-handlers-clause-shorter t c = rw ((err_from_is_err_and c.from_residual-in_err-handlers.result c.from_residual-in_err-handlers.ensures.1).1) tt
+
+pub statements::handled-returns-clause-reads : goal.statements::handled-returns-clause-reads
+statements::handled-returns-clause-reads t c = handled_read c.args.parser.extent c.args.tokens.now c.in_ok-statements.rest.now c.in_ok-handlers.rest.now c.in_ok-statements.statements.items (handlers_of c.in_ok-handlers.handlers.items) c.in_ok-statements.ensures.reads c.in_ok-statements.ensures.shorter c.in_ok-handlers.ensures.reads c.in_ok-handlers.ensures.no_longer
+
+pub statements::handled-returns-clause-shorter : goal.statements::handled-returns-clause-shorter
+statements::handled-returns-clause-shorter t c = omega (arith, c.in_ok-statements.ensures.shorter, c.in_ok-handlers.ensures.no_longer)
+
+pub arms::alternative-returns-in_err-choices-clause-reads : goal.arms::alternative-returns-in_err-choices-clause-reads
+arms::alternative-returns-in_err-choices-clause-reads t c =
+    let p = err_from_is_err_and c.from_residual.result c.from_residual.ensures.1 in
+    rw (p.1, p.2) (part_fails (Reads (before symbol.Arrow (read.choices_by c.args.parser.extent)) c.args.tokens.now) (Reads (at.at_alternative c.args.parser.extent) c.args.tokens.now) c.in_err-choices.field-0.0 c.in_err-choices.ensures.reads (λ rest h. alternative_fail c.args.parser.extent c.args.tokens.now rest h))
+
+pub arms::alternative-returns-in_err-choices-clause-shorter : goal.arms::alternative-returns-in_err-choices-clause-shorter
+arms::alternative-returns-in_err-choices-clause-shorter t c = rw ((err_from_is_err_and c.from_residual.result c.from_residual.ensures.1).1) tt
+
+pub arms::alternative-returns-in_err-statements-clause-reads : goal.arms::alternative-returns-in_err-statements-clause-reads
+arms::alternative-returns-in_err-statements-clause-reads t c =
+    let p = err_from_is_err_and c.from_residual-in_err-statements.result c.from_residual-in_err-statements.ensures.1 in
+    rw (p.1, p.2) (part_fails (Reads (at.at_statements c.args.parser.extent) c.in_ok-choices.rest.now) (Reads (at.at_alternative c.args.parser.extent) c.args.tokens.now) c.in_err-statements.field-0.0 c.in_err-statements.ensures.reads (λ rest h. alternative_empty c.args.parser.extent c.args.tokens.now c.in_ok-choices.rest.now rest c.in_ok-choices.choices.items c.in_ok-choices.ensures.reads c.in_ok-choices.ensures.shorter h))
+
+pub arms::alternative-returns-in_err-statements-clause-shorter : goal.arms::alternative-returns-in_err-statements-clause-shorter
+arms::alternative-returns-in_err-statements-clause-shorter t c = rw ((err_from_is_err_and c.from_residual-in_err-statements.result c.from_residual-in_err-statements.ensures.1).1) tt
+
+pub arms::alternative-returns-clause-reads : goal.arms::alternative-returns-clause-reads
+arms::alternative-returns-clause-reads t c = rw c.from-choices.ensures (alternative_read c.args.parser.extent c.args.tokens.now c.in_ok-choices.rest.now c.in_ok-statements.rest.now c.in_ok-choices.choices.items c.in_ok-statements.statements.items c.in_ok-choices.ensures.reads c.in_ok-choices.ensures.shorter c.in_ok-statements.ensures.reads)
+
+pub arms::alternative-returns-clause-shorter : goal.arms::alternative-returns-clause-shorter
+arms::alternative-returns-clause-shorter t c = omega (arith, c.in_ok-choices.ensures.shorter, c.in_ok-statements.ensures.shorter)
+
+pub arms::handler-returns-in_err-choices-clause-reads : goal.arms::handler-returns-in_err-choices-clause-reads
+arms::handler-returns-in_err-choices-clause-reads t c =
+    let p = err_from_is_err_and c.from_residual.result c.from_residual.ensures.1 in
+    rw (p.1, p.2) (part_fails (Reads (before symbol.Arrow (read.exceptions_by c.args.parser.extent)) c.args.tokens.now) (Reads (at.at_handler c.args.parser.extent) c.args.tokens.now) c.in_err-choices.field-0.0 c.in_err-choices.ensures.reads (λ rest h. handler_fail c.args.parser.extent c.args.tokens.now rest h))
+
+pub arms::handler-returns-in_err-choices-clause-shorter : goal.arms::handler-returns-in_err-choices-clause-shorter
+arms::handler-returns-in_err-choices-clause-shorter t c = rw ((err_from_is_err_and c.from_residual.result c.from_residual.ensures.1).1) tt
+
+pub arms::handler-returns-in_err-statements-clause-reads : goal.arms::handler-returns-in_err-statements-clause-reads
+arms::handler-returns-in_err-statements-clause-reads t c =
+    let p = err_from_is_err_and c.from_residual-in_err-statements.result c.from_residual-in_err-statements.ensures.1 in
+    rw (p.1, p.2) (part_fails (Reads (at.at_statements c.args.parser.extent) c.in_ok-choices.rest.now) (Reads (at.at_handler c.args.parser.extent) c.args.tokens.now) c.in_err-statements.field-0.0 c.in_err-statements.ensures.reads (λ rest h. handler_empty c.args.parser.extent c.args.tokens.now c.in_ok-choices.rest.now rest c.in_ok-choices.choices.items c.in_ok-choices.ensures.reads c.in_ok-choices.ensures.shorter h))
+
+pub arms::handler-returns-in_err-statements-clause-shorter : goal.arms::handler-returns-in_err-statements-clause-shorter
+arms::handler-returns-in_err-statements-clause-shorter t c = rw ((err_from_is_err_and c.from_residual-in_err-statements.result c.from_residual-in_err-statements.ensures.1).1) tt
+
+pub arms::handler-returns-clause-reads : goal.arms::handler-returns-clause-reads
+arms::handler-returns-clause-reads t c = rw c.from-choices.ensures (handler_read c.args.parser.extent c.args.tokens.now c.in_ok-choices.rest.now c.in_ok-statements.rest.now c.in_ok-choices.choices.items c.in_ok-statements.statements.items c.in_ok-choices.ensures.reads c.in_ok-choices.ensures.shorter c.in_ok-statements.ensures.reads)
+
+pub arms::handler-returns-clause-shorter : goal.arms::handler-returns-clause-shorter
+arms::handler-returns-clause-shorter t c = omega (arith, c.in_ok-choices.ensures.shorter, c.in_ok-statements.ensures.shorter)
+
+pub arms::alternatives-loop-after-init : goal.arms::alternatives-loop-after-init
+arms::alternatives-loop-after-init t c = grind (arith, alternatives_rules)
+
+pub arms::alternatives-returns-in_err-alternative-clause-reads : goal.arms::alternatives-returns-in_err-alternative-clause-reads
+arms::alternatives-returns-in_err-alternative-clause-reads t c = grind (arith, alternatives_rules)
+
+pub arms::alternatives-returns-in_err-first-clause-reads : goal.arms::alternatives-returns-in_err-first-clause-reads
+arms::alternatives-returns-in_err-first-clause-reads t c = grind (arith, alternatives_rules)
+
+pub arms::handler_list-loop-after-init : goal.arms::handler_list-loop-after-init
+arms::handler_list-loop-after-init t c = grind (arith, handler_list_rules)
+
+pub arms::handler_list-returns-in_err-first-clause-reads : goal.arms::handler_list-returns-in_err-first-clause-reads
+arms::handler_list-returns-in_err-first-clause-reads t c = grind (arith, handler_list_rules)
+
+pub arms::handler_list-returns-in_err-handler-clause-reads : goal.arms::handler_list-returns-in_err-handler-clause-reads
+arms::handler_list-returns-in_err-handler-clause-reads t c = grind (arith, handler_list_rules)
+
+pub arms::handlers-returns-clause-reads : goal.arms::handlers-returns-clause-reads
+arms::handlers-returns-clause-reads t c = grind (arith, handlers_rules)
+
+pub compound::branches-loop-after-init : goal.compound::branches-loop-after-init
+compound::branches-loop-after-init t c = grind (arith, branches_rules)
+
+pub compound::branches-returns-in_err-branch-clause-reads : goal.compound::branches-returns-in_err-branch-clause-reads
+compound::branches-returns-in_err-branch-clause-reads t c = grind (arith, branches_rules)
+
+pub compound::compound-returns-in_ok-needs-in-Begin-clause-reads : goal.compound::compound-returns-in_ok-needs-in-Begin-clause-reads
+compound::compound-returns-in_ok-needs-in-Begin-clause-reads t c = grind (arith, compound_rules)
+
+pub compound::compound-returns-in_ok-needs-in-Case-clause-reads : goal.compound::compound-returns-in_ok-needs-in-Case-clause-reads
+compound::compound-returns-in_ok-needs-in-Case-clause-reads t c = grind (arith, compound_rules)
+
+pub compound::compound-returns-in_ok-needs-in-Declare-clause-reads : goal.compound::compound-returns-in_ok-needs-in-Declare-clause-reads
+compound::compound-returns-in_ok-needs-in-Declare-clause-reads t c = grind (arith, compound_rules)
+
+pub compound::compound-returns-in_ok-needs-in-Loop-clause-reads : goal.compound::compound-returns-in_ok-needs-in-Loop-clause-reads
+compound::compound-returns-in_ok-needs-in-Loop-clause-reads t c = grind (arith, compound_rules)
+
+pub compound::compound-returns-in_ok-needs-in-While-clause-reads : goal.compound::compound-returns-in_ok-needs-in-While-clause-reads
+compound::compound-returns-in_ok-needs-in-While-clause-reads t c = grind (arith, compound_rules)
+
+pub statements::statement-returns-in-Identifier-clause-reads : goal.statements::statement-returns-in-Identifier-clause-reads
+statements::statement-returns-in-Identifier-clause-reads t c = grind (arith, statement_rules)
+
+pub statements::statement-returns-in-Null-clause-reads : goal.statements::statement-returns-in-Null-clause-reads
+statements::statement-returns-in-Null-clause-reads t c = grind (arith, statement_rules)
+
+pub statements::statement-returns-in-Pragma-clause-reads : goal.statements::statement-returns-in-Pragma-clause-reads
+statements::statement-returns-in-Pragma-clause-reads t c = grind (arith, statement_rules)
+
+pub statements::statement-returns-in-Return-clause-reads : goal.statements::statement-returns-in-Return-clause-reads
+statements::statement-returns-in-Return-clause-reads t c = grind (arith, statement_rules)
+
+pub statements::statement-returns-in_default-symbol_in : goal.statements::statement-returns-in_default-symbol_in
+statements::statement-returns-in_default-symbol_in t c = grind (arith, statement_rules)
+
+pub statements::statement-returns-in_ok-needs-in-Exit-clause-reads : goal.statements::statement-returns-in_ok-needs-in-Exit-clause-reads
+statements::statement-returns-in_ok-needs-in-Exit-clause-reads t c = grind (arith, statement_rules)
+
+pub statements::statement-returns-in_ok-needs-in-Raise-clause-reads : goal.statements::statement-returns-in_ok-needs-in-Raise-clause-reads
+statements::statement-returns-in_ok-needs-in-Raise-clause-reads t c = grind (arith, statement_rules)
+
+pub statements::statements-rest-init : goal.statements::statements-rest-init
+statements::statements-rest-init t c = grind (arith, statements_rules)
+
+pub statements::statements-rest-preserved : goal.statements::statements-rest-preserved
+statements::statements-rest-preserved t c = grind (arith, statements_rules)
+
+pub statements::statements-returns-clause-reads : goal.statements::statements-returns-clause-reads
+statements::statements-returns-clause-reads t c = grind (arith, statements_rules)
+
+pub statements::statements-returns-in_err-first-clause-reads : goal.statements::statements-returns-in_err-first-clause-reads
+statements::statements-returns-in_err-first-clause-reads t c = grind (arith, statements_rules)
+
+pub statements::statements-returns-in_err-statement-clause-reads : goal.statements::statements-returns-in_err-statement-clause-reads
+statements::statements-returns-in_err-statement-clause-reads t c = grind (arith, statements_rules)

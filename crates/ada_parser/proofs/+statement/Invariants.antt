@@ -10,8 +10,11 @@ use Rattle.ada_parser.proofs.StatementCode.{statement_turns}
 use Rattle.ada_parser.proofs.+statement.Given as goal
 
 -- the tokens, and then the level
+abbrev pub decreases-compound::loop_body : goal.decreases-compound::loop_body
+decreases-compound::loop_body l = 32 * length l.tokens.now + 0
+
 abbrev pub decreases-compound::loop_rest : goal.decreases-compound::loop_rest
-decreases-compound::loop_rest l = 32 * length l.tokens.now + 0
+decreases-compound::loop_rest l = 32 * length l.tokens.now + 1
 
 abbrev pub decreases-compound::branch : goal.decreases-compound::branch
 decreases-compound::branch l = 32 * length l.tokens.now + 1
@@ -46,11 +49,17 @@ decreases-compound::else_part l = 32 * length l.tokens.now + 10
 abbrev pub decreases-compound::branches : goal.decreases-compound::branches
 decreases-compound::branches l = 32 * length l.tokens.now + 11
 
+abbrev pub decreases-compound::if_rest : goal.decreases-compound::if_rest
+decreases-compound::if_rest l = 32 * length l.tokens.now + 12
+
 abbrev pub decreases-compound::if_statement : goal.decreases-compound::if_statement
 decreases-compound::if_statement l = 32 * length l.tokens.now + 12
 
 abbrev pub decreases-arms::alternatives : goal.decreases-arms::alternatives
 decreases-arms::alternatives l = 32 * length l.tokens.now + 13
+
+abbrev pub decreases-compound::case_arms : goal.decreases-compound::case_arms
+decreases-compound::case_arms l = 32 * length l.tokens.now + 14
 
 abbrev pub decreases-compound::case_statement : goal.decreases-compound::case_statement
 decreases-compound::case_statement l = 32 * length l.tokens.now + 14

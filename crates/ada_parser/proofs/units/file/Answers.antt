@@ -4,7 +4,7 @@ use Rattle.ada_syntax.specs.declared.unit.Unit.{Unit as LibraryUnit}
 use Rattle.ada_parser.specs.UnitReading as read
 use Rattle.expression_parser.specs.Reading.{Got}
 use Rattle.expression_parser.specs.Shows.{More}
-use Rattle.ada_parser.proofs.UnitCode.{file_step, file_end_at}
+use Rattle.ada_parser.proofs.UnitCode.{file_step, file_end_at, file_rules}
 use Rattle.ada_parser.proofs.units.file.Goals as goal
 
 pub rest-preserved : goal.rest-preserved
@@ -22,3 +22,12 @@ pub returns : goal.returns
 returns c =
     let e : length c.rest.rest.now ≡ 0 = grind (arith, nat_tests, c.rest-test.ensures) in
     c.rest.invariant.reads (Got c.rest.units.items []) (file_end_at c.args.parser.extent c.rest.rest.now c.rest.units.items e)
+
+pub rest-init : goal.rest-init
+rest-init c = grind (arith, file_rules)
+
+pub returns-in_err-needs : goal.returns-in_err-needs
+returns-in_err-needs c = grind (arith, file_rules)
+
+pub returns-in_err-unit : goal.returns-in_err-unit
+returns-in_err-unit c = grind (arith, file_rules)
