@@ -123,17 +123,7 @@ impl Blobs {
         let (name, ends) = split_word(words);
         let (first, last) = split_word(ends);
         let (first, last) = (number(first)?, number(last)?);
-        let mut lines = Vec::new(alloc);
-        let mut line = 1usize;
-        for byte in self.named(name)? {
-            if first <= line && line <= last {
-                lines.push(*byte)?;
-            }
-            if *byte == b'\n' {
-                line = line.saturating_add(1);
-            }
-        }
-        Ok(lines)
+        Ok(lines_between(alloc, self.named(name)?, first, last)?)
     }
 
     /// Bytes of a blob.
@@ -146,4 +136,24 @@ impl Blobs {
             None => Err(Failure::Fault(CaseFault::Number)),
         }
     }
+}
+
+/// The lines of a text between these, which are counted from 1, each with its end.
+fn lines_between(
+    alloc: Global,
+    text: &[u8],
+    first: usize,
+    last: usize,
+) -> Result<Vec<u8>, AllocError> {
+    let mut lines = Vec::new(alloc);
+    let mut line = 1usize;
+    for byte in text {
+        if first <= line && line <= last {
+            lines.push(*byte)?;
+        }
+        if *byte == b'\n' {
+            line = line.saturating_add(1);
+        }
+    }
+    Ok(lines)
 }

@@ -61,12 +61,18 @@ fn byte_of(sign: u8) -> u8 {
     }
 }
 
-/// The graph of a decision.
-fn graph_of(alloc: Global, signs: &str) -> Result<Graph, Failure<CaseFault>> {
+/// The postfix bytes that signs stand for.
+fn postfix_of(alloc: Global, signs: &str) -> Result<Vec<u8>, AllocError> {
     let mut postfix = Vec::new(alloc);
     for sign in signs.bytes() {
         postfix.push(byte_of(sign))?;
     }
+    Ok(postfix)
+}
+
+/// The graph of a decision.
+fn graph_of(alloc: Global, signs: &str) -> Result<Graph, Failure<CaseFault>> {
+    let postfix = postfix_of(alloc, signs)?;
     if !are_postfix(postfix.as_slice()) {
         return Err(Failure::Fault(CaseFault::Decision));
     }
@@ -201,12 +207,22 @@ fn taken(graph: &Graph, vectors: &[Vector]) -> &'static str {
     }
 }
 
+/// Adds whether paths of the vectors that words stand for take all edges.
+fn add_taken(
+    alloc: Global,
+    out: &mut String,
+    graph: &Graph,
+    words: &str,
+) -> Result<(), AllocError> {
+    let vectors = vectors_of(alloc, words)?;
+    writeln!(out, "{}", taken(graph, vectors.as_slice()))
+}
+
 /// Answers whether paths of vectors take all edges.
 pub(crate) fn edges(alloc: Global, out: &mut String, words: &str) -> Answer {
     let (signs, vectors) = split_word(words);
     let graph = graph_of(alloc, signs)?;
-    let vectors = vectors_of(alloc, vectors)?;
-    writeln!(out, "{}", taken(&graph, vectors.as_slice()))?;
+    add_taken(alloc, out, &graph, vectors)?;
     Ok(())
 }
 
@@ -255,10 +271,15 @@ fn add_shown(out: &mut String, graph: &Graph, vectors: &[Vector]) -> Answer {
     Ok(())
 }
 
+/// Adds what the vectors that words stand for show of a decision.
+fn add_shown_by(alloc: Global, out: &mut String, graph: &Graph, words: &str) -> Answer {
+    let vectors = vectors_of(alloc, words)?;
+    add_shown(out, graph, vectors.as_slice())
+}
+
 /// Answers what vectors show of a decision.
 pub(crate) fn pairs(alloc: Global, out: &mut String, words: &str) -> Answer {
     let (signs, vectors) = split_word(words);
     let graph = graph_of(alloc, signs)?;
-    let vectors = vectors_of(alloc, vectors)?;
-    add_shown(out, &graph, vectors.as_slice())
+    add_shown_by(alloc, out, &graph, vectors)
 }

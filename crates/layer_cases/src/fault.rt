@@ -3,41 +3,46 @@
 use cov_base::Failure;
 use decision_map::FitFault;
 use object_format::ObjectFault;
-use thiserror::Error;
+use std::fmt;
 use trace_format::TraceFault;
 use vector_rebuild::BrokenHistory;
 
 /// Why a line asks nothing.
-#[derive(Clone, Copy, Debug, PartialEq, Eq, Error)]
+#[derive(Clone, Copy)]
 pub(crate) enum CaseFault {
-    #[error("no such command")]
     Command,
-    #[error("a word is missing")]
-    Word,
-    #[error("no number")]
     Number,
-    #[error("no bytes")]
     Bytes,
-    #[error("no such blob")]
     Blob,
-    #[error("no decision")]
     Decision,
-    #[error("a vector of no path")]
     Path,
-    #[error("too large")]
     Size,
-    #[error("no tokens")]
     Tokens,
-    #[error("input line {0} refused")]
     Input(u64),
-    #[error("object: {0}")]
     Object(ObjectFault),
-    #[error("trace: {0}")]
     Trace(TraceFault),
-    #[error("trace: {0}")]
     Fit(FitFault),
-    #[error("trace: {0}")]
     Broken(BrokenHistory),
+}
+
+impl fmt::Display for CaseFault {
+    fn fmt<W: fmt::Write>(&self, f: &mut fmt::Formatter<W>) -> fmt::Result {
+        match self {
+            CaseFault::Command => f.write_str("no such command"),
+            CaseFault::Number => f.write_str("no number"),
+            CaseFault::Bytes => f.write_str("no bytes"),
+            CaseFault::Blob => f.write_str("no such blob"),
+            CaseFault::Decision => f.write_str("no decision"),
+            CaseFault::Path => f.write_str("a vector of no path"),
+            CaseFault::Size => f.write_str("too large"),
+            CaseFault::Tokens => f.write_str("no tokens"),
+            CaseFault::Input(line) => write!(f, "input line {line} refused"),
+            CaseFault::Object(fault) => write!(f, "object: {fault}"),
+            CaseFault::Trace(fault) => write!(f, "trace: {fault}"),
+            CaseFault::Fit(fault) => write!(f, "trace: {fault}"),
+            CaseFault::Broken(fault) => write!(f, "trace: {fault}"),
+        }
+    }
 }
 
 /// What an arm answers beside the text that it adds.

@@ -8,8 +8,13 @@
 //! | `run OBJECT BUDGET` | a run on the latest blob as the input file: what it puts, how it ends, its trace |
 //! | `words OBJECT ADDRESS..` | the kind of each word, where a block from there ends, the condition there |
 
-ghost use Rattle.std.specs.Prelude.{◌≡◌, IfOk};
+ghost use Rattle.std.specs.Prelude.{◌≡◌, ◌<◌, ◌^◌, List, length, true, IfOk};
+ghost use Rattle.object_facts.specs.Object.{facts_of};
 ghost use Rattle.object_format.specs.Checked.{IsSound};
+ghost use Rattle.object_format.specs.Read.{HasObject, is_plain};
+ghost use Rattle.rv_semantics.specs.declared.stepped.Seen.{Seen};
+ghost use Rattle.trace_record.specs.Recorded.{Records};
+ghost use Rattle.transcript.specs.Pieces.{IsEnded};
 
 use crate::blobs::Blobs;
 use crate::fault::{Answer, CaseFault};
@@ -25,7 +30,7 @@ use std::alloc::{AllocError, Global};
 use trace_record::Recorder;
 
 /// The object whose file the bytes are.
-pub(crate) fn object_of(alloc: Global, bytes: &[u8]) -> Result<Object, Failure<CaseFault>>
+fn object_of(alloc: Global, bytes: &[u8]) -> Result<Object, Failure<CaseFault>>
     ensures { IfOk result IsSound }
 {
     match read_whole_object(alloc, bytes) {
@@ -33,6 +38,17 @@ pub(crate) fn object_of(alloc: Global, bytes: &[u8]) -> Result<Object, Failure<C
         Err(Failure::Fault(fault)) => Err(Failure::Fault(CaseFault::Object(fault))),
         Err(Failure::WantOfMemory) => Err(Failure::WantOfMemory),
     }
+}
+
+/// The object whose file the blob of a name is.
+pub(crate) fn object_named(
+    alloc: Global,
+    blobs: &Blobs,
+    name: &str,
+) -> Result<Object, Failure<CaseFault>>
+    ensures { IfOk result IsSound }
+{
+    object_of(alloc, blobs.named(name)?)
 }
 
 /// The map of an object.
@@ -53,33 +69,54 @@ fn sameness(written: &[u8], read: &[u8]) -> &'static str {
     }
 }
 
+/// Adds how many words an object has, and whether its file is written again.
+fn add_again(
+    alloc: Global,
+    out: &mut String,
+    object: &Object,
+    bytes: &[u8],
+) -> Result<(), AllocError>
+    requires { HasObject object.now }
+{
+    let (again, _closing) = write_with_digest(alloc, object)?;
+    let written = sameness(again.as_slice(), bytes);
+    writeln!(out, "{} words, {written} again", object.text.len())
+}
+
 /// Answers what object a file is.
 pub(crate) fn object(alloc: Global, out: &mut String, bytes: &[u8]) -> Answer {
-    match read_whole_object(alloc, bytes) {
-        Ok(object) => {
-            what_is_read_can_be_written();
-            let (again, _closing) = write_with_digest(alloc, &object)?;
-            let written = sameness(again.as_slice(), bytes);
-            writeln!(out, "{} words, {written} again", object.text.len())?;
-        }
-        Err(Failure::Fault(fault)) => writeln!(out, "{fault}")?,
-        Err(Failure::WantOfMemory) => return Err(Failure::WantOfMemory),
-    }
-    Ok(())
+    what_is_read_can_be_written();
+    let added = match read_whole_object(alloc, bytes) {
+        Ok(object) => add_again(alloc, out, &object, bytes),
+        Err(Failure::Fault(fault)) => writeln!(out, "{fault}"),
+        Err(Failure::WantOfMemory) => Err(AllocError),
+    };
+    Ok(added?)
+}
+
+/// Adds whether the file of an object of the plain language is written again.
+fn add_plain_again(
+    alloc: Global,
+    out: &mut String,
+    object: &Object,
+    bytes: &[u8],
+) -> Result<(), AllocError>
+    requires object { HasObject object.now }
+    requires plain { is_plain object.now ≡ true }
+{
+    let again = write_object(alloc, object)?;
+    writeln!(out, "{}", sameness(again.as_slice(), bytes))
 }
 
 /// Answers what object of the plain language a file is.
 pub(crate) fn plain(alloc: Global, out: &mut String, bytes: &[u8]) -> Answer {
-    match read_object(alloc, bytes) {
-        Ok(object) => {
-            what_is_read_can_be_written();
-            let again = write_object(alloc, &object)?;
-            writeln!(out, "{}", sameness(again.as_slice(), bytes))?;
-        }
-        Err(Failure::Fault(fault)) => writeln!(out, "{fault}")?,
-        Err(Failure::WantOfMemory) => return Err(Failure::WantOfMemory),
-    }
-    Ok(())
+    what_is_read_can_be_written();
+    let added = match read_object(alloc, bytes) {
+        Ok(object) => add_plain_again(alloc, out, &object, bytes),
+        Err(Failure::Fault(fault)) => writeln!(out, "{fault}"),
+        Err(Failure::WantOfMemory) => Err(AllocError),
+    };
+    Ok(added?)
 }
 
 /// The numbers of an input file.
@@ -136,55 +173,71 @@ fn add_ending(
     out.push_str("\n")
 }
 
-/// What a run leaves: how it came to its end, the words that it put, and, where it ended, its trace.
-#[derive(Drop)]
-struct Left {
-    answer: Result<Ending, RunFault>,
-    put: Vec<i32>,
-    trace: Vec<u8>,
+/// Adds the words that a run put.
+fn add_put(out: &mut String, put: &[i32]) -> Result<(), AllocError> {
+    for word in put {
+        writeln!(out, "put: {word}")?;
+    }
+    Ok(())
 }
 
-/// Runs an object on an input.
-fn executed(alloc: Global, object: &Object, input: &[i32], budget: u32) -> Result<Left, AllocError>
+/// Adds what a run put, how it ended, and its trace.
+fn add_ended(
+    out: &mut String,
+    object: &Object,
+    recorder: &Recorder<'_>,
+    ending: Ending,
+    put: &[i32],
+) -> Result<(), AllocError>
+    requires recorded { (run : List Seen) × Records recorder.now run × IsEnded (facts_of recorder.now.object) run }
+    requires short_history { length recorder.now.history < 2 ^ 32 }
+{
+    add_put(out, put)?;
+    let trace = recorder.trace(ending.number)?;
+    add_ending(out, object, ending, trace.as_slice())
+}
+
+/// Adds what a run put, and why it did not end.
+fn add_stopped(out: &mut String, fault: RunFault, put: &[i32]) -> Result<(), AllocError> {
+    add_put(out, put)?;
+    writeln!(out, "{fault}")
+}
+
+/// Adds what a run of an object on an input leaves.
+fn add_run(
+    alloc: Global,
+    out: &mut String,
+    object: &Object,
+    input: &[i32],
+    budget: u32,
+) -> Result<(), AllocError>
     requires { IsSound object.now }
 {
     let mut recorder = Recorder::new(alloc, object)?;
     let mut put = Vec::new(alloc);
     match run(alloc, object, input, budget, &mut recorder, &mut put) {
-        Ok(ending) => Ok(Left {
-            answer: Ok(ending),
-            put,
-            trace: recorder.trace(ending.number)?,
-        }),
-        Err(Failure::Fault(fault)) => Ok(Left {
-            answer: Err(fault),
-            put,
-            trace: Vec::new(alloc),
-        }),
+        Ok(ending) => add_ended(out, object, &recorder, ending, put.as_slice()),
+        Err(Failure::Fault(fault)) => add_stopped(out, fault, put.as_slice()),
         Err(Failure::WantOfMemory) => Err(AllocError),
     }
 }
 
-/// Adds what a run left.
-fn add_left(out: &mut String, object: &Object, left: &Left) -> Result<(), AllocError> {
-    for word in &left.put {
-        writeln!(out, "put: {word}")?;
-    }
-    match left.answer {
-        Ok(ending) => add_ending(out, object, ending, left.trace.as_slice()),
-        Err(fault) => writeln!(out, "{fault}"),
-    }
+/// Adds what a run of an object on an input file leaves.
+fn add_run_on(alloc: Global, out: &mut String, object: &Object, input: &[u8], budget: u32) -> Answer
+    requires { IsSound object.now }
+{
+    let input = input_of(alloc, input)?;
+    add_run(alloc, out, object, input.as_slice(), budget)?;
+    Ok(())
 }
 
 /// Answers a run of an object.
 pub(crate) fn run_object(alloc: Global, blobs: &Blobs, out: &mut String, words: &str) -> Answer {
     let (name, budget) = split_word(words);
     let budget = u32::try_from(number(budget)?).unwrap_or(u32::MAX);
-    let object = object_of(alloc, blobs.named(name)?)?;
-    let input = input_of(alloc, blobs.latest()?)?;
-    let left = executed(alloc, &object, input.as_slice(), budget)?;
-    add_left(out, &object, &left)?;
-    Ok(())
+    let input = blobs.latest()?;
+    let object = object_named(alloc, blobs, name)?;
+    add_run_on(alloc, out, &object, input, budget)
 }
 
 /// Adds what the map of an object says of a word.
@@ -224,6 +277,14 @@ fn add_words(out: &mut String, map: &DecisionMap<'_>, addresses: &str) -> Answer
     Ok(())
 }
 
+/// Adds what the words of an object at addresses are.
+fn add_words_of(alloc: Global, out: &mut String, object: &Object, addresses: &str) -> Answer
+    requires { IsSound object.now }
+{
+    let map = map_of(alloc, object)?;
+    add_words(out, &map, addresses)
+}
+
 /// Answers what words of an object are.
 pub(crate) fn words_of_object(
     alloc: Global,
@@ -232,7 +293,6 @@ pub(crate) fn words_of_object(
     words: &str,
 ) -> Answer {
     let (name, addresses) = split_word(words);
-    let object = object_of(alloc, blobs.named(name)?)?;
-    let map = map_of(alloc, &object)?;
-    add_words(out, &map, addresses)
+    let object = object_named(alloc, blobs, name)?;
+    add_words_of(alloc, out, &object, addresses)
 }

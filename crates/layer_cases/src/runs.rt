@@ -11,7 +11,7 @@ ghost use Rattle.object_format.specs.Checked.{IsSound};
 
 use crate::blobs::Blobs;
 use crate::fault::{Answer, CaseFault};
-use crate::objects::{map_of, object_of};
+use crate::objects::{map_of, object_named};
 use crate::words::split_word;
 use cov_base::{Event, Failure};
 use coverage_set::Coverage;
@@ -65,19 +65,28 @@ fn view_of(bytes: &[u8]) -> Result<TraceView<'_>, Failure<CaseFault>> {
 fn add_fit(alloc: Global, out: &mut String, object: &Object, trace: &[u8]) -> Answer
     requires { IsSound object.now }
 {
-    let map = map_of(alloc, object)?;
     let view = view_of(trace)?;
-    match map.fit(&view) {
-        Ok(()) => out.push_str("fits\n")?,
-        Err(fault) => writeln!(out, "{fault}")?,
-    }
+    let map = map_of(alloc, object)?;
+    put_fit(out, &map, &view)?;
     Ok(())
+}
+
+/// Adds whether a trace fits the map of an object.
+fn put_fit(
+    out: &mut String,
+    map: &DecisionMap<'_>,
+    view: &TraceView<'_>,
+) -> Result<(), AllocError> {
+    match map.fit(view) {
+        Ok(()) => out.push_str("fits\n"),
+        Err(fault) => writeln!(out, "{fault}"),
+    }
 }
 
 /// Answers whether a trace can be one of an object.
 pub(crate) fn fit(alloc: Global, blobs: &Blobs, out: &mut String, name: &str) -> Answer {
     let trace = blobs.latest()?;
-    let object = object_of(alloc, blobs.named(name)?)?;
+    let object = object_named(alloc, blobs, name)?;
     add_fit(alloc, out, &object, trace)
 }
 
@@ -118,7 +127,45 @@ fn covered<'a>(
     Ok(coverage)
 }
 
-/// What traces of an object cover together. Each is covered alone, and joined to those before it.
+/// Joins what one trace of an object covers to what others do.
+fn join_trace<'a>(
+    alloc: Global,
+    map: &DecisionMap<'_>,
+    object: &'a Object,
+    trace: &[u8],
+    all: &mut Coverage<'a>,
+) -> Answer
+    requires sound { IsSound map.now }
+    requires map { map.now ≡ object.now }
+    requires all { all.old.object ≡ object.now }
+    ensures { all.new.object ≡ all.old.object }
+{
+    let one = covered(alloc, map, object, trace)?;
+    all.join(&one)?;
+    Ok(())
+}
+
+/// Joins what each of the named traces of an object covers. Each is covered alone.
+fn join_traces<'a>(
+    alloc: Global,
+    blobs: &Blobs,
+    map: &DecisionMap<'_>,
+    object: &'a Object,
+    names: &str,
+    all: &mut Coverage<'a>,
+) -> Answer
+    requires sound { IsSound map.now }
+    requires map { map.now ≡ object.now }
+    requires all { all.old.object ≡ object.now }
+    ensures { all.new.object ≡ all.old.object }
+{
+    for name in names.split_ascii_whitespace() {
+        join_trace(alloc, map, object, blobs.named(name)?, all)?;
+    }
+    Ok(())
+}
+
+/// What traces of an object cover together.
 fn covered_by_all<'a>(
     alloc: Global,
     blobs: &Blobs,
@@ -130,10 +177,7 @@ fn covered_by_all<'a>(
 {
     let map = map_of(alloc, object)?;
     let mut all = Coverage::new(alloc, object);
-    for name in names.split_ascii_whitespace() {
-        let one = covered(alloc, &map, object, blobs.named(name)?)?;
-        all.join(&one)?;
-    }
+    join_traces(alloc, blobs, &map, object, names, &mut all)?;
     Ok(all)
 }
 
@@ -151,7 +195,7 @@ fn add_event(out: &mut String, event: Event) -> Result<(), AllocError> {
 }
 
 /// Adds how many runs there were, and their events.
-fn add_coverage(out: &mut String, runs: u64, events: &[Event]) -> Result<(), AllocError> {
+fn add_runs(out: &mut String, runs: u64, events: &[Event]) -> Result<(), AllocError> {
     writeln!(out, "{runs} runs")?;
     for event in events {
         add_event(out, *event)?;
@@ -159,12 +203,30 @@ fn add_coverage(out: &mut String, runs: u64, events: &[Event]) -> Result<(), All
     Ok(())
 }
 
+/// Adds what was covered.
+fn add_coverage(out: &mut String, coverage: &Coverage<'_>) -> Result<(), AllocError> {
+    let events = coverage.events()?;
+    add_runs(out, coverage.runs(), events.as_slice())
+}
+
+/// Adds what traces of an object cover.
+fn add_events(
+    alloc: Global,
+    blobs: &Blobs,
+    out: &mut String,
+    object: &Object,
+    names: &str,
+) -> Answer
+    requires { IsSound object.now }
+{
+    let coverage = covered_by_all(alloc, blobs, object, names)?;
+    add_coverage(out, &coverage)?;
+    Ok(())
+}
+
 /// Answers the events of traces.
 pub(crate) fn events(alloc: Global, blobs: &Blobs, out: &mut String, words: &str) -> Answer {
     let (name, names) = split_word(words);
-    let object = object_of(alloc, blobs.named(name)?)?;
-    let coverage = covered_by_all(alloc, blobs, &object, names)?;
-    let events = coverage.events()?;
-    add_coverage(out, coverage.runs(), events.as_slice())?;
-    Ok(())
+    let object = object_named(alloc, blobs, name)?;
+    add_events(alloc, blobs, out, &object, names)
 }

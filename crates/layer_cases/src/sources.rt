@@ -70,11 +70,11 @@ fn add_tokens(out: &mut String, tokens: &[Token]) -> Result<(), AllocError> {
 
 /// Answers the tokens.
 pub(crate) fn lex_blob(alloc: Global, out: &mut String, source: &[u8]) -> Answer {
-    match tokens_of(alloc, source)? {
-        Err(pos) => add_fault(out, pos, "lexical error")?,
-        Ok(tokens) => add_tokens(out, tokens.as_slice())?,
-    }
-    Ok(())
+    let added = match tokens_of(alloc, source)? {
+        Err(pos) => add_fault(out, pos, "lexical error"),
+        Ok(tokens) => add_tokens(out, tokens.as_slice()),
+    };
+    Ok(added?)
 }
 
 /// The tokens of a source that has some.
@@ -85,13 +85,18 @@ fn good_tokens(alloc: Global, source: &[u8]) -> Result<Vec<Token>, Failure<CaseF
     }
 }
 
+/// Adds the first token that is nested too deep.
+fn add_nested(out: &mut String, tokens: &[Token]) -> Result<(), AllocError> {
+    match nested(tokens) {
+        Some(pos) => add_fault(out, pos, "nested too deep"),
+        None => out.push_str("nested well\n"),
+    }
+}
+
 /// Answers the first token that is nested too deep.
 pub(crate) fn nested_blob(alloc: Global, out: &mut String, source: &[u8]) -> Answer {
     let tokens = good_tokens(alloc, source)?;
-    match nested(tokens.as_slice()) {
-        Some(pos) => add_fault(out, pos, "nested too deep")?,
-        None => out.push_str("nested well\n")?,
-    }
+    add_nested(out, tokens.as_slice())?;
     Ok(())
 }
 
@@ -127,21 +132,26 @@ fn nodes_of(units: &[Unit]) -> u64 {
 }
 
 /// Adds whether tokens derive a file.
-fn add_parsed(alloc: Global, out: &mut String, tokens: &[Token], words: &str) -> Answer {
+fn add_parsed(
+    alloc: Global,
+    out: &mut String,
+    tokens: &[Token],
+    words: &str,
+) -> Result<(), AllocError> {
     match parsed(alloc, tokens, words) {
-        Ok(units) => writeln!(out, "derives, {} nodes", nodes_of(units.as_slice()))?,
-        Err(Failure::Fault(SyntaxFault { pos })) => add_fault(out, pos, "syntax error")?,
-        Err(Failure::WantOfMemory) => return Err(Failure::WantOfMemory),
+        Ok(units) => writeln!(out, "derives, {} nodes", nodes_of(units.as_slice())),
+        Err(Failure::Fault(SyntaxFault { pos })) => add_fault(out, pos, "syntax error"),
+        Err(Failure::WantOfMemory) => Err(AllocError),
     }
-    Ok(())
 }
 
 /// Answers whether the source derives a file.
 pub(crate) fn parse_blob(alloc: Global, out: &mut String, source: &[u8], words: &str) -> Answer {
-    match tokens_of(alloc, source)? {
+    let added = match tokens_of(alloc, source)? {
         Ok(tokens) => add_parsed(alloc, out, tokens.as_slice(), words),
-        Err(pos) => Ok(add_fault(out, pos, "lexical error")?),
-    }
+        Err(pos) => add_fault(out, pos, "lexical error"),
+    };
+    Ok(added?)
 }
 
 /// Whether tokens are refused at the last one; without tokens at line 1 and column 1.
@@ -204,11 +214,11 @@ fn add_regions(out: &mut String, regions: &[Region]) -> Result<(), AllocError> {
 
 /// Answers the exempt regions.
 pub(crate) fn regions_of_blob(alloc: Global, out: &mut String, source: &[u8]) -> Answer {
-    match regions_of(alloc, source)? {
-        Ok(regions) => add_regions(out, regions.as_slice())?,
-        Err(pos) => add_fault(out, pos, "exemption error")?,
-    }
-    Ok(())
+    let added = match regions_of(alloc, source)? {
+        Ok(regions) => add_regions(out, regions.as_slice()),
+        Err(pos) => add_fault(out, pos, "exemption error"),
+    };
+    Ok(added?)
 }
 
 /// The place that the numbers of a file, a line and a column name.
@@ -221,6 +231,15 @@ fn place_of(words: &str) -> Result<Pos, Failure<CaseFault>> {
     Ok(Pos { file, line, col })
 }
 
+/// Adds whether a place is exempt.
+fn add_exempt(out: &mut String, regions: &[Region], place: Pos) -> Result<(), AllocError> {
+    out.push_str(if exempt(regions, place) {
+        "exempt\n"
+    } else {
+        "not exempt\n"
+    })
+}
+
 /// Answers whether a place is exempt.
 pub(crate) fn exempt_in_blob(
     alloc: Global,
@@ -229,10 +248,9 @@ pub(crate) fn exempt_in_blob(
     words: &str,
 ) -> Answer {
     let place = place_of(words)?;
-    match regions_of(alloc, source)? {
-        Ok(regions) if exempt(regions.as_slice(), place) => out.push_str("exempt\n")?,
-        Ok(_) => out.push_str("not exempt\n")?,
-        Err(pos) => add_fault(out, pos, "exemption error")?,
-    }
-    Ok(())
+    let added = match regions_of(alloc, source)? {
+        Ok(regions) => add_exempt(out, regions.as_slice(), place),
+        Err(pos) => add_fault(out, pos, "exemption error"),
+    };
+    Ok(added?)
 }

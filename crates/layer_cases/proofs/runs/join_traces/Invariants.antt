@@ -1,5 +1,5 @@
 use Rattle.std.proofs.Common.{◌≡◌}
-use Rattle.layer_cases.proofs.runs.covered_by_all.Given as goal
+use Rattle.layer_cases.proofs.runs.join_traces.Given as goal
 
 -- what is covered so far is of the object
 abbrev pub invariant-loop-name : goal.invariant-loop-name
