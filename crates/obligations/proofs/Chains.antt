@@ -1,19 +1,18 @@
 -- The decisions in the parts of an expression and of a decision, and how large these parts are.
 use Rattle.std.proofs.Common.{◌≡◌, ℕ, zero, suc, ◌+◌, ◌<◌, ◌≤◌, Bool, List, [], ◌∷◌, ◌++◌, length, get_or, refl, sym, ◌∙◌, arith}
 use Rattle.std.proofs.lemmas.List.{append_assoc, append-nil}
-use Rattle.ada_meaning.specs.Collected.{in_expr, in_actuals, in_value, in_test}
+use Rattle.ada_meaning.specs.Collected.{in_expr, in_parts, in_actuals, in_value, in_test}
 use Rattle.ada_meaning.specs.Tree as tree
 use Rattle.ada_tree.specs.declared.expr.Actual.{Actual}
 use Rattle.ada_tree.specs.declared.expr.Actual.TheVariants as actual
 use Rattle.ada_tree.specs.declared.expr.Operand.{Operand}
-use Rattle.ada_tree.specs.Sizes.{expr_size, test_size}
-use Rattle.ada_tree.specs.View.{operator_of, with_operands, with_tests, actuals_of, value_of}
-use Rattle.ada_tree.specs.contracts.statement.NewValue.{enum}
-use Rattle.ada_tree.specs.declared.statement.NewValue.{NewValue}
-use Rattle.ada_tree.specs.declared.statement.NewValue.TheVariants as value
-use borrow.Enum.Total.{values_d}
-use borrow.Enum.Known.{ValuesAt}
-use Rattle.obligations.specs.Operands.{in_operands, in_tests, in_actual}
+use Rattle.ada_tree.specs.declared.expr.Selector.{Selector}
+use Rattle.ada_tree.specs.declared.expr.Selector.TheVariants as selector
+use Rattle.ada_tree.specs.declared.statement.Indices.{Indices}
+use Rattle.ada_tree.specs.declared.types.ScalarRange.{ScalarRange}
+use Rattle.ada_tree.specs.Sizes.{expr_size, parts_size, actuals_size, test_size}
+use Rattle.ada_tree.specs.View.{operator_of, with_operands, with_tests, with_selector, parts_of, with_actual, actuals_of, others_of, others_by}
+use Rattle.obligations.specs.Operands.{in_operands, in_tests, in_selector, in_actual}
 
 -- a chain has those of its first operand, and then those of the others
 pub in_chain : (n : ℕ) (e : tree.Expr) (os : List Operand) → in_expr n (with_operands e os) ≡ in_expr n e ++ in_operands n os
@@ -75,7 +74,49 @@ test_positive (tree.operator neutral t u) = omega arith
 pub actuals_front : (n : ℕ) (a : Actual) (rest : List Actual) → in_actuals n (actuals_of (a ∷ rest)) ≡ in_actual n a ++ in_actuals n (actuals_of rest)
 actuals_front n (actual.Expression e) rest = refl
 actuals_front n (actual.Variable o r) rest = refl
+actuals_front n (actual.Part o ss r) rest = refl
+actuals_front n (actual.Composite o ss) rest = refl
 
--- a value that is set has those of its expression
-pub in_scalar : (absent : ValuesAt enum.parts 0) (v : NewValue) (n : ℕ) → in_expr n (values_d enum 0 absent v).1.0 ≡ in_value n (value_of v)
-in_scalar absent (value.Scalar r e) n = refl
+-- selectors likewise
+pub parts_front : (n : ℕ) (s : Selector) (ss : List Selector) → in_parts n (parts_of (s ∷ ss)) ≡ in_selector n s ++ in_parts n (parts_of ss)
+parts_front n (selector.Component k) ss = refl
+parts_front n (selector.Element r e) ss = refl
+
+-- how large an actual and a selector are, and that they are smaller than the list that they stand in
+abbrev pub actual_size : Actual → ℕ
+actual_size (actual.Expression e) = expr_size e
+actual_size (actual.Variable o r) = 0
+actual_size (actual.Part o ss r) = parts_size (parts_of ss.items)
+actual_size (actual.Composite o ss) = parts_size (parts_of ss.items)
+
+abbrev pub selector_size : Selector → ℕ
+selector_size (selector.Component n) = 0
+selector_size (selector.Element r e) = expr_size e
+
+first_actual : (a : Actual) (rest : tree.Actuals) → actual_size a + actuals_size rest + 1 ≡ actuals_size (with_actual a rest)
+first_actual (actual.Expression e) rest = omega arith
+first_actual (actual.Variable o r) rest = omega arith
+first_actual (actual.Part o ss r) rest = omega arith
+first_actual (actual.Composite o ss) rest = omega arith
+
+pub actual_within : (xs : List Actual) (i : ℕ) (d : Actual) → i < length xs → actual_size (get_or xs i d) + 1 ≤ actuals_size (actuals_of xs)
+actual_within [] i d h = absurd (omega arith)
+actual_within (x ∷ xs) zero d h = omega (arith, first_actual x (actuals_of xs))
+actual_within (x ∷ xs) (suc i) d h = omega (arith, first_actual x (actuals_of xs), actual_within xs i d (omega arith))
+
+first_selector : (s : Selector) (rest : tree.Parts) → selector_size s + parts_size rest + 1 ≡ parts_size (with_selector s rest)
+first_selector (selector.Component n) rest = omega arith
+first_selector (selector.Element r e) rest = omega arith
+
+pub selector_within : (ss : List Selector) (i : ℕ) (d : Selector) → i < length ss → selector_size (get_or ss i d) + 1 ≤ parts_size (parts_of ss)
+selector_within [] i d h = absurd (omega arith)
+selector_within (s ∷ ss) zero d h = omega (arith, first_selector s (parts_of ss))
+selector_within (s ∷ ss) (suc i) d h = omega (arith, first_selector s (parts_of ss), selector_within ss i d (omega arith))
+
+-- (others => ..) holds those of its value
+others_held : (n : ℕ) (rs : List ScalarRange) (v : tree.NewValue) → in_value n (others_of rs v) ≡ in_value n v
+others_held n [] v = refl
+others_held n (r ∷ rs) v = others_held n rs v
+
+pub value_held : (n : ℕ) (i : Indices) (v : tree.NewValue) → in_value n (others_by i v) ≡ in_value n v
+value_held n i v = others_held n i.inner v

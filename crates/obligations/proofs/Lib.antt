@@ -2,3 +2,7 @@ pub mod Chains
 pub mod Lists
 pub mod Postfix
 pub mod Sizes
+pub mod Sorting
+pub mod Places
+pub mod Whole
+pub mod Growing

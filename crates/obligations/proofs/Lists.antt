@@ -7,15 +7,15 @@ use Rattle.cov_base.specs.declared.obligations.Region.{Region}
 use Rattle.cov_base.specs.declared.obligations.InstanceEntry.{InstanceEntry}
 use Rattle.cov_base.specs.declared.obligations.Obligations.{Obligations}
 use Rattle.ada_meaning.specs.Tree as tree
-use Rattle.ada_meaning.specs.Tree.{Label, Test, Stmt, Stmts, else_part, block, no_handler}
-use Rattle.ada_meaning.specs.Collected.{Standing, after_if, after_while, after_exit, Decision, in_decision, in_declarations, in_stmt, in_stmts, in_branches, in_block, in_value, declaration_labels, labels, all_labels, branch_labels, block_labels, labels_of, decisions_of}
-use Rattle.ada_meaning.specs.Obligations.{statement_entry, decision_entry, no_instance, predefined_names, ordered_labels, ordered_decisions, obligations_of}
-use Rattle.ada_tree.specs.View.{label_of, declaration_of, statements_of, branches_of, subprogram_of, program_of}
-use Rattle.ada_tree.specs.declared.program.Program.{Program}
+use Rattle.ada_meaning.specs.Tree.{Label, Test, Stmt, Stmts, Handlers, else_part, block}
+use Rattle.ada_meaning.specs.Collected.{Standing, after_if, after_while, after_exit, Decision, in_decision, in_declarations, in_stmt, in_stmts, in_branches, in_alternatives, in_handlers, in_block, in_value, declaration_labels, labels, all_labels, branch_labels, alternative_labels, handler_labels, block_labels}
+use Rattle.ada_meaning.specs.Obligations.{statement_entry, decision_entry, predefined_names}
+use Rattle.ada_tree.specs.View.{label_of, declaration_of, statements_of, branches_of, alternatives_of, handlers_of}
+use Rattle.ada_tree.specs.declared.statement.Alternative.{Alternative}
 use Rattle.ada_tree.specs.declared.statement.Branch.{Branch}
 use Rattle.ada_tree.specs.declared.statement.Declaration.{Declaration}
-use Rattle.ada_tree.specs.declared.program.Subprogram.{Subprogram}
-use Rattle.obligations.specs.Entries.{Entries, no_entry, joined, listed, of_label, of_nested, of_decision, of_declarations, of_statement, of_statements, of_block, of_branch, of_branches, of_subprograms, predefined}
+use Rattle.ada_tree.specs.declared.statement.Handler.{Handler}
+use Rattle.obligations.specs.Entries.{Entries, no_entry, joined, listed, of_label, of_nested, of_decision, of_declarations, of_statement, of_statements, of_alternatives, of_handlers, of_block, of_branch, of_branches, predefined}
 
 pub joined_nothing : (a : Entries) → joined a no_entry ≡ a
 unfolding joined
@@ -65,7 +65,7 @@ one_more F f step xs i d x a c lt is added =
 pub none_left : {X : Type 0} (F : List X → Entries) → F [] ≡ no_entry → (xs : List X) (i : ℕ) (a c : Entries) → length xs ≤ i → joined a (F (drop i xs)) ≡ c → a ≡ c
 none_left F empty xs i a c all whole = sym (joined_nothing a) ∙ ap (joined a) (sym (at_drop_all F xs i all ∙ empty)) ∙ whole
 
--- statements, declarations, branches and subprograms, one after another
+-- statements, declarations and branches, one after another
 pub statements_front : (s : Stmt) (ss : List Stmt) → of_statements (statements_of (s ∷ ss)) ≡ joined (of_statement s) (of_statements (statements_of ss))
 statements_front s ss = listed_joined (labels s) (all_labels (statements_of ss)) (in_stmt s) (in_stmts (statements_of ss))
 
@@ -78,10 +78,6 @@ declarations_front d ds = front (declaration_of d) (map declaration_of ds)
         ap (λ es. listed (l ∷ declaration_labels ds) (es ++ in_declarations ds)) (sym (append-nil (in_value l.number v)))
         ∙ listed_joined (l ∷ []) (declaration_labels ds) (in_value l.number v ++ []) (in_declarations ds)
     front (tree.without_value n t) ds = listed_joined [] (declaration_labels ds) [] (in_declarations ds)
-
-pub subprograms_front : (s : Subprogram) (ss : List Subprogram) → of_subprograms (s ∷ ss) ≡ joined (of_block s.body) (of_subprograms ss)
-subprograms_front s ss =
-    listed_joined (block_labels s.body) (labels_of (map subprogram_of ss)) (in_block s.body) (decisions_of (map subprogram_of ss))
 
 -- the parts of statements
 pub loop_parts : (l : Label) (ss : Stmts) → joined (of_label l) (of_statements ss) ≡ of_statement (tree.bare_loop l ss)
@@ -134,14 +130,33 @@ if_parts l bs other =
     ap (joined (of_label l)) (branches_parts l.number bs other)
     ∙ sym (listed_joined (l ∷ []) (branch_labels (branches_of bs other)) [] (in_branches l.number (branches_of bs other)))
 
--- a block without handlers
-pub block_parts : (ds : List Declaration) (ss : Stmts) → joined (of_declarations ds) (of_statements ss) ≡ of_block (block (map declaration_of ds) ss no_handler)
-block_parts ds ss =
+-- the decisions in the expressions of a statement, and what is in it behind them
+pub held_behind : (l : Label) (hs : List Decision) (ls : List Label) (ds : List Decision)
+    → joined (of_label l) (joined (of_nested hs) (listed ls ds)) ≡ listed (l ∷ ls) (hs ++ ds)
+held_behind l hs ls ds = ap (joined (of_label l)) (sym (listed_joined [] ls hs ds)) ∙ sym (listed_joined (l ∷ []) ls [] (hs ++ ds))
+
+-- alternatives and handlers, one after another
+pub alternatives_front : (a : Alternative) (rest : List Alternative)
+    → of_alternatives (alternatives_of (a ∷ rest)) ≡ joined (of_statements (statements_of a.statements.items)) (of_alternatives (alternatives_of rest))
+alternatives_front a rest =
+    let ss = statements_of a.statements.items in
+    listed_joined (all_labels ss) (alternative_labels (alternatives_of rest)) (in_stmts ss) (in_alternatives (alternatives_of rest))
+
+pub handlers_front : (h : Handler) (rest : List Handler)
+    → of_handlers (handlers_of (h ∷ rest)) ≡ joined (of_statements (statements_of h.statements.items)) (of_handlers (handlers_of rest))
+handlers_front h rest =
+    let ss = statements_of h.statements.items in
+    listed_joined (all_labels ss) (handler_labels (handlers_of rest)) (in_stmts ss) (in_handlers (handlers_of rest))
+
+-- a block
+pub block_parts : (ds : List Declaration) (ss : Stmts) (hs : Handlers)
+    → joined (of_declarations ds) (joined (of_statements ss) (of_handlers hs)) ≡ of_block (block (map declaration_of ds) ss hs)
+block_parts ds ss hs =
     let ls = declaration_labels (map declaration_of ds) in
     let es = in_declarations (map declaration_of ds) in
-    sym (listed_joined ls (all_labels ss) es (in_stmts ss))
-    ∙ ap (λ zs. listed zs (es ++ in_stmts ss)) (sym (append-nil (ls ++ all_labels ss)))
-    ∙ ap (λ zs. listed (ls ++ all_labels ss ++ []) zs) (sym (append-nil (es ++ in_stmts ss)))
+    sym (joined_assoc (of_declarations ds) (of_statements ss) (of_handlers hs))
+    ∙ ap (λ z. joined z (of_handlers hs)) (sym (listed_joined ls (all_labels ss) es (in_stmts ss)))
+    ∙ sym (listed_joined (ls ++ all_labels ss) (handler_labels hs) (es ++ in_stmts ss) (in_handlers hs))
 
 -- three parts
 pub three_added : {A E : Type 0} (r : Result A E) (a b c d x y z : Entries)
@@ -167,31 +182,3 @@ decision_added ss ds new a e h view is pushed =
 pub predefined_are : predefined ≡ predefined_names
 unfolding predefined
 predefined_are = refl
-
-abbrev made : List StmtEntry → List DecEntry → List Region → List InstanceEntry → List (List ℕ) → Obligations
-made ss ds rs is xs = record { statements = ss; decisions = ds; regions = rs; instances = is; exceptions = xs }
-
--- a program whose statements and decisions stand in order
-module _ (p : Program) (ordered : ordered_labels (program_of p) ≡ labels_of (program_of p).subprograms)
-    (decided : ordered_decisions (program_of p) ≡ decisions_of (program_of p).subprograms) where
-  in_order_are : of_subprograms p.subprograms ≡ listed (ordered_labels (program_of p)) (ordered_decisions (program_of p))
-  in_order_are = λ k. listed (sym ordered k) (sym decided k)
-
-  statements_are : (of_subprograms p.subprograms).statements ≡ map statement_entry (ordered_labels (program_of p))
-  unfolding listed
-  statements_are = ap (λ (a : Entries). a.statements) in_order_are
-
-  decisions_are : (of_subprograms p.subprograms).decisions ≡ map decision_entry (ordered_decisions (program_of p))
-  unfolding listed
-  decisions_are = ap (λ (a : Entries). a.decisions) in_order_are
-
-  pub all_parts : (a : Entries) (ss : List StmtEntry) (ds : List DecEntry) (rs : List Region) (is : List InstanceEntry) (xs : List (List ℕ))
-      → a ≡ of_subprograms p.subprograms → ss ≡ a.statements → ds ≡ a.decisions → rs ≡ [] → is ≡ no_instance ∷ [] → xs ≡ predefined_names
-      → made ss ds rs is xs ≡ obligations_of (program_of p) []
-  all_parts a ss ds rs is xs e s d r i x = λ k. record {
-    statements = (s ∙ ap (λ (z : Entries). z.statements) e ∙ statements_are) k;
-    decisions = (d ∙ ap (λ (z : Entries). z.decisions) e ∙ decisions_are) k;
-    regions = r k;
-    instances = i k;
-    exceptions = x k;
-  }

@@ -2,10 +2,10 @@
 use Rattle.std.specs.Prelude.{List, [], ◌∷◌, ◌++◌, codes, ℕ, map}
 use Rattle.cov_base.specs.declared.obligations.StmtEntry.{StmtEntry}
 use Rattle.cov_base.specs.declared.obligations.DecEntry.{DecEntry}
-use Rattle.ada_meaning.specs.Tree.{Label, Test, Stmt, Stmts, Block}
-use Rattle.ada_meaning.specs.Collected.{Standing, after_if, Decision, in_decision, in_declarations, in_stmt, in_stmts, in_block, declaration_labels, labels, all_labels, block_labels, labels_of, decisions_of}
+use Rattle.ada_meaning.specs.Tree.{Label, Test, Stmt, Stmts, Alternatives, Handlers, Block}
+use Rattle.ada_meaning.specs.Collected.{Standing, after_if, Decision, in_decision, in_declarations, in_stmt, in_stmts, in_alternatives, in_handlers, in_block, declaration_labels, labels, all_labels, alternative_labels, handler_labels, block_labels, labels_of, decisions_of}
 use Rattle.ada_meaning.specs.Obligations.{statement_entry, decision_entry}
-use Rattle.ada_tree.specs.View.{label_of, declaration_of, statements_of, subprogram_of}
+use Rattle.ada_tree.specs.View.{label_of, declaration_of, statements_of}
 use Rattle.ada_tree.specs.declared.statement.Branch.{Branch}
 use Rattle.ada_tree.specs.declared.statement.Declaration.{Declaration}
 use Rattle.ada_tree.specs.declared.program.Subprogram.{Subprogram}
@@ -51,6 +51,12 @@ of_statement s = listed (labels s) (in_stmt s)
 abbrev pub of_statements : Stmts → Entries
 of_statements ss = listed (all_labels ss) (in_stmts ss)
 
+abbrev pub of_alternatives : Alternatives → Entries
+of_alternatives xs = listed (alternative_labels xs) (in_alternatives xs)
+
+abbrev pub of_handlers : Handlers → Entries
+of_handlers hs = listed (handler_labels hs) (in_handlers hs)
+
 abbrev pub of_block : Block → Entries
 of_block b = listed (block_labels b) (in_block b)
 
@@ -64,7 +70,8 @@ of_branches statement [] = no_entry
 of_branches statement (b ∷ bs) = joined (of_branch statement b) (of_branches statement bs)
 
 abbrev pub of_subprograms : List Subprogram → Entries
-of_subprograms ss = listed (labels_of (map subprogram_of ss)) (decisions_of (map subprogram_of ss))
+of_subprograms [] = no_entry
+of_subprograms (s ∷ ss) = joined (of_block s.body) (of_subprograms ss)
 
 -- the names of the predefined exceptions, in the order of their numbers
 unfoldable pub predefined : List (List ℕ)

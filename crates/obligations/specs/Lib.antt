@@ -1,2 +1,4 @@
 pub mod Entries
 pub mod Operands
+pub mod Ordered
+pub mod Exceptions

@@ -8,7 +8,7 @@ ghost use Rattle.obligations.specs.Entries.{no_entry, joined, of_label, of_neste
 
 use crate::decisions::decision_entry;
 use ada_tree::{Label, Test};
-use cov_base::{DecEntry, Letter, Seq, StmtEntry};
+use cov_base::{DecEntry, Letter, StmtEntry};
 use std::alloc::{AllocError, Global};
 use std::marker::Model;
 
@@ -65,11 +65,11 @@ impl Listing {
     }
 
     /// The entries of statements, and those of decisions.
-    pub(crate) fn into_parts(self) -> (Seq<StmtEntry>, Seq<DecEntry>)
-        ensures statements { result.0 ≡ self.statements }
-        ensures decisions { result.1 ≡ self.decisions }
+    pub(crate) fn into_parts(self) -> (Vec<StmtEntry>, Vec<DecEntry>)
+        ensures statements { result.0.items ≡ self.statements }
+        ensures decisions { result.1.items ≡ self.decisions }
     {
-        (Seq::from(self.statements), Seq::from(self.decisions))
+        (self.statements, self.decisions)
     }
 }
 

@@ -2,14 +2,16 @@
 //! parameters and in the conditions of other decisions.
 
 ghost use Rattle.std.specs.Prelude.{◌≡◌, OnOk};
-ghost use Rattle.ada_meaning.specs.Collected.{Standing, in_expr, in_actuals, in_value, in_test};
+ghost use Rattle.ada_meaning.specs.Collected.{Standing, in_expr, in_parts, in_actuals, in_value, in_turns, in_test};
 ghost use Rattle.ada_meaning.specs.Obligations.{letter_of};
-ghost use Rattle.ada_tree.specs.View.{actuals_of, label_of, value_of};
+ghost use Rattle.ada_tree.specs.View.{parts_of, actuals_of, label_of, turns_of, value_of};
 ghost use Rattle.obligations.specs.Entries.{joined, of_decision, of_nested};
-ghost use Rattle.obligations.specs.Operands.{in_actual, in_operands, in_tests};
+ghost use Rattle.obligations.specs.Operands.{in_actual, in_operands, in_selector, in_tests};
 
 use crate::listing::Listing;
-use ada_tree::{Actual, Decision, Expr, ExprKind, Label, NewValue, Operand, Test, TestKind};
+use ada_tree::{
+    Actual, Decision, Expr, ExprKind, Label, LoopRange, NewValue, Operand, Selector, Test, TestKind,
+};
 use cov_base::Letter;
 use std::alloc::AllocError;
 
@@ -71,14 +73,22 @@ fn add_in_tests(listing: &mut Listing, statement: u32, tests: &[Test]) -> Result
 
 /// Adds those in an expression: an outer one before those nested in it.
 #[cycle(nested)]
-fn add_in_expression(listing: &mut Listing, statement: u32, expr: &Expr) -> Result<(), AllocError>
+pub(crate) fn add_in_expression(
+    listing: &mut Listing,
+    statement: u32,
+    expr: &Expr,
+) -> Result<(), AllocError>
     ensures { OnOk result (listing.new ≡ joined listing.old (of_nested (in_expr statement expr.now))) }
 {
     match &expr.kind {
         ExprKind::Literal(_) | ExprKind::Constant(_) | ExprKind::Read(_) => Ok(()),
-        ExprKind::Signed(_, operand) | ExprKind::Complement(operand) => {
-            add_in_expression(listing, statement, operand)
+        ExprKind::Part(_, parts) | ExprKind::Attribute(_, parts, _) => {
+            add_in_parts(listing, statement, parts)
         }
+        ExprKind::Signed(_, operand)
+        | ExprKind::Complement(operand)
+        | ExprKind::Conversion(_, operand) => add_in_expression(listing, statement, operand),
+        ExprKind::Call(_, actuals) => add_in_actuals(listing, statement, actuals),
         ExprKind::Relation(_, left, right) => {
             add_in_expression(listing, statement, left)?;
             add_in_expression(listing, statement, right)
@@ -108,19 +118,38 @@ fn add_in_operands(
     Ok(())
 }
 
-/// Adds those in what an object is set to.
-pub(crate) fn add_in_value(
+/// Adds those in the indices of a name.
+#[cycle(nested)]
+pub(crate) fn add_in_parts(
     listing: &mut Listing,
     statement: u32,
-    value: &NewValue,
+    parts: &[Selector],
 ) -> Result<(), AllocError>
-    ensures { OnOk result (listing.new ≡ joined listing.old (of_nested (in_value statement (value_of value.now)))) }
+    ensures { OnOk result (listing.new ≡ joined listing.old (of_nested (in_parts statement (parts_of parts.now)))) }
 {
-    let NewValue::Scalar(_, expr) = value;
-    add_in_expression(listing, statement, expr)
+    for part in parts {
+        add_in_selector(listing, statement, part)?;
+    }
+    Ok(())
+}
+
+/// Adds those in a selector: in an index.
+#[cycle(nested)]
+fn add_in_selector(
+    listing: &mut Listing,
+    statement: u32,
+    selector: &Selector,
+) -> Result<(), AllocError>
+    ensures { OnOk result (listing.new ≡ joined listing.old (of_nested (in_selector statement selector.now))) }
+{
+    match selector {
+        Selector::Component(_) => Ok(()),
+        Selector::Element(_, index) => add_in_expression(listing, statement, index),
+    }
 }
 
 /// Adds those in actual parameters.
+#[cycle(nested)]
 pub(crate) fn add_in_actuals(
     listing: &mut Listing,
     statement: u32,
@@ -135,11 +164,48 @@ pub(crate) fn add_in_actuals(
 }
 
 /// Adds those in an actual parameter.
+#[cycle(nested)]
 fn add_in_actual(listing: &mut Listing, statement: u32, actual: &Actual) -> Result<(), AllocError>
     ensures { OnOk result (listing.new ≡ joined listing.old (of_nested (in_actual statement actual.now))) }
 {
     match actual {
         Actual::Expression(expr) => add_in_expression(listing, statement, expr),
         Actual::Variable(_, _) => Ok(()),
+        Actual::Part(_, parts, _) | Actual::Composite(_, parts) => {
+            add_in_parts(listing, statement, parts)
+        }
+    }
+}
+
+/// Adds those in what an object is set to.
+pub(crate) fn add_in_value(
+    listing: &mut Listing,
+    statement: u32,
+    value: &NewValue,
+) -> Result<(), AllocError>
+    ensures { OnOk result (listing.new ≡ joined listing.old (of_nested (in_value statement (value_of value.now)))) }
+{
+    match value {
+        NewValue::Scalar(_, expr) => add_in_expression(listing, statement, expr),
+        NewValue::OthersScalar(_, _, expr) => add_in_expression(listing, statement, expr),
+        NewValue::Composite(_, _, _, parts) => add_in_parts(listing, statement, parts),
+        NewValue::OthersComposite(_, _, _, _, parts) => add_in_parts(listing, statement, parts),
+    }
+}
+
+/// Adds those in the bounds of a for loop.
+pub(crate) fn add_in_turns(
+    listing: &mut Listing,
+    statement: u32,
+    turns: &LoopRange,
+) -> Result<(), AllocError>
+    ensures { OnOk result (listing.new ≡ joined listing.old (of_nested (in_turns statement (turns_of turns.now)))) }
+{
+    match turns {
+        LoopRange::Subtype(_) => Ok(()),
+        LoopRange::Bounds(first, last) => {
+            add_in_expression(listing, statement, first)?;
+            add_in_expression(listing, statement, last)
+        }
     }
 }

@@ -1,11 +1,11 @@
-use Rattle.std.proofs.Common.{[], ◌∷◌, rules, sym, ap, ◌∙◌, arith}
-use Rattle.ada_meaning.specs.Collected.{in_expr, in_test}
+use Rattle.std.proofs.Common.{[], ◌∷◌, refl, rules, sym, ap, ◌∙◌, arith}
+use Rattle.ada_meaning.specs.Collected.{in_expr, in_parts, in_actuals, in_test}
 use Rattle.ada_tree.specs.declared.expr.Operand.{Operand}
 use Rattle.ada_tree.specs.Sizes.{expr_size, test_size}
-use Rattle.ada_tree.specs.View.{label_of, neutral_of, expr_at, test_at}
+use Rattle.ada_tree.specs.View.{label_of, neutral_of, parts_of, actuals_of, expr_at, test_at}
 use Rattle.obligations.specs.Entries.{the_decision, of_nested}
-use Rattle.obligations.specs.Operands.{in_operands, in_tests}
-use Rattle.obligations.proofs.Chains.{in_chain, in_forms, operands_size, chain_size, operand_within, expr_positive, tests_size, forms_size, test_within, test_positive}
+use Rattle.obligations.specs.Operands.{in_operands, in_tests, in_selector, in_actual}
+use Rattle.obligations.proofs.Chains.{in_chain, in_forms, operands_size, chain_size, operand_within, expr_positive, tests_size, forms_size, test_within, test_positive, actual_size, actual_within, actuals_front, selector_size, selector_within, parts_front}
 use Rattle.obligations.proofs.Lists.{then_added, same_added, one_more, none_left, nothing_listed, nothing_added, nested_parts}
 use Rattle.obligations.proofs.nested.+nested.Goals as goal
 
@@ -85,7 +85,7 @@ add_in_expression-returns-in_ok-add_in_expression-in-Relation t c =
     rw (← c.expr.view_is, c.in-Relation.is)
     (same_added c.add_in_expression-in-Relation.result _ _ _ _ (nested_parts (in_expr n left) (in_expr n right))
     (then_added c.add_in_expression-in-Relation.result _ _ _ (of_nested (in_expr n left)) (of_nested (in_expr n right))
-    (rw c.deref.ensures at c.in_ok-add_in_expression-in-Relation.ensures) (rw c.deref-in-Relation.ensures at c.add_in_expression-in-Relation.ensures)))
+    (rw c.deref-in-Relation.ensures at c.in_ok-add_in_expression-in-Relation.ensures) (rw c.deref-in-Relation-2.ensures at c.add_in_expression-in-Relation.ensures)))
 
 pub add_in_expression-returns-in_ok-add_in_expression-in-Operations : goal.add_in_expression-returns-in_ok-add_in_expression-in-Operations
 add_in_expression-returns-in_ok-add_in_expression-in-Operations t c =
@@ -130,3 +130,61 @@ pub add_in_operands-returns : goal.add_in_operands-returns
 add_in_operands-returns t c =
     none_left (λ os. of_nested (in_operands c.args.statement os)) nothing_listed
     c.args.operands.now c.loop-operand.operand-index _ _ (omega (arith, c.loop-operand-test.false)) c.loop-operand.invariant
+
+pub add_in_parts-add_in_selector-requires : goal.add_in_parts-add_in_selector-requires
+add_in_parts-add_in_selector-requires t c = (
+  omega (
+    arith,
+    c.decreases,
+    selector_within c.args.parts.now c.loop-part.part-index c.part-item.result (omega arith),
+    ap
+        selector_size c.part-item.is,
+  ),
+  tt,
+)
+
+pub add_in_parts-loop-part-preserved : goal.add_in_parts-loop-part-preserved
+add_in_parts-loop-part-preserved t c =
+    let s = c.part-item.result in
+    let n = c.args.statement in
+    one_more (λ ss. of_nested (in_parts n (parts_of ss))) (λ s. of_nested (in_selector n s))
+    (λ s ss. ap of_nested (parts_front n s ss) ∙ sym (nested_parts (in_selector n s) (in_parts n (parts_of ss))))
+    c.args.parts.now c.loop-part.part-index s s _ _ c.loop-part-test.true c.part-item.is c.in_ok-add_in_selector.ensures
+    ∙ c.loop-part.invariant
+
+pub add_in_parts-returns : goal.add_in_parts-returns
+add_in_parts-returns t c =
+    none_left (λ ss. of_nested (in_parts c.args.statement (parts_of ss))) nothing_listed
+    c.args.parts.now c.loop-part.part-index _ _ (omega (arith, c.loop-part-test.false)) c.loop-part.invariant
+
+pub add_in_actuals-add_in_actual-requires : goal.add_in_actuals-add_in_actual-requires
+add_in_actuals-add_in_actual-requires t c = (
+  omega (
+    arith,
+    c.decreases,
+    actual_within c.args.actuals.now c.loop-actual.actual-index c.actual-item.result (omega arith),
+    ap
+        actual_size c.actual-item.is,
+  ),
+  tt,
+)
+
+pub add_in_actuals-loop-actual-preserved : goal.add_in_actuals-loop-actual-preserved
+add_in_actuals-loop-actual-preserved t c =
+    let a = c.actual-item.result in
+    let n = c.args.statement in
+    one_more (λ rest. of_nested (in_actuals n (actuals_of rest))) (λ a. of_nested (in_actual n a))
+    (λ a rest. ap of_nested (actuals_front n a rest) ∙ sym (nested_parts (in_actual n a) (in_actuals n (actuals_of rest))))
+    c.args.actuals.now c.loop-actual.actual-index a a _ _ c.loop-actual-test.true c.actual-item.is c.in_ok-add_in_actual.ensures
+    ∙ c.loop-actual.invariant
+
+pub add_in_actuals-returns : goal.add_in_actuals-returns
+add_in_actuals-returns t c =
+    none_left (λ rest. of_nested (in_actuals c.args.statement (actuals_of rest))) nothing_listed
+    c.args.actuals.now c.loop-actual.actual-index _ _ (omega (arith, c.loop-actual-test.false)) c.loop-actual.invariant
+
+pub add_in_selector-returns-in-Component : goal.add_in_selector-returns-in-Component
+add_in_selector-returns-in-Component t c = rw c.in-Component.is (nothing_added c.args.listing.now [] refl)
+
+pub add_in_actual-returns-in-Variable : goal.add_in_actual-returns-in-Variable
+add_in_actual-returns-in-Variable t c = rw c.in-Variable.is (nothing_added c.args.listing.now [] refl)
