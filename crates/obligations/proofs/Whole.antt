@@ -73,8 +73,8 @@ in_generic d g n (i ∷ is) = by_test (nat_eq i.generic g) (in_generic d g (suc 
 
     by_test : (b : Bool) → map named_of (listed_for (exception_declaration_of d) g (suc n) (map instance_of is)) ≡ in_instances d g is
         → map named_of (if b
-            then record { entry = record { instance = n; declaration = d.declaration }; outer = i.place; inner = d.place; name = full_name i.name d.name } ∷ listed_for (exception_declaration_of d) g (suc n) (map instance_of is)
-            else listed_for (exception_declaration_of d) g (suc n) (map instance_of is))
+        then record { entry = record { instance = n; declaration = d.declaration }; outer = i.place; inner = d.place; name = full_name i.name d.name } ∷ listed_for (exception_declaration_of d) g (suc n) (map instance_of is)
+        else listed_for (exception_declaration_of d) g (suc n) (map instance_of is))
         ≡ (if b then own ∷ [] else []) ++ in_instances d g is
     by_test true rest = ap (λ xs. own ∷ xs) rest
     by_test false rest = rest
