@@ -1,4 +1,5 @@
-use Rattle.std.proofs.Common.{◌≡◌, ◌∙◌, ap, rules, subst}
+use Rattle.std.proofs.Common.{◌≡◌, ◌∙◌, ap, rules, subst, arith}
+use Rattle.ada_names.proofs.Blame.{blames}
 use Rattle.ada_names.specs.Names.{hiding}
 use Rattle.ada_names.specs.Naming.{inner}
 use Rattle.ada_names.specs.ScopeView.{surroundings}
@@ -44,3 +45,9 @@ returns-in_err-check_initial-in-Object-clause-refused c =
     c.in_err-check_initial-in-Object.ensures in
     let r = by_initial k c.args.declaration.now o.names o.field-1 o.indication o.initial o.is one in
     search (rules, r)
+
+pub returns-in_err-declare_objects-in-Object-clause-refused : goal.returns-in_err-declare_objects-in-Object-clause-refused
+returns-in_err-declare_objects-in-Object-clause-refused c = grind (arith, blames)
+
+pub returns-in_err-with_more-in-Object-clause-refused : goal.returns-in_err-with_more-in-Object-clause-refused
+returns-in_err-with_more-in-Object-clause-refused c = grind (arith, blames)

@@ -9,7 +9,7 @@ use Rattle.ada_names.specs.Naming.{expr_known}
 use Rattle.ada_names.specs.Rules.{expression, name, holds}
 use Rattle.ada_names.specs.NameCode.{SomeRefused, AllPass, Denotes, operand_construct}
 use Rattle.ada_names.specs.Answer.{Refused, Passes, unnamed}
-use Rattle.ada_names.proofs.Blame.{some_item, some_later, all_more}
+use Rattle.ada_names.proofs.Blame.{some_item, some_later, all_more, blames}
 use Rattle.ada_names.proofs.TreeLaws as laws
 use Rattle.ada_names.proofs.expressions.+expressions.Goals as goal
 
@@ -282,3 +282,6 @@ check_suffixes-loop-suffix-preserved t c n d =
     let i = c.loop-suffix.suffix-index in
     subst (λ m. Denotes rs m c.args.pos c.in_ok-denoted.denoted) (sym (laws.next_suffix n ss i c.suffix-item.result (omega arith) c.suffix-item.is))
     (c.in_ok-denoted.ensures (with_suffixes n (take i ss)) (c.loop-suffix.invariant n d))
+
+pub check_name-returns-in_err-prefix : goal.check_name-returns-in_err-prefix
+check_name-returns-in_err-prefix t c = grind (arith, blames)

@@ -5,7 +5,7 @@ use Rattle.ada_names.specs.Library.{item_name, with_units}
 use Rattle.ada_names.specs.Naming.{units_new}
 use Rattle.ada_names.specs.Rules.{library_names}
 use Rattle.ada_names.specs.NameCode.{SomeRefused}
-use Rattle.ada_names.proofs.Blame.{drop_item}
+use Rattle.ada_names.proofs.Blame.{drop_item, blames}
 use Rattle.ada_names.proofs.UnitLaws.{named_first, named_later, named_more}
 use Rattle.ada_names.proofs.library.declare_units.Goals as goal
 
@@ -33,3 +33,12 @@ loop-index-preserved c =
       refused = λ f r. c.loop-index.invariant.refused f (named_later us i u (omega arith) c.index-units-index.is region
           (subst (λ q. SomeRefused (library_names (i + 1) (drop (i + 1) us) q) f) declared r));
     }
+
+pub returns-in_err-declare-clause-refused : goal.returns-in_err-declare-clause-refused
+returns-in_err-declare-clause-refused c = grind (arith, blames)
+
+pub returns-in_err-from_slice-clause-refused : goal.returns-in_err-from_slice-clause-refused
+returns-in_err-from_slice-clause-refused c = grind (arith, blames)
+
+pub returns-in_err-numbered-clause-refused : goal.returns-in_err-numbered-clause-refused
+returns-in_err-numbered-clause-refused c = grind (arith, blames)

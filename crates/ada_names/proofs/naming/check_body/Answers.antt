@@ -1,5 +1,6 @@
-use Rattle.std.proofs.Common.{◌≡◌, [], ◌∷◌, ap, rules, ◌∙◌, subst, true}
+use Rattle.std.proofs.Common.{◌≡◌, [], ◌∷◌, ap, rules, ◌∙◌, subst, true, arith}
 use Rattle.ada_syntax.specs.StatementView.{statements_of}
+use Rattle.ada_names.proofs.Blame.{blames}
 use Rattle.ada_names.specs.Library.{declarations_of_item}
 use Rattle.ada_names.specs.Naming.{Surroundings, declarations_known, of_unit, of_body, after_all}
 use Rattle.ada_names.specs.ScopeView.{surroundings}
@@ -35,3 +36,6 @@ returns c =
     let body : Passes (rules_on.sequence (of_body seen item) ss) r =
     subst (λ (q : Surroundings). Passes (rules_on.sequence q ss) r) behind c.check_statements.ensures.checked in
     body_passes seen item r known (subst (λ xs. Passes (rules_on.sequence (of_body seen item) xs) r) c.statements_of.ensures body)
+
+pub returns-in_err-open : goal.returns-in_err-open
+returns-in_err-open c = grind (arith, blames)

@@ -1,4 +1,5 @@
-use Rattle.std.proofs.Common.{◌≡◌, rules, sym, ◌∙◌, subst, true}
+use Rattle.std.proofs.Common.{◌≡◌, rules, sym, ◌∙◌, subst, true, arith}
+use Rattle.ada_names.proofs.Blame.{blames}
 use Rattle.ada_names.specs.declared.library.Library.{Library}
 use Rattle.ada_names.specs.Naming.{library_of, units_named}
 use Rattle.ada_names.specs.Rules.{program, units_from}
@@ -35,3 +36,6 @@ returns-in-None-clause-refused c =
     (sym (units_known c.in_ok-library.library 0 us) ∙ c.in_ok-check_units.ensures) in
     subst (λ f. Refused (program us c.args.main.now) f) (sym c.unnamed.ensures)
     (no_main us c.args.main.now c.in_ok-library.ensures.fresh known (sym c.in_ok-number.ensures ∙ c.in-None.is))
+
+pub returns-in_err-number-clause-refused : goal.returns-in_err-number-clause-refused
+returns-in_err-number-clause-refused c = grind (arith, blames)

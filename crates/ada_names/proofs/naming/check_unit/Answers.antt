@@ -1,5 +1,6 @@
-use Rattle.std.proofs.Common.{rules, ◌≡◌, subst, map, true}
+use Rattle.std.proofs.Common.{rules, ◌≡◌, subst, map, true, arith}
 use Rattle.std.specs.List.{list_all}
+use Rattle.ada_names.proofs.Blame.{blames}
 use Rattle.ada_names.specs.Rules.{holds, with_clause}
 use Rattle.ada_names.specs.NameCode.{SomeRefused}
 use Rattle.ada_names.specs.NameCode.{body_parts}
@@ -35,3 +36,6 @@ returns c =
     subst (λ ws. list_all holds (map (with_clause library n) ws) ≡ true) c.as_slice.ensures c.in_ok-check_clauses.ensures in
     unit_passes library n u c.check_ending.result clauses (subst (λ s. list_all holds (body_parts s u.item) ≡ true) c.in_ok-seen.ensures
     c.in_ok-check_body.ensures) c.check_ending.ensures
+
+pub returns-in_err-seen : goal.returns-in_err-seen
+returns-in_err-seen c = grind (arith, blames)

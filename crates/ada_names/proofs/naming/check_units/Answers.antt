@@ -1,5 +1,6 @@
 use Rattle.std.proofs.Common.{◌≡◌, rules, arith, sym, ◌∙◌, subst, true}
 use Rattle.std.proofs.lemmas.List.{at_drop_all}
+use Rattle.ada_names.proofs.Blame.{blames}
 use Rattle.ada_names.specs.Naming.{unit_named, units_named}
 use Rattle.ada_names.specs.Rules as rules_on
 use Rattle.ada_names.specs.Answer.{Refused}
@@ -34,3 +35,6 @@ returns c =
     let us = c.args.units.now in
     let i = c.loop-index.index in
     units_known library 0 us ∙ (sym c.loop-index.invariant.known ∙ at_drop_all (λ y. units_named library i y) us i (omega arith))
+
+pub returns-in_err-numbered : goal.returns-in_err-numbered
+returns-in_err-numbered c = grind (arith, blames)

@@ -10,7 +10,7 @@ use Rattle.ada_names.specs.ScopeView.{surroundings}
 use Rattle.ada_names.specs.NameCode.{SomeRefused}
 use Rattle.ada_names.specs.LocalsCode.{IsOpen, branch_parts, block_parts}
 use Rattle.ada_names.specs.Answer.{Refused, Passes}
-use Rattle.ada_names.proofs.Blame.{some_first, some_rest}
+use Rattle.ada_names.proofs.Blame.{some_first, some_rest, blames}
 use Rattle.ada_names.proofs.ScopeLaws.{opened}
 use Rattle.ada_names.proofs.StatementLaws as laws
 use Rattle.ada_names.proofs.statements.+statements.Goals as goal
@@ -233,3 +233,6 @@ check_statement-returns-in-Block-clause-checked t c =
     let p = c.statement.inside.pos in
     laws.block_passes (surroundings c.args.seen.now c.args.locals.now c.args.objects) p c.in-Block.declarations c.in-Block.handled c.args.statement.now
     c.check_block.result (ap (λ x. statement_at p x) (sym c.in-Block.is) ∙ c.statement.view_is) c.check_block.ensures.checked
+
+pub check_block-returns-in_err-open-clause-checked : goal.check_block-returns-in_err-open-clause-checked
+check_block-returns-in_err-open-clause-checked t c = grind (arith, blames)

@@ -1,6 +1,4 @@
-use Rattle.std.proofs.Common.{◌≤◌, ◌≡◌, length, ap, sym, arith}
-use Rattle.expression_parser.specs.declared.symbol.Symbol.TheVariants as symbol
-use Rattle.expression_parser.proofs.NameCode.{after_some}
+use Rattle.std.proofs.Common.{sym, arith}
 use Rattle.declaration_parser.proofs.Closings.{within_below}
 use Rattle.ada_parser.proofs.PackageCode.{no_actuals, actuals_show, actuals_within}
 use Rattle.ada_parser.proofs.packages.actuals.Goals as goal
