@@ -301,6 +301,7 @@ AreActuals places ds actuals = (n : ℕ) → n < length places.statements → Ar
 abbrev IsActual : Places → List Found → Actual → Type 0
 IsActual places ds (actual.Expression e) = HoldsDecisions places e ds
 IsActual places ds (actual.Variable o r) = ds ≡ []
+IsActual places ds a = ⊥
 
 abbrev IsFront : Places → List Found → Option Actual → Type 0
 IsFront places ds None = ⊥
@@ -313,6 +314,8 @@ front_as places ds es (Some (actual.Expression e)) rest h more = λ n held.
     decided_joined places (in_expr n e) (in_actuals n (actuals_of rest)) ds es (h n held) (more n held)
 front_as places ds es (Some (actual.Variable o r)) rest h more = λ n held.
     subst (λ fs. AreDecided places (in_actuals n (actuals_of rest)) (fs ++ es)) (sym h) (more n held)
+front_as places ds es (Some (actual.Part o ss r)) rest h more = absurd h
+front_as places ds es (Some (actual.Composite o ss)) rest h more = absurd h
 
 given_as : (places : Places) (q : Parameter) (e : source.Expr) (x : Judged) → IsJudgedAs places e x → IfSome (given q x) (IsActual places (value_decisions e))
 given_as places q e x h = if_test (IsActual places (value_decisions e)) (fits q.subtype.of x.kind) _ (λ t. h.value)

@@ -98,7 +98,7 @@ size_joined [] es = omega arith
 size_joined (d ∷ ds) es = let rest = size_joined ds es in omega (arith, rest)
 
 module _ (p : Program) where
-  plain_bare : (total : ℕ) (visible : List ℕ) (n : ℕ) (r : Range) (is : List Identifier) → n + length is ≤ total → IsPlainRange p (range_of r)
+  plain_bare : (total : ℕ) (visible : List ℕ) (n : ℕ) (r : Range) (is : List Identifier) → n + length is ≤ total → IsPlainRange (range_of r)
       → ArePlainDeclarations p total visible (without_values n r is)
   plain_bare total visible n r [] few h = tt
   plain_bare total visible n r (i ∷ is) few h = ((omega (arith, few), h), plain_bare total (n ∷ visible) (n + 1) r is (omega (arith, few)) h)

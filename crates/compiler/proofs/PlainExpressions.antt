@@ -18,11 +18,11 @@ use Rattle.ada_syntax.specs.declared.unit.Mode.TheVariants as mode
 use Rattle.ada_meaning.specs.Arithmetic.{base_range, is_within, number_of_truth}
 use Rattle.ada_meaning.specs.Tree as tree
 use Rattle.ada_meaning.specs.Program.{Program}
-use Rattle.ada_meaning.specs.Resolved.{number_in}
 use Rattle.ada_tree.specs.declared.expr.Actual.{Actual}
 use Rattle.ada_tree.specs.declared.expr.Actual.TheVariants as actual
 use Rattle.ada_tree.specs.declared.expr.Callee.{Callee}
 use Rattle.ada_tree.specs.declared.expr.Object.TheVariants as object
+use Rattle.ada_tree.specs.declared.types.ScalarRange.TheVariants as range
 use Rattle.ada_tree.specs.declared.types.Sign.{Sign}
 use Rattle.ada_tree.specs.View.{static_of, callee_of, actuals_of}
 use Rattle.ada_places.specs.Places.{inner_label_at, condition_place}
@@ -40,7 +40,7 @@ use Rattle.ada_expressions.specs.declared.kind.ScalarType.TheVariants as scalar
 use Rattle.ada_expressions.specs.Kinds.{integer, subtype_of_entity, is_integral, is_boolean, fits, common, is_variable, same_type}
 use Rattle.ada_expressions.specs.Expressions.{callable, parameters_of, actual_for, written, written_among, with_front, count_of, call_of, part_of, attribute_in, attribute_of, value_of, with_sign, sign_for, with_kind, complement_of, unary_of, related, relabelled, negated, complemented, test_of, test_at, neutral_for, decided, circuit_of, denoted, judged, tested, typed_actuals}
 use Rattle.lower.specs.Sizes as size
-use Rattle.lower.specs.Structured.{IsVisible, IsPlainExpr, IsPlainTest, IsPlainCall}
+use Rattle.lower.specs.Structured.{IsPlainStatic, IsVisible, IsPlainExpr, IsPlainTest, IsPlainCall}
 use Rattle.compiler.proofs.Options.{if_then, if_map, if_test}
 
 -- a subtype whose bounds are in the base range
@@ -80,7 +80,7 @@ pub record IsJudged (p : Program) (visible : List ℕ) (nodes : ℕ) (x : Judged
 abbrev pub IsPlainDenoted : Program → (visible : List ℕ) → (nodes : ℕ) → Denoted → Type 0
 IsPlainDenoted p visible nodes (denotes.Entity x) = Unit {0}
 IsPlainDenoted p visible nodes (denotes.Call c actuals) = IsPlainCall p visible (callee_of c) (actuals_of actuals) × (suc (size.actuals_nodes (actuals_of actuals)) ≤ nodes)
-IsPlainDenoted p visible nodes (denotes.Attribute e t) = is_within base_range (number_in p zero (static_of e)) ≡ true
+IsPlainDenoted p visible nodes (denotes.Attribute e t) = IsPlainStatic (static_of e)
 
 mutual
   pub name_has_a_node : (n : source.Name) → 1 ≤ name_nodes n
@@ -289,7 +289,7 @@ module _ (p : Program) (places : List Pos) (regions : List Region) (visible : Li
 
   -- Get of a variable
   get_object : (nodes more : ℕ) (o : DeclaredObject) (b : Bool) → 1 ≤ nodes → 1 ≤ more → IsKnown visible o
-      → IfSome (call_with entity.Get (option_map Some (if b then Some (actual.Variable (object.Local o.number) o.subtype.range) else None))) (IsPlain (nodes + more))
+      → IfSome (call_with entity.Get (option_map Some (if b then Some (actual.Variable (object.Local o.number) (range.Known o.subtype.range)) else None))) (IsPlain (nodes + more))
   get_object nodes more o true some any is = (is, omega (arith, some, any))
   get_object nodes more o false some any is = tt
 

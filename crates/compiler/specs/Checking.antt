@@ -13,7 +13,7 @@ use Rattle.ada_types.specs.declared.fault.CheckFault.TheVariants as check_fault
 use Rattle.cov_base.specs.declared.failure.Failure.{Failure}
 use Rattle.cov_base.specs.declared.failure.Failure.TheVariants.{Fault, WantOfMemory}
 use Rattle.cov_base.specs.declared.position.Pos.{Pos}
-use Rattle.generic_expand.specs.Expanded.{first_past}
+use Rattle.generic_expand.specs.Expanded.{past_instances, first_past}
 use Rattle.generic_expand.specs.declared.fault.ExpandFault.{ExpandFault}
 use Rattle.generic_expand.specs.declared.fault.ExpandFault.TheVariants.{TooBig, TooMany}
 use Rattle.compiler.specs.Units.{fault_at}
@@ -43,7 +43,8 @@ pub data UnitsAreRefused (units : List LibraryUnit) (main : List ℕ) : Failure 
       → UnitsAreRefused units main (failure_at pos Limit)
   memory_is_out : UnitsAreRefused units main WantOfMemory
 
--- units with these entries are refused: the nodes of all pass the limit first with the one at this place
+-- units with these entries are refused: the instances or the nodes of all pass the limit first with the one at this place
 pub data PassesLimit (units : List UnitEntry) : Failure SourceFault → Type 0 where
+  has_too_many : {pos : Pos} → past_instances 0 units ≡ Some pos → PassesLimit units (failure_at pos Limit)
   passes : {pos : Pos} → first_past 0 units ≡ Some pos → PassesLimit units (failure_at pos Limit)
   no_memory : PassesLimit units WantOfMemory

@@ -1,7 +1,7 @@
 //! From a legal program to its object, but for the closing digest.
 
 ghost use Rattle.std.specs.Prelude.{◌≡◌, [], IfOk, OnOk, map};
-ghost use Rattle.ada_tree.specs.View.{program_of};
+ghost use Rattle.ada_tree.specs.Programs.{program_of};
 ghost use Rattle.assembler.specs.Reach.{AreItems};
 ghost use Rattle.compiler.specs.Built.{IsBuiltOf};
 ghost use Rattle.compiler.specs.Made.{IsCompilable};

@@ -1,7 +1,7 @@
 //! Which sources are a program within the limits.
 
 ghost use Rattle.std.specs.Prelude.{◌≡◌, ◌≤◌, length, List, Some, None, IfOk, IfErr, OnOk, map};
-ghost use Rattle.ada_tree.specs.View.{program_of};
+ghost use Rattle.ada_tree.specs.Programs.{program_of};
 ghost use Rattle.ada_types.specs.Checked.{entry_of};
 ghost use Rattle.ada_types.specs.Legal.{elaborated};
 ghost use Rattle.compiler.specs.Built.{AreLegal};

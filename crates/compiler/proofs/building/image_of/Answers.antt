@@ -1,5 +1,5 @@
 use Rattle.std.proofs.Common.{OnOk, subst, ◌∙◌}
-use Rattle.ada_tree.specs.View.{program_of}
+use Rattle.ada_tree.specs.Programs.{program_of}
 use Rattle.assembler.specs.Reach.{AreItems}
 use Rattle.compiler.proofs.Placeable as placeable
 use Rattle.compiler.proofs.building.image_of.Goals as goal

@@ -1,5 +1,5 @@
 use Rattle.std.proofs.Common.{ap, sym, ◌∙◌}
-use Rattle.ada_tree.specs.View.{program_of}
+use Rattle.ada_tree.specs.Programs.{program_of}
 use Rattle.compiler.proofs.Checked.{sources_failed, sources_refused, sources_past_limit, passed_on}
 use Rattle.compiler.proofs.Core.{legal_of}
 use Rattle.compiler.specs.Legal.{RefusesFor}

@@ -1,4 +1,4 @@
-use Rattle.ada_tree.specs.View.{program_of}
+use Rattle.ada_tree.specs.Programs.{program_of}
 use Rattle.compiler.proofs.Core.{able_law, written_law, made_law}
 use Rattle.compiler.proofs.compiling.compile.Goals as goal
 
