@@ -20,7 +20,8 @@ use Rattle.compiler.specs.Made.{IsCompilable}
 use Rattle.compiler.specs.Source.{entry_of_file, IsObjectOf, IsCheap}
 use Rattle.cov_base.specs.declared.obligations.SourceFile.{SourceFile}
 use Rattle.cov_base.specs.declared.position.Pos.{Pos}
-use Rattle.generic_expand.specs.Expanded.{node_limit, first_past}
+use Rattle.ada_tree.specs.declared.program.UnitEntry.{UnitEntry}
+use Rattle.generic_expand.specs.Expanded.{node_limit, past_nodes, first_past}
 use Rattle.compiler.proofs.PlainPrograms.{nodes_law}
 use Rattle.ada_places.specs.Rising.{StatementsRise, DecisionsRise}
 use Rattle.object_format.specs.Counts.{FileFits}
@@ -40,18 +41,18 @@ both_hold a b p q = rw (p, q) refl
 within_limit : (n more : ℕ) → nat_lt node_limit (n + more) ≡ false → n + more ≤ node_limit
 within_limit n more past = grind (arith, nat_tests)
 
-few_from : (n : ℕ) (units : List LibraryUnit) → n ≤ node_limit → first_past n (map entry_of units) ≡ None → fold (λ a u. a + capped (unit_nodes u)) n units ≤ node_limit
-few_from n [] low none = low
-few_from n (u ∷ us) low none = by_test (nat_lt node_limit (n + capped (unit_nodes u))) refl none (λ low none. few_from (n + capped (unit_nodes u)) us low none)
+few_from : (all : List UnitEntry) (n : ℕ) (units : List LibraryUnit) → n ≤ node_limit → past_nodes all n (map entry_of units) ≡ None → fold (λ a u. a + capped (unit_nodes u)) n units ≤ node_limit
+few_from all n [] low none = low
+few_from all n (u ∷ us) low none = by_test (nat_lt node_limit (n + capped (unit_nodes u))) refl none (λ low none. few_from all (n + capped (unit_nodes u)) us low none)
   where
-    by_test : (b : Bool) → nat_lt node_limit (n + capped (unit_nodes u)) ≡ b → (if b then Some u.pos else first_past (n + capped (unit_nodes u)) (map entry_of us)) ≡ None
-        → (n + capped (unit_nodes u) ≤ node_limit → first_past (n + capped (unit_nodes u)) (map entry_of us) ≡ None → fold (λ a v. a + capped (unit_nodes v)) (n + capped (unit_nodes u)) us ≤ node_limit)
+    by_test : (b : Bool) → nat_lt node_limit (n + capped (unit_nodes u)) ≡ b → (if b then Some u.pos else past_nodes all (n + capped (unit_nodes u)) (map entry_of us)) ≡ None
+        → (n + capped (unit_nodes u) ≤ node_limit → past_nodes all (n + capped (unit_nodes u)) (map entry_of us) ≡ None → fold (λ a v. a + capped (unit_nodes v)) (n + capped (unit_nodes u)) us ≤ node_limit)
         → fold (λ a v. a + capped (unit_nodes v)) (n + capped (unit_nodes u)) us ≤ node_limit
     by_test true past found later = absurd (let x : ⊥ = cc found in x)
     by_test false past found later = later (within_limit n (capped (unit_nodes u)) past) found
 
 few_units : (units : List LibraryUnit) → first_past 0 (map entry_of units) ≡ None → sum_by (λ u. capped (unit_nodes u)) units ≤ 4096
-few_units units none = few_from 0 units (omega arith) none
+few_units units none = few_from (map entry_of units) 0 units (omega arith) none
 
 -- the sources as files of the object
 
