@@ -1,10 +1,19 @@
 -- What the layers ask of an object, from what is known of it.
-use Rattle.std.proofs.Common.{◌≡◌, ℕ, ◌<◌, ◌≤◌, IsTrue, IsUtf8, List, [], ◌∷◌, length, All, ap, ◌∙◌, arith, lit<, lit≤}
+use Rattle.std.proofs.Common.{◌≡◌, ℕ, ◌<◌, ◌≤◌, IsTrue, IsUtf8, List, [], ◌∷◌, length, All, inl, inr, ap, subst, ◌∙◌, arith, lit<, lit≤}
 use Rattle.std.proofs.lemmas.Bool.{and_parts}
 use Rattle.std.proofs.lemmas.List.Elements.{All-nil, All-cons}
 use Rattle.std.specs.Str.{is_utf8}
 use Rattle.std.proofs.lemmas.Str.{is_utf8-from_IsUtf8}
+use Rattle.commands.specs.Content.{RefusesSource, sources_of}
+use Rattle.commands.specs.declared.status.Status.{Status}
+use Rattle.commands.specs.Failures.{source_status}
+use Rattle.commands.specs.Reading.{UnlessMemory}
 use Rattle.compiler.specs.Built.{HasPlainName}
+use Rattle.compiler.specs.declared.fault.SourceFault.{SourceFault}
+use Rattle.compiler.specs.Legal.{AreRefused, RefusesFor}
+use Rattle.cov_base.specs.declared.failure.Failure.{Failure}
+use Rattle.cov_base.specs.declared.failure.Failure.TheVariants.{Fault}
+use Rattle.cov_base.specs.declared.failure.Failure.TheVariants as failures
 use Rattle.cov_base.specs.declared.obligations.SourceFile.{SourceFile}
 use Rattle.object_format.specs.declared.object.Object.{Object}
 use Rattle.object_format.specs.Fields.{is_placed}
@@ -32,3 +41,12 @@ pub one_named : (f : SourceFile) (files : List SourceFile) (name : List ℕ) →
 one_named f files name alone named text short =
     let plain : HasPlainName f = (ap is_utf8 named ∙ is_utf8-from_IsUtf8 name text, omega (arith, ap (λ (n : List ℕ). length n) named, short)) in
     rw alone (All-cons HasPlainName f [] plain (All-nil HasPlainName))
+
+-- ---- sources
+
+-- why sources are refused, as the status of a source alone
+pub source_refused : (main name source : List ℕ) (files : List SourceFile) (failure : Failure SourceFault) (status : Status) → files ≡ sources_of name source
+    → RefusesFor files main failure → status ≡ source_status failure → UnlessMemory (RefusesSource main name source) status
+source_refused main name source files (Fault fault) status are refused is =
+    inr (fault, subst (λ (files : List SourceFile). AreRefused files main fault) are refused, is)
+source_refused main name source files failures.WantOfMemory status are refused is = inl is

@@ -1,9 +1,9 @@
 -- What was found out after the object was read, as what the whole command comes to.
-use Rattle.std.proofs.Common.{◌≡◌, ◌⊎◌, ℕ, suc, ◌+◌, ◌<◌, ℤ, List, [], ◌∷◌, ◌++◌, length, map, take, drop, get_or, slice_get, unwrap_or, Option, None, Some, IfSome, IsSomeAnd, option_map, Result, Ok, Err, inl, inr, refl, sym, ◌∙◌, ap, subst, lit<, arith}
+use Rattle.std.proofs.Common.{◌≡◌, ◌⊎◌, ℕ, suc, ◌+◌, ◌<◌, ℤ, List, [], ◌∷◌, ◌++◌, length, map, take, drop, get_or, slice_get, unwrap_or, Option, None, Some, IfSome, IsSomeAnd, option_map, Result, Ok, Err, IfErr, inl, inr, refl, sym, ◌∙◌, ap, subst, lit<, arith}
 use Rattle.std.specs.FinMap as finmap
 use Rattle.std.specs.List.{AllByRecursion}
 use Rattle.std.proofs.lemmas.List.{length-append, length-map, length-take-le, take-append-drop, drop_more, map-append, map_more}
-use Rattle.command_words.specs.Task.{Run, Coverage}
+use Rattle.command_words.specs.Task.{Task, Run, Coverage}
 use Rattle.cov_base.specs.declared.event.Event.{Event}
 use Rattle.cov_base.specs.declared.level.Annotation.{Annotation}
 use Rattle.cov_base.specs.declared.level.Level.{Level}
@@ -15,6 +15,7 @@ use Rattle.commands.specs.declared.status.Status.{Status}
 use Rattle.commands.specs.declared.status.Status.TheVariants.{ObjectRefused, TraceRefused, InputRefused, OverBudget, Trap, ReadFault}
 use Rattle.commands.specs.declared.status.TraceWhy.TheVariants.{File, Fit, Broken}
 use Rattle.commands.specs.Outcome.{Prepares, Stops, CannotGet}
+use Rattle.commands.specs.Prepared.{PreparesFrom, StopsOnInput}
 use Rattle.commands.specs.Reading.{IsUnread, IsNoTrace, UnlessMemory, AreRead, StopsAt, StopsAmong}
 use Rattle.commands.specs.Covering.{Adds, IsReportOf}
 use Rattle.commands.specs.Verdict.{NewFile, Output, AfterRead, AfterObject, AfterInput, AfterTrace, AfterTraces, RunsOn, Covers, ComesTo}
@@ -329,3 +330,36 @@ run_made held reads reads' input budget trace object bytes text numbers file tol
   told_run held input budget trace object bytes text o (Ok (record { file = Some (record { name = trace; bytes = file }); text = told })) holds is there
       (inr (numbers, read, (file, refl, says))),
 )
+
+-- what the run on an input file comes to where it makes no trace
+pub run_ends : (held : Option Held) (reads reads' : ℕ) (input : List ℕ) (budget : ℕ) (trace object bytes text : List ℕ) (o : Object) (status : Status)
+    → reads' ≡ reads → IfSome held (Holds object bytes) → IsFileOf o bytes → IfSome held (Holds input text)
+    → UnlessMemory (StopsOnInput o budget text) status
+    → Stops (Run input budget trace object) held reads reads' status
+run_ends held reads reads' input budget trace object bytes text o status same holds is there (inl memory) = rw memory tt
+run_ends held reads reads' input budget trace object bytes text o status same holds is there (inr (inl refused)) =
+    run_no_input held reads reads' input budget trace object bytes text o status same holds is there (inr refused)
+run_ends held reads reads' input budget trace object bytes text o status same holds is there (inr (inr (numbers, read, stops))) =
+    run_stops held reads reads' input budget trace object bytes text numbers o status same holds is there read (inr stops)
+
+pub refuses_input : (o : Object) (budget : ℕ) (text : List ℕ) (status : Status) → UnlessMemory (RefusesInput text) status → UnlessMemory (StopsOnInput o budget text) status
+refuses_input o budget text status (inl memory) = inl memory
+refuses_input o budget text status (inr refused) = inr (inl refused)
+
+pub stops_on : {X : Type 0} (r : Result X Status) (o : Object) (budget : ℕ) (text : List ℕ) (numbers : List ℤ) → IsInputOf numbers text
+    → IfErr r (UnlessMemory (StopsRun o budget numbers)) → IfErr r (UnlessMemory (StopsOnInput o budget text))
+stops_on (Ok x) o budget text numbers read h = tt
+stops_on (Err status) o budget text numbers read (inl memory) = inl memory
+stops_on (Err status) o budget text numbers read (inr stops) = inr (inr (numbers, read, stops))
+
+-- ---- where the object file was read before
+
+-- what is held and counted after it was read is as before
+pub prepared_from : (task : List ℕ → Task) (name bytes view : List ℕ) (held held' : Option Held) (reads reads' reads'' : ℕ) (verdict : Result Output Status)
+    → held' ≡ held → reads' ≡ reads → IfSome held (Holds name bytes) → view ≡ bytes → PreparesFrom task view held' reads' reads'' verdict
+    → Prepares (task name) held reads reads'' verdict
+prepared_from task name bytes view held held' reads reads' reads'' verdict same count holds is prepares =
+    let there : IfSome held (Holds name view) = subst (λ (bs : List ℕ). IfSome held (Holds name bs)) (sym is) holds in
+    let still : IfSome held' (Holds name view) = subst (λ (h : Option Held). IfSome h (Holds name view)) (sym same) there in
+    subst (λ (h : Option Held). Prepares (task name) h reads reads'' verdict) same
+    (subst (λ (n : ℕ). Prepares (task name) held' n reads'' verdict) count (prepares name still))

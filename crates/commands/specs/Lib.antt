@@ -7,6 +7,7 @@ pub mod Headline
 pub mod ShownPairs
 pub mod Lines
 pub mod Outcome
+pub mod Prepared
 pub mod Reading
 pub mod Ready
 pub mod RunLines

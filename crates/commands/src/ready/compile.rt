@@ -1,9 +1,10 @@
 //! `compile`: a source is made an object file.
 
-ghost use Rattle.std.specs.Prelude.{◌≡◌, ◌<◌, ◌≤◌, All, IfOk, IfErr, length, sum_by};
+ghost use Rattle.std.specs.Prelude.{◌≡◌, ◌<◌, ◌≤◌, ℕ, List, All, IfOk, IfErr, length, sum_by};
 ghost use Rattle.command_words.specs.Task.{Compile};
 ghost use Rattle.compiler.specs.Built.{HasPlainName};
 ghost use Rattle.commands.specs.Content.{CompilesTo, RefusesSource, object_lines, sources_of};
+ghost use Rattle.commands.specs.declared.status.Status.TheVariants.{WantOfMemory};
 ghost use Rattle.commands.specs.Outcome.{Prepares};
 ghost use Rattle.commands.specs.Reading.{UnlessMemory};
 ghost use Rattle.commands.specs.Failures.{source_status};
@@ -11,7 +12,7 @@ ghost use Rattle.commands.specs.Ready.{verdict_view};
 
 use crate::ready::{Ready, ReadyFile, read_file};
 use crate::status::Status;
-use compiler::{SourceFault, compile};
+use compiler::{Compiled, SourceFault, compile};
 use cov_base::{Bytes, DecEntry, Failure, SourceFile};
 use cov_io::Files;
 use object_format::Object;
@@ -67,13 +68,35 @@ fn compiled(
     ensures refused { IfErr result (UnlessMemory (RefusesSource main.now name.now source.items)) }
 {
     let files = sources(alloc, name, source)?;
-    match compile(alloc, files.as_slice(), main) {
-        Ok(compiled) => {
-            let text = lines(alloc, &compiled.object)?;
-            Ok((Vec::from(compiled.file), text))
-        }
+    compiled_from(alloc, main, files.as_slice())
+}
+
+/// The same, of the sources.
+fn compiled_from(
+    alloc: Global,
+    main: &str,
+    files: &[SourceFile],
+) -> Result<(Vec<u8>, Vec<u8>), Status>
+    requires many { (0 < length files.now) × (length files.now ≤ 64) }
+    requires names { All HasPlainName files.now }
+    ensures made { (name source : List ℕ) → files.now ≡ sources_of name source
+        → IfOk result (λ made. CompilesTo main.now name source (record { file = made.0.items; text = made.1.items })) }
+    ensures refused { (name source : List ℕ) → files.now ≡ sources_of name source
+        → IfErr result (UnlessMemory (RefusesSource main.now name source)) }
+{
+    match compile(alloc, files, main) {
+        Ok(compiled) => told(alloc, compiled),
         Err(failure) => Err(status_of(failure)),
     }
+}
+
+/// The object file that was compiled, and the lines that tell of it.
+fn told(alloc: Global, compiled: Compiled) -> Result<(Vec<u8>, Vec<u8>), Status>
+    ensures made { IfOk result (λ made. (made.0.items ≡ compiled.file) × (made.1.items ≡ object_lines compiled.object)) }
+    ensures refused { IfErr result (λ status. status ≡ WantOfMemory) }
+{
+    let text = lines(alloc, &compiled.object)?;
+    Ok((Vec::from(compiled.file), text))
 }
 
 /// How many conditions decisions have; none where there is no number for them.

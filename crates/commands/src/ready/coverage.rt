@@ -10,9 +10,11 @@ ghost use Rattle.commands.specs.Covering.{Adds, HasPaths, IsBadFile, IsBadFit, I
 ghost use Rattle.commands.specs.declared.status.Status.TheVariants.{TraceRefused};
 ghost use Rattle.commands.specs.Failures.{history_status};
 ghost use Rattle.commands.specs.Outcome.{Prepares};
+ghost use Rattle.commands.specs.Prepared.{PreparesFrom, PreparesOver};
 ghost use Rattle.commands.specs.Reading.{AreRead, StopsAt, StopsAmong, UnlessMemory};
 ghost use Rattle.commands.specs.Ready.{verdict_view};
 ghost use Rattle.object_format.specs.Checked.{IsSound};
+ghost use Rattle.object_format.specs.Read.{IsObject};
 ghost use Rattle.trace_format.specs.Checks.{trace_of};
 
 use crate::ready::{Ready, object_of, read_file};
@@ -43,11 +45,48 @@ pub fn prepare<'a, F: Files>(
     ensures writes { F.writes_failed files.new ≡ F.writes_failed files.old }
 {
     let bytes = read_file(alloc, 0, object, files)?;
-    let object = object_of(alloc, bytes.as_slice())?;
-    let decisions = DecisionMap::of(alloc, &object)?;
-    let mut coverage = Coverage::new(alloc, &object);
+    from_file(alloc, level, annotate, bytes.as_slice(), traces, files)
+}
+
+/// The same, where the object file holds these bytes.
+fn from_file<'a, F: Files>(
+    alloc: Global,
+    level: Level,
+    annotate: Annotation,
+    bytes: &[u8],
+    traces: &[&str],
+    files: &mut F,
+) -> Result<Ready<'a>, Status>
+    requires { length traces.now ≤ 4096 }
+    ensures prepares { PreparesFrom (λ object. covers level annotate object (map (λ name. name.now) traces.now)) bytes.now
+        (F.held files.old) (F.reads_failed files.old) (F.reads_failed files.new) (verdict_view result) }
+    ensures same { F.held files.new ≡ F.held files.old }
+    ensures writes { F.writes_failed files.new ≡ F.writes_failed files.old }
+{
+    let object = object_of(alloc, bytes)?;
+    over_object(alloc, level, annotate, &object, traces, files)
+}
+
+/// The same, where the object file is that of this object.
+fn over_object<'a, F: Files>(
+    alloc: Global,
+    level: Level,
+    annotate: Annotation,
+    object: &Object,
+    traces: &[&str],
+    files: &mut F,
+) -> Result<Ready<'a>, Status>
+    requires few { length traces.now ≤ 4096 }
+    requires object { IsObject object.now }
+    ensures prepares { PreparesOver (λ object. covers level annotate object (map (λ name. name.now) traces.now)) object.now
+        (F.held files.old) (F.reads_failed files.old) (F.reads_failed files.new) (verdict_view result) }
+    ensures same { F.held files.new ≡ F.held files.old }
+    ensures writes { F.writes_failed files.new ≡ F.writes_failed files.old }
+{
+    let decisions = DecisionMap::of(alloc, object)?;
+    let mut coverage = Coverage::new(alloc, object);
     add_traces(alloc, &decisions, traces, files, &mut coverage)?;
-    reported(alloc, level, annotate, &object, &coverage)
+    reported(alloc, level, annotate, object, &coverage)
 }
 
 /// Adds what the traces of these names tell of runs of the object, in their order.

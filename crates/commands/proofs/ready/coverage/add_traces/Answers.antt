@@ -1,6 +1,7 @@
 use Rattle.std.proofs.Common.{◌∙◌, arith}
 use Rattle.std.proofs.lemmas.Result.{err_from_is_err_and}
 use Rattle.commands.proofs.StopLaws.{stops_among, read_and_added}
+use Rattle.std.proofs.lemmas.Grind.{common_steps}
 use Rattle.commands.proofs.ready.coverage.add_traces.Goals as goal
 
 pub returns-in_err-add_file-clause-stopped : goal.returns-in_err-add_file-clause-stopped
@@ -20,3 +21,6 @@ loop-place-preserved g c =
       read = read_and_added (λ name. name.now) c.args.decisions.now c.args.names.now c.loop-place.place _ _ _ c.loop-place.invariant.read.0 read.0 _ _ _
           c.loop-place-test.true c.loop-place.invariant.held c.loop-place.invariant.read.1 read.1 read.2 c.loop-place.invariant.read.2 read.3;
     }
+
+pub returns-clause-read : goal.returns-clause-read
+returns-clause-read g c = grind (arith, common_steps)

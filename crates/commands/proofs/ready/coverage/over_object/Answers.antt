@@ -1,0 +1,41 @@
+use Rattle.std.proofs.Common.{refl, map, subst, sym}
+use Rattle.std.proofs.lemmas.Result.{err_from_is_err_and}
+use Rattle.commands.specs.Content.{IsFileOf}
+use Rattle.commands.specs.Covering.{HasPaths, IsReportOf}
+use Rattle.commands.specs.Ready.{verdict_view}
+use Rattle.object_format.specs.declared.object.Object.{Object}
+use Rattle.commands.proofs.DecisionLaws.{added_paths}
+use Rattle.commands.proofs.ObjectLaws.{has_map}
+use Rattle.commands.proofs.StopLaws.{coverage_stops, coverage_made}
+use Rattle.commands.proofs.ready.coverage.over_object.Goals as goal
+
+pub of-requires : goal.of-requires
+of-requires g c = has_map c.args.object.now c.requires.object
+
+pub returns-in_err-add_traces-clause-prepares : goal.returns-in_err-add_traces-clause-prepares
+returns-in_err-add_traces-clause-prepares g c =
+    let p = err_from_is_err_and c.from_residual-in_err-add_traces.result c.from_residual-in_err-add_traces.ensures.1 in
+    λ name bytes holds is.
+    let of_map : IsFileOf c.in_ok-decisions.decisions bytes = subst (λ (o : Object). IsFileOf o bytes) (sym c.in_ok-decisions.ensures) is in
+    rw (p.1, p.2) (coverage_stops _ _ _ _ _ c.args.level c.args.annotate name bytes
+    (map (λ name. name.now) c.args.traces.now) c.in_ok-decisions.decisions c.in_err-add_traces.field-0.0
+    refl refl holds of_map c.in_err-add_traces.ensures.stopped)
+
+pub reported-requires-clause-sound : goal.reported-requires-clause-sound
+reported-requires-clause-sound g c = c.requires.object.sound
+
+pub reported-requires-clause-paths : goal.reported-requires-clause-paths
+reported-requires-clause-paths g c =
+    let traces = c.in_ok-add_traces.ensures.read in
+    subst (λ (o : Object). HasPaths o c.add_traces.new.coverage) c.in_ok-decisions.ensures
+    (added_paths c.in_ok-decisions.decisions _ c.add_traces.new.coverage traces.0 c.new-coverage.ensures.events traces.2)
+
+pub returns-clause-prepares : goal.returns-clause-prepares
+returns-clause-prepares g c =
+    let traces = c.in_ok-add_traces.ensures.read in
+    let report = subst (λ (o : Object). IsReportOf c.args.level o c.add_traces.new.coverage (verdict_view c.reported.result)) (sym c.in_ok-decisions.ensures) c.reported.ensures in
+    λ name bytes holds is.
+    let of_map : IsFileOf c.in_ok-decisions.decisions bytes = subst (λ (o : Object). IsFileOf o bytes) (sym c.in_ok-decisions.ensures) is in
+    coverage_made _ _ _ _ c.args.level c.args.annotate name bytes (map (λ name. name.now) c.args.traces.now) traces.0
+    c.in_ok-decisions.decisions _ _ _ refl c.in_ok-add_traces.ensures.reads holds of_map traces.1
+    c.new-coverage.ensures.events c.new-coverage.ensures.runs traces.2 report
