@@ -31,6 +31,47 @@ use Rattle.kernel_code.proofs.Steps.{moved, branch_taken, branch_passed, jumps_t
 use Rattle.kernel_code.proofs.CallLines.{entered, call_enters}
 use Rattle.kernel_code.proofs.Fills.{fills_none, fills_on, OwnWord, own_word, like_above, at_other, at_same, at_small}
 
+-- ---- the words of a layout, and sums of what is filled
+
+area_off : (l x : ℕ) → x < area_end + 0x1000 → x ≡ layout_word l + 1 → ⊥
+area_off l x low e = omega (arith, e)
+
+low_off : (l x : ℕ) → x < area_end → x ≡ layout_word l + 1 → ⊥
+low_off l x low e = omega (arith, e)
+
+high_off : (l x : ℕ) → layout_word (l + 1) ≤ x → x ≡ layout_word l + 1 → ⊥
+high_off l x high e = omega (arith, e)
+
+own_off : (l : ℕ) → layout_word l ≡ layout_word l + 1 → ⊥
+own_off l e = omega (arith, e)
+
+own_high : (l : ℕ) → layout_word l ≤ layout_word l
+own_high l = omega arith
+
+counter_high : (l : ℕ) → layout_word l ≤ layout_word l + 1
+counter_high l = omega arith
+
+higher : (l x : ℕ) → layout_word (l + 1) ≤ x → layout_word l ≤ x
+higher l x high = omega arith
+
+one_fits : (a one others both : ℕ) → both ≡ one + others → a + both ≤ area_end → a + one ≤ area_end
+one_fits a one others both total enough = omega (arith, total)
+
+others_fit : (a one others both : ℕ) → both ≡ one + others → a + both ≤ area_end → a + one + others ≤ area_end
+others_fit a one others both total enough = omega (arith, total)
+
+further_on : (a one : ℕ) → data_word ≤ a → data_word ≤ a + one
+further_on a one low = omega arith
+
+ends_at : (a one others both : ℕ) → both ≡ one + others → 4 * (a + one + others) ≡ 4 * (a + both)
+ends_at a one others both total = omega (arith, total)
+
+fewer : (n : ℕ) → suc n < 2 ^ 32 → n < 2 ^ 32
+fewer n small = omega arith
+
+turn_spent : (one others first rest : ℕ) → one + 7 ≤ 32 * first → others + 20 ≤ 32 * (1 + rest) → 2 + (1 + (2 + (one + (1 + others)))) + 20 ≤ 32 * (1 + (first + rest))
+turn_spent one others first rest a b = omega arith
+
 module _ (site : Site) (k : Kernel) (own fp left l : ℕ) (earlier : (j : ℕ) → j < l → LayoutFills site k j) where
   -- a call of a component
   pub component_fills : (q j : ℕ) → j < l → LineStands site own q (call_piece (first_layout k + j)) → (a : ℕ) (w : World) (c : Config) → Like site fp left w c → c.state.pc ≡ site.address own q → c.state.reg 10 ≡ 4 * a
@@ -137,16 +178,17 @@ module _ (site : Site) (k : Kernel) (own fp left l : ℕ) (earlier : (j : ℕ) �
         let silent_h : Silent site.facts c.past h.past = silent_on site.facts c.past g.past h.past went.silent
         (silent_on site.facts g.past mid.past h.past (line_silent site own 8 (branch steers Beq 11 0 13) g (Some false) (site.address own 9) behind.0 went.arrives refl refl) down.silent) in
         let like_h : Like site fp left w h = like_above site fp left w c h like (refl, refl, refl)
-        (λ x low_x. ap (λ m. m x) mem ∙ at_other c.state.mem counter n x (λ e. omega (arith, e)))
-        (λ x low_x. subst (λ m. m x < 2 ^ 32) (sym mem) (at_small c.state.mem counter n x (omega arith) (like.words x low_x))) refl refl silent_h in
+        (λ x low_x. ap (λ m. m x) mem ∙ at_other c.state.mem counter n x (low_off l x low_x))
+        (λ x low_x. subst (λ m. m x < 2 ^ 32) (sym mem) (at_small c.state.mem counter n x (fewer n small) (like.words x low_x))) refl refl silent_h in
         let total = length-append (content_in k.layouts j).words (repeated n (content_in k.layouts j)).words in
-        let one = component_fills 11 j below last.0 a w h like_h down.arrives next low_enough (omega (arith, total)) in
+        let one = component_fills 11 j below last.0 a w h like_h down.arrives next low_enough (one_fits a _ _ _ total high_enough) in
         let again = moved one.end None (site.address own 6) in
         let silent_again : Silent site.facts one.end.past again.past = line_silent site own 12 (jump 6) one.end None (site.address own 6) last.1.0 one.there refl refl in
         let like_again : Like site fp left (with_memory (filled (content_in k.layouts j).words a w.memory) w) again =
         like_above site fp left (with_memory (filled (content_in k.layouts j).words a w.memory) w) one.end again one.like (refl, refl, refl) (λ x f. refl) (λ x f. one.like.words x f) refl refl silent_again in
         let turned = turns_fill has n (a + length (content_in k.layouts j).words) (with_memory (filled (content_in k.layouts j).words a w.memory) w) again like_again refl
-        (one.keeps_high counter (omega arith) ∙ (ap (λ m. m counter) mem ∙ at_same c.state.mem counter n counter refl)) (omega arith) one.next (omega arith) (omega (arith, total)) in
+        (one.keeps_high counter (counter_high l) ∙ (ap (λ m. m counter) mem ∙ at_same c.state.mem counter n counter refl)) (fewer n small) one.next (further_on a _ low_enough)
+        (others_fit a _ _ _ total high_enough) in
         let rest_fills = turned.fills in
         let spent_one = one.spent in
         let spent_rest = rest_fills.spent in
@@ -161,12 +203,12 @@ module _ (site : Site) (k : Kernel) (own fp left l : ℕ) (earlier : (j : ℕ) �
                 (reaches_on site.image 1 rest_fills.steps one.end again rest_fills.end (jumps_to site own 12 6 one.end last.1.0 one.there) rest_fills.reaches))));
             there = rest_fills.there;
             like = subst (λ m. Like site fp left (with_memory m w) rest_fills.end) (sym (Rattle.kernel_code.proofs.Fills.filled_parts (content_in k.layouts j).words (repeated n (content_in k.layouts j)).words a w.memory)) rest_fills.like;
-            next = rest_fills.next ∙ (let e : 4 * (a + length (content_in k.layouts j).words + length (repeated n (content_in k.layouts j)).words) ≡ 4 * (a + length (repeated (suc n) (content_in k.layouts j)).words) = omega (arith, total) in e);
+            next = rest_fills.next ∙ (let e : 4 * (a + length (content_in k.layouts j).words + length (repeated n (content_in k.layouts j)).words) ≡ 4 * (a + length (repeated (suc n) (content_in k.layouts j)).words) = ends_at a _ _ _ total in e);
             silent = silent_on site.facts c.past h.past rest_fills.end.past silent_h (silent_on site.facts h.past one.end.past rest_fills.end.past one.silent
                 (silent_on site.facts one.end.past again.past rest_fills.end.past silent_again rest_fills.silent));
-            keeps_low = λ x low_x high_x. rest_fills.keeps_low x low_x high_x ∙ (one.keeps_low x low_x high_x ∙ (ap (λ m. m x) mem ∙ at_other c.state.mem counter n x (λ e. omega (arith, e))));
-            keeps_high = λ x high_x. rest_fills.keeps_high x high_x ∙ (one.keeps_high x (omega arith) ∙ (ap (λ m. m x) mem ∙ at_other c.state.mem counter n x (λ e. omega (arith, e))));
-            spent = (let e : 2 + (1 + (2 + (one.steps + (1 + rest_fills.steps)))) + 20 ≤ 32 * (1 + ((content_in k.layouts j).cost + (repeated n (content_in k.layouts j)).cost)) = omega arith in e);
+            keeps_low = λ x low_x high_x. rest_fills.keeps_low x low_x high_x ∙ (one.keeps_low x low_x high_x ∙ (ap (λ m. m x) mem ∙ at_other c.state.mem counter n x (area_off l x high_x)));
+            keeps_high = λ x high_x. rest_fills.keeps_high x high_x ∙ (one.keeps_high x (higher l x high_x) ∙ (ap (λ m. m x) mem ∙ at_other c.state.mem counter n x (high_off l x high_x)));
+            spent = (let e : 2 + (1 + (2 + (one.steps + (1 + rest_fills.steps)))) + 20 ≤ 32 * (1 + ((content_in k.layouts j).cost + (repeated n (content_in k.layouts j)).cost)) = turn_spent one.steps rest_fills.steps _ _ spent_one spent_rest in e);
           };
-          kept = turned.kept ∙ (one.keeps_high (layout_word l) (omega arith) ∙ (ap (λ m. m (layout_word l)) mem ∙ at_other c.state.mem counter n (layout_word l) (λ e. omega (arith, e))));
+          kept = turned.kept ∙ (one.keeps_high (layout_word l) (own_high l) ∙ (ap (λ m. m (layout_word l)) mem ∙ at_other c.state.mem counter n (layout_word l) (own_off l)));
         }
