@@ -1,2 +1,3 @@
 pub mod TraceLaws
 pub mod PassingLaws
+pub mod ConsolidatedLaws

@@ -94,7 +94,7 @@ one_trace s t s-is t-is e = fine_is s t (sym (trace_again s s-is) ∙ ap trace_o
 
 -- ---- how long a file is
 
-word_len : (n : ℕ) → length (word n) ≡ 4
+pub word_len : (n : ℕ) → length (word n) ≡ 4
 unfolding word
 word_len n = refl
 
@@ -105,7 +105,7 @@ history_len : (h : HistoryEntry) → length (history_entry.spell h) ≡ 9
 history_len h = omega (arith, length-append (word h.address) (word h.x8 ++ h.edge ∷ []), length-append (word h.x8) (h.edge ∷ []), word_len h.address, word_len h.x8)
 
 -- a list of entries that take the same number of bytes each
-entries_len : {X : Type 0} (spell : X → List ℕ) (size : ℕ) → ((x : X) → length (spell x) ≡ size) → (xs : List X) → length (flat_map spell xs) ≡ size * length xs
+pub entries_len : {X : Type 0} (spell : X → List ℕ) (size : ℕ) → ((x : X) → length (spell x) ≡ size) → (xs : List X) → length (flat_map spell xs) ≡ size * length xs
 entries_len spell size each [] = sym (mul-zero size)
 entries_len spell size each (x ∷ xs) = rw flat_map-cons (omega (arith, length-append (spell x) (flat_map spell xs), each x, entries_len spell size each xs, mul-suc size (length xs)))
 

@@ -1,4 +1,4 @@
-//! What holds of every trace file, for callers that reason about one.
+//! What holds of every trace file and consolidated file, for callers that reason about one.
 
 ghost use Rattle.std.specs.Prelude.{◌≡◌, ◌<◌, ◌≤◌, ℕ, Some, slice_get};
 ghost use Rattle.trace_format.specs.declared.trace.Block.{Block};
@@ -7,10 +7,19 @@ ghost use Rattle.trace_format.specs.declared.trace.Trace.{Trace};
 ghost use Rattle.trace_format.specs.Trace.{TraceFile, trace_in};
 ghost use Rattle.trace_format.specs.Formats.{trace_spelling};
 ghost use Rattle.trace_format.specs.Checks.{Passes, IsClosed, IsWellPlaced};
+ghost use Rattle.trace_format.specs.Consolidated.{ConsolidatedFile, consolidated_in};
+ghost use Rattle.trace_format.specs.ConsolidatedFormats.{consolidated_spelling};
+ghost use Rattle.trace_format.specs.ConsolidatedChecks.{IsSealed};
 
 /// A law: a trace has one file, and a file one trace.
 pub fn one_trace()
     ensures { (s t : TraceFile) → IsClosed s → IsClosed t → trace_spelling (trace_in s) ≡ trace_spelling (trace_in t) → s ≡ t }
+{}
+
+/// A law: what runs covered has one consolidated file, and such a file says one thing.
+pub fn one_consolidated_file()
+    ensures { (a b : ConsolidatedFile) → IsSealed a → IsSealed b
+        → consolidated_spelling (consolidated_in a) ≡ consolidated_spelling (consolidated_in b) → a ≡ b }
 {}
 
 /// A law: what it says of the entries of a trace that it passes.

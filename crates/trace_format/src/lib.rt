@@ -5,17 +5,24 @@
 //! that are the file of a trace which passes the checks that need no object, and else the first check
 //! that fails. [`write_trace`] gives the one file of such a trace. `IsClosed` of `specs/Checks.antt`
 //! is the word for a trace that a view can show.
+//!
+//! Consolidated files, which hold what several runs covered, are read by [`ConsolidatedView::view`] and
+//! written by [`write_consolidated`] likewise.
 #![tactic(auto)]
 
 mod check;
+mod consolidated;
 mod fault;
 mod laws;
 mod trace;
 mod view;
 mod write;
 
+pub use consolidated::{
+    ConsFault, ConsolidatedParts, ConsolidatedView, StartEntry, VectorEntry, write_consolidated,
+};
 pub use fault::TraceFault;
-pub use laws::{one_trace, passing};
+pub use laws::{one_consolidated_file, one_trace, passing};
 pub use trace::{Block, HistoryEntry, NOT_TAKEN, TAKEN, Trace, TraceParts};
 pub use view::TraceView;
 pub use write::{write_parts, write_trace};
