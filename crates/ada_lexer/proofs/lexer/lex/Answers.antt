@@ -1,3 +1,5 @@
+use Rattle.std.proofs.Common.{arith}
+use Rattle.std.proofs.lemmas.Grind.{common_steps}
 use Rattle.std.proofs.Common.{◌≡◌, ◌<◌, ◌≤◌, Some, length}
 use Rattle.ada_lexer.specs.declared.cut.Cut.TheVariants as cut
 use Rattle.ada_lexer.specs.Cut.{cut_of}
@@ -50,3 +52,18 @@ loop-rest-preserved c =
     let some : 0 < n = rw c.in-Some-Token.field-0-is at c.in-Some-Token.ensures.some in
     let h = c.split_at-in-Some-Token.ensures in
     rw (c.in_ok-push-in-Some-Token.ensures.items, c.in_ok-make_token-in-Some-Token.ensures, c.pos_after-pos-in-Some-Token.ensures, h.front_len, h.front, h.back) (token_step c.loop-rest.invariant n c.in-Some-Token.lexeme e some fits)
+
+pub make_token-requires : goal.make_token-requires
+make_token-requires c = grind (arith, common_steps) steps 2000000
+
+pub overflow_cast-from : goal.overflow_cast-from
+overflow_cast-from c = grind (arith, common_steps) steps 2000000
+
+pub returns-clause-rising : goal.returns-clause-rising
+returns-clause-rising c = grind (arith, common_steps) steps 2000000
+
+pub returns-clause-tokens : goal.returns-clause-tokens
+returns-clause-tokens c = grind (arith, common_steps) steps 2000000
+
+pub overflow_add-from : goal.overflow_add-from
+overflow_add-from c = grind (arith, common_steps) steps 2000000

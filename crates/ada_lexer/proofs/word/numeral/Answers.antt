@@ -8,3 +8,6 @@ pub returns-then-value-gt-MAX_NUMERAL : goal.returns-then-value-gt-MAX_NUMERAL
 returns-then-value-gt-MAX_NUMERAL c =
     let word = c.args.word.now in
     elim c.match-byte.branch [ in-95 w ↦ absurd (omega arith) | in-48-to-57 w ↦ numeral_of-great word c.match-byte.value (drop (c.loop-byte.byte-index + 1) word) (omega arith) (grind (arith, common_steps)) ]
+
+pub loop-byte-preserved : goal.loop-byte-preserved
+loop-byte-preserved c = grind (arith, common_steps) steps 2000000

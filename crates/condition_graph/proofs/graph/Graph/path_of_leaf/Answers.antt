@@ -1,3 +1,4 @@
+use Rattle.std.proofs.lemmas.Grind.{common_steps}
 use Rattle.std.proofs.Common.{◌≡◌, ◌<◌, ◌∷◌, true, false, List, length, map, ap, sym, subst, arith, ◌∙◌}
 use Rattle.decision_meaning.specs.Graph.{Edges, leaf, graph, next_in}
 use Rattle.decision_meaning.specs.Path.{vector_of, IsVectorOfLeaf}
@@ -21,3 +22,6 @@ returns-in-Leaf-clause-path c e is =
     ∙ ap (λ (nodes : List Edges). vector_of (record { at_node = k; value = value } ∷ climbed k nodes k)) the_nodes in
     subst (IsVectorOfLeaf (graph e) k value) (sym shown)
     (leaf_climb e k value c.in-Leaf.field-0 (omega (arith, length-nodes e 0 (leaf true) (leaf false))) leads)
+
+pub vector_by-requires-clause-within : goal.vector_by-requires-clause-within
+vector_by-requires-clause-within c = grind (arith, common_steps) steps 2000000

@@ -1,0 +1,9 @@
+use Rattle.std.proofs.Common.{arith}
+use Rattle.std.proofs.lemmas.Grind.{common_steps}
+use Rattle.ada_lexer.proofs.word.has_single_underscores.Goals as goal
+
+pub loop-byte-preserved : goal.loop-byte-preserved
+loop-byte-preserved c = grind (arith, common_steps) steps 2000000
+
+pub returns-then-not-behind : goal.returns-then-not-behind
+returns-then-not-behind c = grind (arith, common_steps) steps 2000000
