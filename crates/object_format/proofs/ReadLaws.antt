@@ -9,7 +9,7 @@ use Rattle.object_format.specs.declared.object.Object.{Object}
 use Rattle.object_format.specs.Checked.{IsSound, FailsFirst, IsRefusal}
 use Rattle.object_format.specs.Fields.{passes_field}
 use Rattle.object_format.specs.File.{object_bytes, structured}
-use Rattle.object_format.specs.Read.{IsObject, is_plain, passes_plain_field, IsPlainRefusal, IsRefusedFor, IsFailure}
+use Rattle.object_format.specs.Read.{IsObject, is_plain, passes_plain_field, IsPlainRefusal, IsFailure}
 use Rattle.object_format.proofs.FileLaws.{structured_found, structured_only}
 use Rattle.spelling.specs.Laws.{IsBytes}
 use Rattle.spelling.specs.Outcome.{Delivers, Fails}

@@ -1,3 +1,5 @@
+use Rattle.std.proofs.Common.{arith}
+use Rattle.std.proofs.lemmas.Grind.{common_steps}
 use Rattle.std.proofs.Common.{refl, sym, ◌∙◌}
 use Rattle.std.proofs.lemmas.Result.{err_from_is_err_and}
 use Rattle.decision_map.proofs.Fitting.{fault_law, past, here}
@@ -36,3 +38,6 @@ returns c =
     ∙ past _ c.in_ok-check_object.ensures.fault (past _ c.in_ok-check_ending.ensures (past _ c.in_ok-check_blocks.ensures
     (past _ c.in_ok-check_edges.ensures (past _ c.in_ok-check_addresses.ensures refl))))
     ∙ fault_law c.args.object.now c.requires.mappable c.args.kinds.now c.requires.kinds c.args.view.now
+
+pub check_blocks-requires-clause-few : goal.check_blocks-requires-clause-few
+check_blocks-requires-clause-few c = grind (arith, common_steps) steps 2000000

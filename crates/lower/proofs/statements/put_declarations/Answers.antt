@@ -1,3 +1,4 @@
+use Rattle.std.proofs.lemmas.Grind.{common_steps}
 use Rattle.std.proofs.Common.{map, refl, ◌∙◌, arith}
 use Rattle.ada_tree.specs.View.{declaration_of}
 use Rattle.lower.specs.Known.{number_of, bounds_of}
@@ -29,3 +30,6 @@ pub returns-clause-code : goal.returns-clause-code
 returns-clause-code c =
     none_left (λ xs. declarations_code number_of bounds_of c.args.objects (map declaration_of xs)) refl
     c.args.declarations.now c.loop-declaration.declaration-index _ _ (omega (arith, c.loop-declaration-test.false)) c.loop-declaration.invariant.0
+
+pub returns-clause-end : goal.returns-clause-end
+returns-clause-end c = grind (arith, common_steps) steps 2000000

@@ -1,3 +1,4 @@
+use Rattle.std.proofs.lemmas.Grind.{common_steps}
 use Rattle.std.proofs.Common.{◌++◌, ◌∷◌, ◌∙◌, [], All, arith, take, sym, ap, subst}
 use Rattle.std.specs.List.{flat_map}
 use Rattle.std.proofs.lemmas.List.{take_more, flat_map_more}
@@ -17,3 +18,6 @@ loop-value-preserved g c =
           ∙ (flat_map_more spell c.args.into.now.items before x ∙ ap (λ xs. c.args.into.now.items ++ flat_map spell xs) more));
       fits = subst (All g.T.Formatted.format.Fits) more (All-push g.T.Formatted.format.Fits before x c.loop-value.invariant.fits c.in_ok-write.ensures.fits);
     }
+
+pub returns-clause-spelled : goal.returns-clause-spelled
+returns-clause-spelled c = grind (arith, common_steps) steps 2000000

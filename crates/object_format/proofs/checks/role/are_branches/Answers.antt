@@ -10,3 +10,6 @@ returns-in_default c = grind (arith, common_steps)
 
 pub loop-word-preserved : goal.loop-word-preserved
 loop-word-preserved c = grind (arith, common_steps)
+
+pub returns : goal.returns
+returns c = grind (arith, common_steps) steps 2000000
