@@ -1,4 +1,6 @@
 pub mod Members
+pub mod Searched
+pub mod Turns
 pub mod Merged
 pub mod Replayed
 pub mod Starts

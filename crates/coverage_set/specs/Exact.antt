@@ -9,6 +9,8 @@ use Rattle.std.proofs.lemmas.Map.Lookups.{exact_unsigned, exact_bytes}
 use Rattle.cov_base.specs.declared.event.Event.{Event}
 use Rattle.cov_base.specs.declared.event.Event.TheVariants.{Start, Done}
 use Rattle.cov_base.specs.contracts.event.EventOrd.TheImpl.{ghosts as derived}
+use Rattle.coverage_set.specs.declared.consolidated.Decided.{Decided}
+use Rattle.coverage_set.specs.contracts.consolidated.DecidedOrd.TheImpl.{ghosts as derived_decided}
 
 -- starts come before evaluations; starts are ordered by statement and instance, evaluations by decision, instance, and the numbers of
 -- their vectors
@@ -48,3 +50,9 @@ event_exact (Done d i v) (Done e j w) is =
 
 pub digest_exact : (x y : List ℕ) → slice_cmp nat_cmp x y ≡ Equal → x ≡ y
 digest_exact = exact_bytes
+
+pub decided_exact : (x y : Decided) → derived_decided.cmp x y ≡ Equal → x ≡ y
+decided_exact x y is =
+    let a = exact_unsigned x.decision.0 y.decision.0 (first_equal (nat_cmp x.decision.0 y.decision.0) _ is) in
+    let b = exact_unsigned x.instance.0 y.instance.0 (second_equal (nat_cmp x.decision.0 y.decision.0) _ is) in
+    λ k. record { decision = record { 0 = a k }; instance = record { 0 = b k } }

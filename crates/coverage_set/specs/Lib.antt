@@ -1,3 +1,4 @@
 pub mod Exact
 pub mod Covered
 pub mod Said
+pub mod Consolidated

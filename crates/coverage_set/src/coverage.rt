@@ -12,10 +12,12 @@ ghost use Rattle.transcript.specs.Reading.{AllFollow};
 ghost use Rattle.transcript.specs.Trace.{Says};
 ghost use Rattle.vector_rebuild.specs.Entries.{trace_in};
 ghost use Rattle.vector_rebuild.specs.Rebuilt.{visits_of};
+ghost use Rattle.coverage_set.specs.Consolidated.{IsReadOf, IsRefused};
 ghost use Rattle.coverage_set.specs.Covered.{HasRun, Has, IsUnion, IsCountOfRuns};
 ghost use Rattle.coverage_set.specs.Exact.{event_cmp};
 ghost use Rattle.coverage_set.specs.Said.{IsBrokenBy};
 
+use crate::consolidated::{events_in, fit, runs_in};
 use crate::said::said;
 use crate::set::SortedSet;
 use cov_base::{Digest, Event, Failure};
@@ -23,7 +25,7 @@ use decision_map::DecisionMap;
 use object_format::Object;
 use std::alloc::{AllocError, Global};
 use std::marker::Model;
-use trace_format::TraceView;
+use trace_format::{ConsFault, ConsolidatedView, TraceView};
 use vector_rebuild::BrokenHistory;
 
 /// What runs of an object covered: the closing digests of their traces, and their events.
@@ -56,6 +58,28 @@ impl<'a> Coverage<'a> {
             runs: SortedSet::new(alloc),
             events: SortedSet::new(alloc),
         }
+    }
+
+    /// What a consolidated file of the object says, or the first check that it fails: those of the format,
+    /// then `foreign`, `start` and `vector`.
+    pub fn read(
+        alloc: Global,
+        map: &DecisionMap<'a>,
+        bytes: &[u8],
+    ) -> Result<Self, Failure<ConsFault>>
+        ensures read { IfOk result (IsReadOf map.now bytes.now) }
+        ensures refused { IfErr result (IsRefused map.now bytes.now) }
+    {
+        let view = ConsolidatedView::view(bytes)?;
+        fit(alloc, map, &view)?;
+        let runs = runs_in(alloc, &view)?;
+        let events = events_in(alloc, &view)?;
+        Ok(Coverage {
+            alloc,
+            object: map.object(),
+            runs,
+            events,
+        })
     }
 
     /// The object.

@@ -2,8 +2,9 @@
 
 ghost use Rattle.std.specs.Prelude.{◌≡◌};
 ghost use Rattle.std.specs.declared.cmp.Ordering.TheVariants.{Equal};
-ghost use Rattle.coverage_set.specs.Exact.{event_exact, digest_exact};
+ghost use Rattle.coverage_set.specs.Exact.{event_exact, digest_exact, decided_exact};
 
+use crate::consolidated::Decided;
 use cov_base::{Digest, Event};
 
 /// Two values that compare as equal are one.
@@ -17,4 +18,8 @@ impl Exact for Event {
 
 impl Exact for Digest {
     ghost exact = { digest_exact };
+}
+
+impl Exact for Decided {
+    ghost exact = { decided_exact };
 }

@@ -6,6 +6,7 @@
 //! for is said by `HasRun` and `Has` of `specs/Covered.antt`, whatever it is kept in.
 #![tactic(auto)]
 
+mod consolidated;
 mod coverage;
 mod exact;
 mod gathered;

@@ -66,8 +66,8 @@ impl<T: Exact + Drop> SortedSet<T> {
     }
 
     /// Whether an item stands here.
-    fn has(&self, item: &T) -> bool
-        ensures { IsTrue result → Somewhere (λ y. y ≡ item.now) self.now }
+    pub fn has(&self, item: &T) -> bool
+        ensures { IsTrue result ↔ Somewhere (λ y. y ≡ item.now) self.now }
     {
         self.items.as_slice().binary_search(item).is_ok()
     }

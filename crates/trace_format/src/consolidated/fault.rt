@@ -1,9 +1,10 @@
 //! Why bytes are no consolidated file of an object.
 
 ghost use Rattle.std.specs.Prelude.{◌≡◌};
+ghost use Rattle.cov_base.specs.declared.failure.Failure.TheVariants.{Fault};
 ghost use Rattle.trace_format.specs.ConsolidatedChecks.{layer_fault};
 
-use cov_base::Digest;
+use cov_base::{Digest, Failure};
 use spelling::LayerFault;
 use thiserror::Error;
 
@@ -55,5 +56,13 @@ impl From<LayerFault> for ConsFault {
             LayerFault::Long => ConsFault::Long,
             LayerFault::Damaged => ConsFault::Damaged,
         }
+    }
+}
+
+impl From<ConsFault> for Failure<ConsFault> {
+    ghost from_gives = { λ fault failure. failure ≡ Fault fault };
+
+    fn from(fault: ConsFault) -> Self {
+        Failure::Fault(fault)
     }
 }

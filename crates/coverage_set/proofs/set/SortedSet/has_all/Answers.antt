@@ -1,4 +1,4 @@
-use Rattle.std.proofs.Common.{not, true, false, ◌≡◌}
+use Rattle.std.proofs.Common.{◌≡◌}
 use Rattle.coverage_set.proofs.Members.{one_less, none_behind}
 use Rattle.coverage_set.proofs.set.SortedSet.has_all.Goals as goal
 
@@ -9,7 +9,7 @@ pub loop-item-preserved : goal.loop-item-preserved
 loop-item-preserved g c =
     λ behind. c.loop-item.invariant
     ((one_less c.args.self.now c.as_slice-item-items.result.now c.loop-item.item-index c.item-item.result c.loop-item-test.true c.item-item.is
-    (c.has.ensures c.if-not-has.false)).1 behind)
+    (c.has.ensures.0 c.if-not-has.false)).1 behind)
 
 pub returns : goal.returns
 returns g c =
