@@ -6,8 +6,8 @@ use Rattle.ada_syntax.specs.declared.unit.Unit.{Unit as LibraryUnit}
 use Rattle.expression_parser.specs.Reading.{Reading, Got}
 use Rattle.expression_parser.specs.declared.extent.Extent.TheVariants.{Whole}
 use Rattle.ada_parser.specs.UnitReading as read
-use Rattle.ada_meaning.specs.Collected.{labels_of, decisions_of}
-use Rattle.ada_meaning.specs.Tree.{conditions_of}
+use Rattle.cov_base.specs.declared.obligations.Obligations.{Obligations}
+use Rattle.ada_meaning.specs.Obligations.{obligations_of}
 use Rattle.ada_rules.specs.Legal as rules
 
 -- the lines of a file
@@ -27,12 +27,15 @@ pub data Outcome : Type 0 where
   counts : (file line column : ℕ) → Outcome
   good : (statements decisions conditions : ℕ) → Outcome
 
+-- obligations, counted
+abbrev pub counted : Obligations → Outcome
+counted o = good (length o.statements) (length o.decisions) (sum_by (λ d. length d.conditions) o.decisions)
+
 abbrev pub outcome_of : rules.Checked → Outcome
 outcome_of (rules.unnamed p) = names p.file p.line p.col
 outcome_of (rules.mistyped p) = types p.file p.line p.col
 outcome_of (rules.too_large p) = counts p.file p.line p.col
-outcome_of (rules.legal p) =
-    good (length (labels_of p.subprograms)) (length (decisions_of p.subprograms)) (sum_by (λ d. conditions_of d.test) (decisions_of p.subprograms))
+outcome_of (rules.legal p) = counted (obligations_of p [])
 
 -- files as text, as tokens, and as units, in their order
 abbrev pub text_of : Lines → List ℕ
