@@ -9,6 +9,7 @@ pub mod Steps
 pub mod BeforeWords
 pub mod Parts
 pub mod SimpleCode
+pub mod FrontCode
 pub mod StatementNodes
 pub mod ArmCode
 pub mod CompoundCode

@@ -1,4 +1,13 @@
-use Rattle.std.proofs.Common.{arith}
+use Rattle.std.proofs.Common.{◌≡◌, true, false, refl, sym, ◌∙◌, arith}
+use Rattle.std.proofs.lemmas.Bool.{false≢true}
+use Rattle.std.proofs.lemmas.Result.{err_from_is_err_and}
+use Rattle.expression_parser.specs.declared.symbol.Symbol.TheVariants as symbol
+use Rattle.expression_parser.specs.Symbols.{symbol_of}
+use Rattle.expression_parser.specs.Shows.{Reads}
+use Rattle.expression_parser.specs.Depth.{at_name}
+use Rattle.ada_parser.specs.StatementReading as read
+use Rattle.ada_parser.proofs.Parts.{part_fails}
+use Rattle.ada_parser.proofs.FrontCode.{name_raised, raising_fails}
 use Rattle.ada_parser.proofs.SimpleCode.{raised_rules}
 use Rattle.ada_parser.proofs.simple.raised.Goals as goal
 
@@ -15,13 +24,36 @@ pub returns-then-eq-clause-no_longer : goal.returns-then-eq-clause-no_longer
 returns-then-eq-clause-no_longer c = grind (arith, raised_rules)
 
 pub returns-in_err-name-clause-reads : goal.returns-in_err-name-clause-reads
-returns-in_err-name-clause-reads c = grind (arith, raised_rules)
+returns-in_err-name-clause-reads c =
+    let x = c.args.parser.extent in
+    let ts = c.args.tokens.now in
+    let us = c.in-Some.field-0-1.now in
+    let t = c.in-Some.token.now in
+    let front = c.in-Some.ensures.cases.0 in
+    let off : (symbol_of c.in-Some.token.now.lexeme ≡ symbol.Semicolon → ⊥) = (λ o.
+    let is : c.symbol_in.result ≡ symbol.Semicolon = c.symbol_in.ensures ∙ o in
+    let yes : c.eq.result ≡ true = c.eq.ensures ∙ rw is refl in
+    false≢true (sym c.if-eq.false ∙ yes)) in
+    let p = err_from_is_err_and c.from_residual.result c.from_residual.ensures.1 in
+    rw (p.1, p.2) (part_fails (Reads (at_name x) ts) (Reads (read.raised_by x) ts) c.in_err-name.field-0.0 c.in_err-name.ensures.reads (λ rest r. raising_fails x ts us t front off rest r))
 
 pub returns-in_err-name-clause-no_longer : goal.returns-in_err-name-clause-no_longer
-returns-in_err-name-clause-no_longer c = grind (arith, raised_rules)
+returns-in_err-name-clause-no_longer c =
+    rw ((err_from_is_err_and c.from_residual.result c.from_residual.ensures.1).1) tt
 
 pub returns-clause-reads : goal.returns-clause-reads
-returns-clause-reads c = grind (arith, raised_rules)
+returns-clause-reads c =
+    let x = c.args.parser.extent in
+    let ts = c.args.tokens.now in
+    let us = c.in-Some.field-0-1.now in
+    let t = c.in-Some.token.now in
+    let front = c.in-Some.ensures.cases.0 in
+    let off : (symbol_of c.in-Some.token.now.lexeme ≡ symbol.Semicolon → ⊥) = (λ o.
+    let is : c.symbol_in.result ≡ symbol.Semicolon = c.symbol_in.ensures ∙ o in
+    let yes : c.eq.result ≡ true = c.eq.ensures ∙ rw is refl in
+    false≢true (sym c.if-eq.false ∙ yes)) in
+    name_raised x ts us t front off c.in_ok-name.rest.now c.in_ok-name.name c.in_ok-name.ensures.reads c.in_ok-name.ensures.shorter
 
 pub returns-clause-no_longer : goal.returns-clause-no_longer
-returns-clause-no_longer c = grind (arith, raised_rules)
+returns-clause-no_longer c =
+    omega (arith, c.in_ok-name.ensures.shorter)
