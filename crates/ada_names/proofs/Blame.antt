@@ -1,5 +1,5 @@
 -- Refusals: of a construct by its parts, and by itself.
-use Rattle.std.proofs.Common.{◌≡◌, ℕ, ◌+◌, ◌<◌, length, subst, true, false, ◌&&◌, List, [], ◌∷◌, ◌++◌, map, drop, Option, Some, None, is_some, is_none, refl, sym, ap, ◌∙◌}
+use Rattle.std.proofs.Common.{◌≡◌, ℕ, ◌+◌, ◌<◌, length, Result, Ok, Err, subst, true, false, ◌&&◌, List, [], ◌∷◌, ◌++◌, map, drop, Option, Some, None, is_some, is_none, refl, sym, ap, ◌∙◌}
 use Rattle.std.specs.List.{list_all}
 use Rattle.std.proofs.Math.ListN.{get_or}
 use Rattle.std.proofs.lemmas.List.{drop_more}
@@ -11,7 +11,7 @@ use Rattle.ada_names.specs.declared.library.Library.{Library}
 use Rattle.ada_names.specs.Names.{key, Region, entity_of}
 use Rattle.ada_names.specs.Naming.{with_name_known, repeats}
 use Rattle.ada_names.specs.Rules.{Construct, new_name, with_name, closing, parts, holds, Among, here, behind, itself, within}
-use Rattle.ada_names.specs.NameCode.{SomeRefused, one_of, memory_refused}
+use Rattle.ada_names.specs.NameCode.{SomeRefused, AllPass, one_of, memory_refused}
 use Rattle.ada_names.specs.Answer.{Refused, breaks_a_rule, no_memory, unnamed}
 
 pub up : {c d : Construct} {f : Failure NameFault} → Among d (parts c) → Refused d f → Refused c f
@@ -60,6 +60,10 @@ some_right cs memory_refused = memory_refused
 pub of_some : (c : Construct) {f : Failure NameFault} → SomeRefused (parts c) f → Refused c f
 of_some c (one_of a r) = up a r
 of_some c memory_refused = no_memory
+
+pub all_behind : {A : Type 0} (c : Construct) (cs : List Construct) (r : Result A (Failure NameFault)) → holds c ≡ true → AllPass cs r → AllPass (c ∷ cs) r
+all_behind c cs (Ok x) ok h = ap (λ b. b && list_all holds cs) ok ∙ h
+all_behind c cs (Err f) ok h = some_rest h
 
 pub ruleset blames = (no_memory, memory_refused)
 

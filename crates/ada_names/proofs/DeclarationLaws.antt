@@ -1,5 +1,5 @@
 -- Declarations: how they pass by their parts, and how they are refused.
-use Rattle.std.proofs.Common.{◌≡◌, ℕ, ◌+◌, ◌<◌, length, Result, Ok, Err, true, ◌&&◌, List, ◌∷◌, drop, Option, Some, refl, sym, ap, ◌∙◌, subst}
+use Rattle.std.proofs.Common.{◌≡◌, ℕ, ◌+◌, ◌<◌, length, Result, Ok, Err, true, ◌&&◌, List, drop, Option, Some, refl, sym, ap, ◌∙◌, subst}
 use Rattle.std.specs.List.{list_all}
 use Rattle.std.proofs.Math.ListN.{get_or}
 use Rattle.std.proofs.Math.Bool.{and-true}
@@ -13,10 +13,10 @@ use Rattle.ada_syntax.specs.declared.name.Identifier.{Identifier}
 use Rattle.ada_names.specs.declared.fault.NameFault.{NameFault}
 use Rattle.ada_names.specs.Names.{Region, hide, declare_objects}
 use Rattle.ada_names.specs.Naming.{is_new, all_new, Surroundings, inner, name_known, initial_known, declaration_known, kind_known, after, after_kind, declared_by, after_all, declarations_known}
-use Rattle.ada_names.specs.Rules.{new_name, new_names, name, expression, declaration, declarations, parts_of_initial, parts_of_kind, holds, here, behind}
-use Rattle.ada_names.specs.NameCode.{SomeRefused, one_of, AllPass}
+use Rattle.ada_names.specs.Rules.{new_name, new_names, expression, declaration, declarations, parts_of_initial, parts_of_kind, holds, here, behind}
+use Rattle.ada_names.specs.NameCode.{SomeRefused, one_of, AllPass, ObjectsPass, objects_known, parts_inside}
 use Rattle.ada_names.specs.Answer.{Refused, Passes}
-use Rattle.ada_names.proofs.Blame.{up, drop_item, some_first, some_rest, some_left, some_right, of_some}
+use Rattle.ada_names.proofs.Blame.{up, drop_item, some_first, some_rest, some_right, of_some}
 
 -- an initial value
 pub initial_passes : {A : Type 0} (rs : List Region) (i : Initial) (o : Option Initial) (r : Result A (Failure NameFault)) → o ≡ Some i →
@@ -42,25 +42,21 @@ pub new_later : (region : Region) (is : List Identifier) (n : ℕ) (i : Identifi
     SomeRefused (new_names (hide region i) (drop (n + 1) is)) f → SomeRefused (new_names region (drop n is)) f
 new_later region is n i {f} h e r = subst (λ y. SomeRefused (new_names region y) f) (sym (drop_item is n i h e)) (some_rest r)
 
+-- the names of a declaration of objects, of which those of its subtype and of its initial value are inside it
+pub objects_pass : {A : Type 0} (k : Surroundings) (is : List Identifier) (s : SubtypeIndication) (o : Option Initial) (r : Result A (Failure NameFault)) → all_new k.region is ≡ true →
+    AllPass (parts_inside (inner k is) s o) r → ObjectsPass k is s o r
+objects_pass k is s o (Ok x) new h =
+    let mark = name_known (inner k is) s.mark in
+    ap (λ b. (b && mark) && initial_known (inner k is) o) new ∙ (ap (λ b. mark && b) (sym (initial_holds (inner k is) o)) ∙ h)
+objects_pass k is s o (Err f) new h = some_right (new_names k.region is) h
+
 -- a declaration of objects
 module _ (k : Surroundings) (d : Declaration) (is : List Identifier) (c : Constancy) (s : SubtypeIndication) (o : Option Initial) (same : d.kind ≡ Object is c s o) where
-  by_part : {f : Failure NameFault} → SomeRefused (parts_of_kind k (Object is c s o)) f → Refused (declaration k d) f
+  pub by_part : {f : Failure NameFault} → SomeRefused (parts_of_kind k (Object is c s o)) f → Refused (declaration k d) f
   by_part {f} r = of_some (declaration k d) (subst (λ x. SomeRefused (parts_of_kind k x) f) (sym same) r)
 
-  pub by_name : {f : Failure NameFault} → SomeRefused (new_names k.region is) f → Refused (declaration k d) f
-  by_name r = by_part (some_left (name (inner k is) s.mark ∷ parts_of_initial (inner k is) o) r)
-
-  pub by_mark : {f : Failure NameFault} → Refused (name (inner k is) s.mark) f → Refused (declaration k d) f
-  by_mark r = by_part (some_right (new_names k.region is) (some_first r))
-
-  pub by_initial : {f : Failure NameFault} → SomeRefused (parts_of_initial (inner k is) o) f → Refused (declaration k d) f
-  by_initial r = by_part (some_right (new_names k.region is) (some_rest r))
-
-  pub objects_known : all_new k.region is ≡ true → name_known (inner k is) s.mark ≡ true → list_all holds (parts_of_initial (inner k is) o) ≡ true →
-      declaration_known k d ≡ true
-  objects_known a b e =
-      let value : initial_known (inner k is) o ≡ true = sym (initial_holds (inner k is) o) ∙ e in
-      ap (λ x. kind_known k.outer k.region x) same ∙ rw (a, b, value) refl
+  pub known_by_objects : objects_known k is s o ≡ true → declaration_known k d ≡ true
+  known_by_objects h = ap (λ x. kind_known k.outer k.region x) same ∙ h
 
   pub region_after : declare_objects k.objects k.region is ≡ (after k d).region
   region_after = ap (λ x. after_kind k.objects k.region x) (sym same)

@@ -4,7 +4,7 @@ ghost use Rattle.std.specs.Prelude.{◌≡◌, ◌+◌, IfOk, IfErr, OnOk, true}
 ghost use Rattle.ada_names.specs.ScopeView.{regions_of, surroundings, enclosing};
 ghost use Rattle.ada_names.specs.Naming as spec;
 ghost use Rattle.ada_names.specs.Rules as rules;
-ghost use Rattle.ada_names.specs.NameCode.{AllPass};
+ghost use Rattle.ada_names.specs.NameCode.{AllPass, ObjectsPass, parts_inside};
 ghost use Rattle.ada_names.specs.LocalsCode.{IsOpen};
 ghost use Rattle.ada_names.specs.Answer.{Refused};
 
@@ -14,7 +14,7 @@ use crate::locals::Locals;
 use crate::objects::hide_new;
 use crate::region::{Region, numbered};
 use crate::scope::Scope;
-use ada_syntax::{Declaration, DeclarationKind, Initial};
+use ada_syntax::{Declaration, DeclarationKind, Identifier, Initial, SubtypeIndication};
 use cov_base::Failure;
 use std::alloc::{AllocError, Global};
 
@@ -31,6 +31,42 @@ fn check_initial(
         Some(initial) => check_expr(alloc, scope, &initial.value),
         None => Ok(()),
     }
+}
+
+/// The names of a subtype indication and of an initial value.
+#[tactic(auto, using(crate::proofs::Blame::blames))]
+fn check_inside(
+    alloc: Global,
+    scope: &Scope<'_>,
+    indication: &SubtypeIndication,
+    initial: &Option<Initial>,
+) -> Result<(), Failure<NameFault>>
+    ensures { AllPass (parts_inside (regions_of scope.now) indication.now initial.now) result }
+{
+    check_name(alloc, scope, &indication.mark)?;
+    check_initial(alloc, scope, initial)
+}
+
+/// The names of a declaration of objects: they must be new, and hide others in the declaration.
+#[tactic(auto, using(crate::proofs::Blame::blames))]
+fn check_objects(
+    alloc: Global,
+    seen: &Region,
+    locals: &Locals,
+    names: &[Identifier],
+    indication: &SubtypeIndication,
+    initial: &Option<Initial>,
+) -> Result<(), Failure<NameFault>>
+    requires { IsOpen locals.now }
+    ensures { ObjectsPass (surroundings seen.now locals.now 0) names.now indication.now initial.now result }
+{
+    let hidden = hide_new(alloc, locals, names)?;
+    let scope = Scope {
+        hidden: &hidden,
+        locals,
+        seen,
+    };
+    check_inside(alloc, &scope, indication, initial)
 }
 
 /// How many objects are visible with some more. 2^32 of them have no memory.
@@ -62,14 +98,7 @@ fn check_declaration(
     match &declaration.kind {
         DeclarationKind::Object(names, _, indication, initial) => {
             let names = names.as_slice();
-            let hidden = hide_new(alloc, locals, names)?;
-            let scope = Scope {
-                hidden: &hidden,
-                locals,
-                seen,
-            };
-            check_name(alloc, &scope, &indication.mark)?;
-            check_initial(alloc, &scope, initial)?;
+            check_objects(alloc, seen, locals, names, indication, initial)?;
             locals.declare_objects(alloc, objects, names)?;
             Ok(with_more(objects, names.len())?)
         }

@@ -31,13 +31,14 @@ pub struct Library {
 fn declare_unit(
     alloc: Global,
     region: &mut Region,
-    number: u32,
+    index: usize,
     unit: &Unit,
 ) -> Result<(), Failure<NameFault>>
     ensures fresh { OnOk result (is_new region.old (item_name unit.now.item) ≡ true) }
-    ensures declared { OnOk result (region.new ≡ declare (key (item_name unit.now.item)) (entity.Procedure number) region.old) }
+    ensures declared { OnOk result (region.new ≡ declare (key (item_name unit.now.item)) (entity.Procedure index) region.old) }
     ensures refused { IfErr result (Refused (new_name region.old (item_name unit.now.item))) }
 {
+    let number = numbered(index)?;
     let name = item_name(&unit.item);
     check_new(alloc, region, name)?;
     region.declare(key(alloc, name)?, Entity::Procedure(number))?;
@@ -78,15 +79,21 @@ fn see_names(
     Ok(())
 }
 
+/// A unit alone, by its number.
+fn alone(alloc: Global, number: u32, unit: &Unit) -> Result<Region, AllocError>
+    ensures { IfOk result (λ region. region ≡ declare (key (item_name unit.now.item)) (entity.Procedure number) []) }
+{
+    let mut region = Region::new(alloc);
+    let name = key(alloc, item_name(&unit.item))?;
+    region.declare(name, Entity::Procedure(number))?;
+    Ok(region)
+}
+
 /// What a unit sees of the library.
 pub fn seen(alloc: Global, library: &Region, number: u32, unit: &Unit) -> Result<Region, AllocError>
     ensures { IfOk result (λ region. region ≡ seen library.now number unit.now) }
 {
-    let mut region = Region::new(alloc);
-    region.declare(
-        key(alloc, item_name(&unit.item))?,
-        Entity::Procedure(number),
-    )?;
+    let mut region = alone(alloc, number, unit)?;
     for clause in unit.withs.as_slice() {
         see_names(alloc, library, clause.names.as_slice(), &mut region)?;
     }
@@ -208,6 +215,15 @@ pub fn leading(alloc: Global, graph: &[Seq<u32>], target: u32) -> Result<Vec<boo
     Ok(marks)
 }
 
+/// The library before its first unit.
+fn given(alloc: Global) -> Result<Region, AllocError>
+    ensures { IfOk result (λ region. region ≡ given) }
+{
+    let mut region = Region::new(alloc);
+    region.declare(Vec::from_slice(alloc, TEST_IO.as_bytes())?, Entity::TestIo)?;
+    Ok(region)
+}
+
 /// The library of these units.
 #[tactic(auto, using(crate::proofs::Blame::blames))]
 fn declare_units(alloc: Global, units: &[Unit]) -> Result<Region, Failure<NameFault>>
@@ -215,10 +231,9 @@ fn declare_units(alloc: Global, units: &[Unit]) -> Result<Region, Failure<NameFa
     ensures fresh { OnOk result (units_new 0 units.now given ≡ true) }
     ensures refused { IfErr result (SomeRefused (library_names 0 units.now given)) }
 {
-    let mut region = Region::new(alloc);
-    region.declare(Vec::from_slice(alloc, TEST_IO.as_bytes())?, Entity::TestIo)?;
+    let mut region = given(alloc)?;
     for (index, unit) in units.iter().enumerate() {
-        declare_unit(alloc, &mut region, numbered(index)?, unit)?;
+        declare_unit(alloc, &mut region, index, unit)?;
     }
     Ok(region)
 }

@@ -1,9 +1,9 @@
 //! The rules on names (Ada RM 2012, 8.3, 10.1).
 
-ghost use Rattle.std.specs.Prelude.{◌≡◌, ℕ, List, [], Some, length, IfOk, IfErr, true, false, map};
+ghost use Rattle.std.specs.Prelude.{◌≡◌, ℕ, List, [], Some, length, IfOk, IfErr, OnOk, true, false, map};
 ghost use Rattle.cov_base.specs.declared.position.Pos.{Pos as Place};
 ghost use Rattle.ada_syntax.specs.declared.unit.Unit.{Unit as LibraryUnit};
-ghost use Rattle.ada_names.specs.Library.{item_name, item_end_name, leading};
+ghost use Rattle.ada_names.specs.Library.{item_name, item_end_name, given, leading};
 ghost use Rattle.ada_names.specs.declared.library.Library.{Library};
 ghost use Rattle.ada_names.specs.Naming as spec;
 ghost use Rattle.ada_names.specs.Naming.{library_of, main_from};
@@ -196,6 +196,29 @@ pub struct Named {
     pub main: u32,
 }
 
+/// The number of the main procedure of units that have this library and names of their own, where
+/// they keep the rules on names.
+#[tactic(auto, using(crate::proofs::Blame::blames))]
+fn checked_main(
+    alloc: Global,
+    library: &Library,
+    units: &[Unit],
+    main: &[u8],
+) -> Result<u32, Failure<NameFault>>
+    requires library { library.now ≡ library_of units.now }
+    requires fresh { spec.units_new 0 units.now given ≡ true }
+    ensures main { IfOk result (λ n. main_from 0 units.now main.now ≡ Some n) }
+    ensures named { OnOk result (spec.named units.now main.now ≡ true) }
+    ensures refused { IfErr result (Refused (rules.program units.now main.now)) }
+{
+    check_units(alloc, library, units)?;
+    let number = main_number(alloc, units, main)?;
+    match number {
+        Some(main) => Ok(main),
+        None => Err(unnamed(BEGINNING)),
+    }
+}
+
 /// The rules on names. The main procedure's name is in lower case.
 #[tactic(auto, using(crate::proofs::Blame::blames))]
 pub fn check_names(alloc: Global, units: &[Unit], main: &[u8]) -> Result<Named, Failure<NameFault>>
@@ -205,12 +228,8 @@ pub fn check_names(alloc: Global, units: &[Unit], main: &[u8]) -> Result<Named, 
     ensures refused { IfErr result (Refused (rules.program units.now main.now)) }
 {
     let library = library_of(alloc, units)?;
-    check_units(alloc, &library, units)?;
-    let number = main_number(alloc, units, main)?;
-    match number {
-        Some(main) => Ok(Named { library, main }),
-        None => Err(unnamed(BEGINNING)),
-    }
+    let main = checked_main(alloc, &library, units, main)?;
+    Ok(Named { library, main })
 }
 
 /// Where the first file begins.

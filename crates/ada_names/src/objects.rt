@@ -3,10 +3,10 @@
 
 ghost use Rattle.std.specs.Prelude.{◌≡◌, ◌+◌, IfOk, IfErr, OnOk, true};
 ghost use Rattle.ada_names.specs.Names.{declare_objects, hide, hiding};
-ghost use Rattle.ada_names.specs.Naming.{all_new};
+ghost use Rattle.ada_names.specs.Naming.{all_new, is_new};
 ghost use Rattle.ada_names.specs.ScopeView.{innermost};
 ghost use Rattle.ada_names.specs.Rules.{new_names};
-ghost use Rattle.ada_names.specs.NameCode.{SomeRefused};
+ghost use Rattle.ada_names.specs.NameCode.{IsTwice, SomeRefused};
 
 use crate::entity::Entity;
 use crate::fault::NameFault;
@@ -58,6 +58,26 @@ pub fn hiding(alloc: Global, names: &[Identifier]) -> Result<Region, AllocError>
     Ok(hidden)
 }
 
+/// Hides a name, which must be new in the region that it will be declared in: among the names of the
+/// innermost region, and among those that are hidden, which come there before it.
+#[tactic(auto, using(crate::proofs::Blame::blames))]
+fn hide_one_new(
+    alloc: Global,
+    locals: &Locals,
+    hidden: &mut Region,
+    name: &Identifier,
+) -> Result<(), Failure<NameFault>>
+    ensures local { OnOk result (is_new (innermost locals.now) name.now ≡ true) }
+    ensures fresh { OnOk result (is_new hidden.old name.now ≡ true) }
+    ensures hides { OnOk result (hidden.new ≡ hide hidden.old name.now) }
+    ensures refused { IfErr result (IsTwice (innermost locals.now) hidden.old name.now) }
+{
+    locals.check_new(alloc, name)?;
+    check_new(alloc, hidden, name)?;
+    hide(alloc, hidden, name)?;
+    Ok(())
+}
+
 /// The region of names that their own declaration hides, each of which must be new in the region that
 /// they will be declared in.
 #[tactic(auto, using(crate::proofs::Blame::blames))]
@@ -72,9 +92,7 @@ pub fn hide_new(
 {
     let mut hidden = Region::new(alloc);
     for name in names {
-        locals.check_new(alloc, name)?;
-        check_new(alloc, &hidden, name)?;
-        hide(alloc, &mut hidden, name)?;
+        hide_one_new(alloc, locals, &mut hidden, name)?;
     }
     Ok(hidden)
 }

@@ -10,3 +10,4 @@ pub mod Loops
 pub mod NameCode
 pub mod OperatorLaws
 pub mod ExpressionCode
+pub mod Wholes

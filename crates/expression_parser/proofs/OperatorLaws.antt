@@ -1,5 +1,6 @@
 -- What a look for an operator says of the reading there.
-use Rattle.std.proofs.Common.{◌≡◌, ℕ, suc, true, false, [], ◌∷◌, length, Some, None, refl, ap, ◌∙◌, arith}
+use Rattle.std.proofs.Common.{◌≡◌, ℕ, suc, true, false, [], ◌∷◌, length, Option, Some, None, refl, sym, ap, ◌∙◌, subst, arith}
+use Rattle.std.proofs.lemmas.Bool.{false≢true}
 use Rattle.ada_lexer.specs.declared.token.Token.{Token}
 use Rattle.ada_syntax.specs.Tree.{Expr}
 use Rattle.ada_syntax.specs.declared.expr.LogicalOperator.{LogicalOperator}
@@ -10,12 +11,15 @@ use Rattle.expression_parser.specs.declared.extent.Extent.{Extent}
 use Rattle.expression_parser.specs.declared.extent.Extent.TheVariants.{Decisions, ShortCircuit}
 use Rattle.expression_parser.specs.Symbols.{symbol_of, Is, same, first_word, second_word_of}
 use Rattle.expression_parser.specs.Extents.{opens}
-use Rattle.expression_parser.specs.Reading.{Tokens, Reader, Stuck, Refuse, Leave, Take, Look, goes_on, turned, on_token, provided, expect}
+use Rattle.expression_parser.specs.Reading.{Tokens, Reader, Got, Stuck, Refuse, Leave, Take, Look, goes_on, turned, on_token, provided, expect}
 use Rattle.expression_parser.specs.ExpressionReading as read
 use Rattle.expression_parser.specs.Depth as at
-use Rattle.expression_parser.specs.Shows.{Skipped, after}
-use Rattle.expression_parser.specs.Operators.{Joint, HalfJoint, Chains}
+use Rattle.expression_parser.specs.declared.fault.Fault.{Fault}
+use Rattle.expression_parser.specs.declared.fault.Fault.TheVariants.{Syntax, Memory}
+use Rattle.expression_parser.specs.Shows.{Skipped, IsOpen, after}
+use Rattle.expression_parser.specs.Operators.{Joint, HalfJoint, paired, joining, extent_of, Chains, FindsChain}
 use Rattle.expression_parser.proofs.Comes.{got_bind, on_symbol}
+use Rattle.expression_parser.proofs.Faults.{failed}
 use Rattle.expression_parser.proofs.NameCode.{Next, after_some, after_none}
 
 module _ (x : Extent) where
@@ -83,14 +87,14 @@ module _ (x : Extent) where
       other symbol.Else e = cc
       other _ e = refl
 
-  pub and_alone : (t : Token) (us : Tokens) → Is symbol.And t → opens x Decisions ≡ true → after symbol.Then us ≡ None → Chains x operator.And (t ∷ us) us
+  and_alone : (t : Token) (us : Tokens) → Is symbol.And t → opens x Decisions ≡ true → after symbol.Then us ≡ None → Chains x operator.And (t ∷ us) us
   and_alone t us i o h = record {
     by = λ a m. on_symbol (Leave a) (read.logical_turn x (read.expr x m) (suc m) a) symbol.And t us i
         ∙ (ap (λ b. turned (provided b (Take (on_token Refuse (read.and_turn x (read.expr x m) (suc m) a)))) t us) o ∙ and_alone_at m a us h);
     shorter = omega arith;
   }
 
-  pub or_alone : (t : Token) (us : Tokens) → Is symbol.Or t → opens x Decisions ≡ true → after symbol.Else us ≡ None → Chains x operator.Or (t ∷ us) us
+  or_alone : (t : Token) (us : Tokens) → Is symbol.Or t → opens x Decisions ≡ true → after symbol.Else us ≡ None → Chains x operator.Or (t ∷ us) us
   or_alone t us i o h = record {
     by = λ a m. on_symbol (Leave a) (read.logical_turn x (read.expr x m) (suc m) a) symbol.Or t us i
         ∙ (ap (λ b. turned (provided b (Take (on_token Refuse (read.or_turn x (read.expr x m) (suc m) a)))) t us) o ∙ or_alone_at m a us h);
@@ -110,7 +114,7 @@ module _ (x : Extent) where
       (on_symbol Refuse (read.or_turn x (read.expr x m) (suc m) a) symbol.Else n.t vs n.is
       ∙ ap (λ b. turned (provided b (Take (at.at_chain x operator.OrElse a m))) n.t vs) o)
 
-  pub and_pair : (t : Token) (us vs : Tokens) → Is symbol.And t → opens x Decisions ≡ true → after symbol.Then us ≡ Some vs → opens x ShortCircuit ≡ true → Chains x operator.AndThen (t ∷ us) vs
+  and_pair : (t : Token) (us vs : Tokens) → Is symbol.And t → opens x Decisions ≡ true → after symbol.Then us ≡ Some vs → opens x ShortCircuit ≡ true → Chains x operator.AndThen (t ∷ us) vs
   and_pair t us vs i o h s =
       let n = after_some symbol.Then us vs h in
       record {
@@ -119,7 +123,7 @@ module _ (x : Extent) where
         shorter = omega (arith, ap length n.here);
       }
 
-  pub or_pair : (t : Token) (us vs : Tokens) → Is symbol.Or t → opens x Decisions ≡ true → after symbol.Else us ≡ Some vs → opens x ShortCircuit ≡ true → Chains x operator.OrElse (t ∷ us) vs
+  or_pair : (t : Token) (us vs : Tokens) → Is symbol.Or t → opens x Decisions ≡ true → after symbol.Else us ≡ Some vs → opens x ShortCircuit ≡ true → Chains x operator.OrElse (t ∷ us) vs
   or_pair t us vs i o h s =
       let n = after_some symbol.Else us vs h in
       record {
@@ -127,5 +131,84 @@ module _ (x : Extent) where
             ∙ (ap (λ b. turned (provided b (Take (on_token Refuse (read.or_turn x (read.expr x m) (suc m) a)))) t us) o ∙ or_pair_at m a us vs n s);
         shorter = omega (arith, ap length n.here);
       }
+
+  xor_alone : (t : Token) (us : Tokens) → Is symbol.Xor t → opens x Decisions ≡ true → Chains x operator.Xor (t ∷ us) us
+  xor_alone t us i o = record {
+    by = λ a m. on_symbol (Leave a) (read.logical_turn x (read.expr x m) (suc m) a) symbol.Xor t us i
+        ∙ ap (λ b. turned (provided b (Take (at.at_chain x operator.Xor a m))) t us) o;
+    shorter = omega arith;
+  }
+
+  -- `and then` and `or else` whose part of the grammar is closed
+  and_pair_closed : (t : Token) (us vs : Tokens) → Is symbol.And t → opens x Decisions ≡ true → after symbol.Then us ≡ Some vs → opens x ShortCircuit ≡ false → (a : Expr) (m : ℕ) → at.at_logical_rest x a m (t ∷ us) ≡ Stuck us
+  and_pair_closed t us vs i o h s a m =
+      let n = after_some symbol.Then us vs h in
+      let turn = read.and_turn x (read.expr x m) (suc m) a in
+      on_symbol (Leave a) (read.logical_turn x (read.expr x m) (suc m) a) symbol.And t us i
+      ∙ (ap (λ b. turned (provided b (Take (on_token Refuse turn))) t us) o
+      ∙ rw n.here (on_symbol Refuse turn symbol.Then n.t vs n.is ∙ ap (λ b. turned (provided b (Take (at.at_chain x operator.AndThen a m))) n.t vs) s))
+
+  or_pair_closed : (t : Token) (us vs : Tokens) → Is symbol.Or t → opens x Decisions ≡ true → after symbol.Else us ≡ Some vs → opens x ShortCircuit ≡ false → (a : Expr) (m : ℕ) → at.at_logical_rest x a m (t ∷ us) ≡ Stuck us
+  or_pair_closed t us vs i o h s a m =
+      let n = after_some symbol.Else us vs h in
+      let turn = read.or_turn x (read.expr x m) (suc m) a in
+      on_symbol (Leave a) (read.logical_turn x (read.expr x m) (suc m) a) symbol.Or t us i
+      ∙ (ap (λ b. turned (provided b (Take (on_token Refuse turn))) t us) o
+      ∙ rw n.here (on_symbol Refuse turn symbol.Else n.t vs n.is ∙ ap (λ b. turned (provided b (Take (at.at_chain x operator.OrElse a m))) n.t vs) s))
+
+  -- what the operator that begins with a symbol says of the reading there
+  pub joins_nothing : (t : Token) (us : Tokens) → joining (symbol_of t.lexeme) us ≡ None → (a : Expr) (m : ℕ) → at.at_logical_rest x a m (t ∷ us) ≡ Got a (t ∷ us)
+  joins_nothing t us h a m = ap (λ z. turned z t us) (leaves (symbol_of t.lexeme) h)
+    where
+      leaves : (s : Symbol) → joining s us ≡ None → read.logical_turn x (read.expr x m) (suc m) a s t ≡ Leave a
+      leaves symbol.And e = cc
+      leaves symbol.Or e = cc
+      leaves symbol.Xor e = cc
+      leaves _ e = refl
+
+  pub joins_closed : (t : Token) (us : Tokens) (p : LogicalOperator × Tokens) → joining (symbol_of t.lexeme) us ≡ Some p → opens x Decisions ≡ false → (a : Expr) (m : ℕ) → at.at_logical_rest x a m (t ∷ us) ≡ Stuck (t ∷ us)
+  joins_closed t us p h o a m = ap (λ z. turned z t us) (refuses (symbol_of t.lexeme) h)
+    where
+      refuses : (s : Symbol) → joining s us ≡ Some p → read.logical_turn x (read.expr x m) (suc m) a s t ≡ Refuse
+      refuses symbol.And e = ap (λ b. provided b (Take (on_token Refuse (read.and_turn x (read.expr x m) (suc m) a)))) o
+      refuses symbol.Or e = ap (λ b. provided b (Take (on_token Refuse (read.or_turn x (read.expr x m) (suc m) a)))) o
+      refuses symbol.Xor e = ap (λ b. provided b (Take (at.at_chain x operator.Xor a m))) o
+      refuses _ e = cc
+
+  -- a claim about each operator and the tokens behind it
+  module _ (t : Token) (us : Tokens) (P : LogicalOperator × Tokens → Type 0) (and_one : Is symbol.And t → after symbol.Then us ≡ None → P (operator.And, us)) (and_two : (vs : Tokens) → Is symbol.And t → after symbol.Then us ≡ Some vs → P (operator.AndThen, vs)) (or_one : Is symbol.Or t → after symbol.Else us ≡ None → P (operator.Or, us)) (or_two : (vs : Tokens) → Is symbol.Or t → after symbol.Else us ≡ Some vs → P (operator.OrElse, vs)) (xor : Is symbol.Xor t → P (operator.Xor, us)) where
+    some_same : (p q : LogicalOperator × Tokens) → Some p ≡ Some q → p ≡ q
+    some_same p q e = cc
+
+    by_and : Is symbol.And t → (o : Option Tokens) → after symbol.Then us ≡ o → P (paired operator.AndThen operator.And us o)
+    by_and i None h = and_one i h
+    by_and i (Some vs) h = and_two vs i h
+
+    by_or : Is symbol.Or t → (o : Option Tokens) → after symbol.Else us ≡ o → P (paired operator.OrElse operator.Or us o)
+    by_or i None h = or_one i h
+    by_or i (Some vs) h = or_two vs i h
+
+    each_at : (p : LogicalOperator × Tokens) (s : Symbol) → symbol_of t.lexeme ≡ s → joining s us ≡ Some p → P p
+    each_at p symbol.And i e = subst P (some_same (paired operator.AndThen operator.And us (after symbol.Then us)) p e) (by_and i (after symbol.Then us) refl)
+    each_at p symbol.Or i e = subst P (some_same (paired operator.OrElse operator.Or us (after symbol.Else us)) p e) (by_or i (after symbol.Else us) refl)
+    each_at p symbol.Xor i e = subst P (some_same (operator.Xor, us) p e) (xor i)
+    each_at p _ i e = cc
+
+    each_operator : (p : LogicalOperator × Tokens) → joining (symbol_of t.lexeme) us ≡ Some p → P p
+    each_operator p e = each_at p (symbol_of t.lexeme) refl e
+
+  pub joins : (t : Token) (us : Tokens) (p : LogicalOperator × Tokens) → joining (symbol_of t.lexeme) us ≡ Some p → opens x Decisions ≡ true → opens x (extent_of p.0) ≡ true → Chains x p.0 (t ∷ us) p.1
+  joins t us p h o e = each_operator t us (λ z. opens x (extent_of z.0) ≡ true → Chains x z.0 (t ∷ us) z.1)
+      (λ i n s. and_alone t us i o n) (λ vs i n s. and_pair t us vs i o n s) (λ i n s. or_alone t us i o n) (λ vs i n s. or_pair t us vs i o n s) (λ i s. xor_alone t us i o) p h e
+
+  pub joins_closed_pair : (t : Token) (us : Tokens) (p : LogicalOperator × Tokens) → joining (symbol_of t.lexeme) us ≡ Some p → opens x Decisions ≡ true → opens x (extent_of p.0) ≡ false → (a : Expr) (m : ℕ) → at.at_logical_rest x a m (t ∷ us) ≡ Stuck us
+  joins_closed_pair t us p h o e = each_operator t us (λ z. opens x (extent_of z.0) ≡ false → (a : Expr) (m : ℕ) → at.at_logical_rest x a m (t ∷ us) ≡ Stuck us)
+      (λ i n s. absurd (false≢true (sym s ∙ o))) (λ vs i n s. and_pair_closed t us vs i o n s) (λ i n s. absurd (false≢true (sym s ∙ o))) (λ vs i n s. or_pair_closed t us vs i o n s)
+      (λ i s. absurd (false≢true (sym s ∙ o))) p h e
+
+-- a look for the operator of a chain that meets a closed part of the grammar
+pub chain_closed : (x needed : Extent) (ts us : Tokens) (f : Fault) → IsOpen x needed us (failed f) → (opens x needed ≡ false → (a : Expr) (m : ℕ) → at.at_logical_rest x a m ts ≡ Stuck us) → FindsChain x ts (failed f)
+chain_closed x needed ts us (Syntax rest) p h = λ a m. h p.0 a m ∙ ap Stuck (sym p.1)
+chain_closed x needed ts us Memory p h = tt
 
 pub ruleset joints = (joint_alone, joint_pair, half_joint)

@@ -7,3 +7,4 @@ pub mod ExpressionReading
 pub mod Shows
 pub mod Depth
 pub mod Operators
+pub mod Building

@@ -4,10 +4,13 @@ use Rattle.std.specs.Borrow.{Bor}
 use Rattle.ada_lexer.specs.declared.token.Token.{Token}
 use Rattle.ada_syntax.specs.Tree.{Expr}
 use Rattle.ada_syntax.specs.declared.expr.LogicalOperator.{LogicalOperator}
+use Rattle.ada_syntax.specs.declared.expr.LogicalOperator.TheVariants as operator
 use Rattle.expression_parser.specs.declared.fault.Fault.{Fault}
 use Rattle.expression_parser.specs.declared.fault.Fault.TheVariants.{Syntax, Memory}
 use Rattle.expression_parser.specs.declared.symbol.Symbol.{Symbol}
+use Rattle.expression_parser.specs.declared.symbol.Symbol.TheVariants as symbol
 use Rattle.expression_parser.specs.declared.extent.Extent.{Extent}
+use Rattle.expression_parser.specs.declared.extent.Extent.TheVariants.{Decisions, ShortCircuit}
 use Rattle.expression_parser.specs.Extents.{opens}
 use Rattle.expression_parser.specs.Symbols.{symbol_of, first_word}
 use Rattle.expression_parser.specs.Reading.{Tokens, Reader, Got, Stuck}
@@ -63,6 +66,28 @@ FindsJoint x op ts (Ok None) = after (first_word op) ts ≡ None
 FindsJoint x op ts (Ok (Some rest)) = Joint x op ts rest.now
 FindsJoint x op ts (Err (Syntax rest)) = HalfJoint x op ts rest.now
 FindsJoint x op ts (Err Memory) = ⊤
+
+-- the operator that joins relations and begins with this symbol, before these tokens, and what stands behind its words
+abbrev pub paired : (pair : LogicalOperator) → (alone : LogicalOperator) → Tokens → Option Tokens → LogicalOperator × Tokens
+paired pair alone us None = (alone, us)
+paired pair alone us (Some vs) = (pair, vs)
+
+abbrev pub joining : Symbol → Tokens → Option (LogicalOperator × Tokens)
+joining symbol.And us = Some (paired operator.AndThen operator.And us (after symbol.Then us))
+joining symbol.Or us = Some (paired operator.OrElse operator.Or us (after symbol.Else us))
+joining symbol.Xor us = Some (operator.Xor, us)
+joining _ us = None
+
+abbrev pub behind_operator : LogicalOperator × Bor Tokens → LogicalOperator × Tokens
+behind_operator p = (p.0, p.1.now)
+
+-- the extent that it comes with
+abbrev pub extent_of : LogicalOperator → Extent
+extent_of operator.And = Decisions
+extent_of operator.Or = Decisions
+extent_of operator.Xor = Decisions
+extent_of operator.AndThen = ShortCircuit
+extent_of operator.OrElse = ShortCircuit
 
 -- what follows a first relation is a chain with this operator
 pub record Chains (x : Extent) (op : LogicalOperator) (ts rest : Tokens) : Type 0 where

@@ -1,14 +1,17 @@
 //! Expressions (Ada RM 2012, 4.4).
 
-ghost use Rattle.std.specs.Prelude.{◌≡◌, ◌<◌, length, IfOk};
-ghost use Rattle.expression_parser.specs.Shows.{Shows, Reads};
+ghost use Rattle.std.specs.Prelude.{◌≡◌, ◌<◌, ◌≤◌, length, IfOk};
+ghost use Rattle.ada_syntax.specs.Tree.{Expr as Expression};
+ghost use Rattle.expression_parser.specs.Building.{operated, chained};
+ghost use Rattle.expression_parser.specs.Shows.{Shows, ShowsAs, Reads, More};
 ghost use Rattle.expression_parser.specs.Symbols.{value_of};
 ghost use Rattle.expression_parser.specs.Depth as at;
 
+use crate::building::{chain, named, parenthesized, product, relation, sum, unary};
 use crate::extent::Extent;
 use crate::fault::{Fault, Parsed};
 use crate::operators::sign_in;
-use crate::parser::{Parser, word};
+use crate::parser::Parser;
 use crate::symbol::{Symbol, symbol_in};
 use ada_lexer::{Lexeme, Token};
 use ada_syntax::{Expr, LogicalOperator, Operand, UnaryOperator};
@@ -38,15 +41,11 @@ impl Parser {
             Symbol::Numeral => Ok((Expr::numeral(token.pos, value_in(token.lexeme)), rest)),
             Symbol::Identifier => {
                 self.needs(Extent::Objects, tokens)?;
-                let (name, rest) = self.name(tokens)?;
-                Ok((Expr::named(token.pos, name), rest))
+                named(token.pos, self.name(tokens))
             }
             Symbol::LeftParenthesis => {
                 self.needs(Extent::Objects, tokens)?;
-                let (inner, rest) = self.expr(rest)?;
-                let rest = word(Symbol::RightParenthesis, rest)?;
-                let expr = Expr::parenthesized(self.alloc, token.pos, inner)?;
-                Ok((expr, rest))
+                parenthesized(self.alloc, token.pos, self.expr(rest))
             }
             _ => Err(Fault::Syntax(tokens)),
         }
@@ -65,15 +64,13 @@ impl Parser {
         match symbol_in(token.lexeme) {
             Symbol::Abs => {
                 self.needs(Extent::Objects, tokens)?;
-                let (operand, rest) = self.primary(rest)?;
-                let expr = Expr::unary(self.alloc, token.pos, UnaryOperator::Abs, operand)?;
-                Ok((expr, rest))
+                let operand = self.primary(rest);
+                unary(self.alloc, token.pos, UnaryOperator::Abs, operand)
             }
             Symbol::Not => {
                 self.needs(Extent::Decisions, tokens)?;
-                let (operand, rest) = self.primary(rest)?;
-                let expr = Expr::unary(self.alloc, token.pos, UnaryOperator::Not, operand)?;
-                Ok((expr, rest))
+                let operand = self.primary(rest);
+                unary(self.alloc, token.pos, UnaryOperator::Not, operand)
             }
             _ => self.primary(tokens),
         }
@@ -86,15 +83,25 @@ impl Parser {
         ensures reads { Shows (Reads (at.at_term self.extent) tokens.now) result }
         ensures shorter { IfOk result (λ x. length x.1.now < length tokens.now) }
     {
-        let (first, mut rest) = self.factor(tokens)?;
+        let (first, rest) = self.factor(tokens)?;
+        product(self.alloc, first, self.factors(rest))
+    }
+
+    /// `{(* | / | MOD | REM) factor}`, behind a first factor
+    #[cycle(expression)]
+    #[tactic(auto, using(crate::proofs::ExpressionCode::term_rules))]
+    fn factors<'a>(self, tokens: &'a [Token]) -> Parsed<'a, Vec<Operand>>
+        ensures reads { (first : Expression) → ShowsAs (operated first) (More (at.product_turns self.extent) tokens.now first) result }
+        ensures shorter { IfOk result (λ x. length x.1.now ≤ length tokens.now) }
+    {
         let mut others = Vec::new(self.alloc);
+        let mut rest = tokens;
         while let Some((operator, after)) = self.multiplying(rest)? {
             let (operand, next) = self.factor(after)?;
             others.push(Operand { operator, operand })?;
             rest = next;
         }
-        let expr = Expr::product(self.alloc, first, others)?;
-        Ok((expr, rest))
+        Ok((others, rest))
     }
 
     /// `[+ | -] term`
@@ -111,9 +118,7 @@ impl Parser {
             return self.term(tokens);
         };
         self.needs(Extent::Objects, tokens)?;
-        let (term, rest) = self.term(rest)?;
-        let expr = Expr::unary(self.alloc, token.pos, operator, term)?;
-        Ok((expr, rest))
+        unary(self.alloc, token.pos, operator, self.term(rest))
     }
 
     /// `[+ | -] term {(+ | -) term}`, as it stands in ranges and choices too
@@ -123,15 +128,25 @@ impl Parser {
         ensures reads { Shows (Reads (at.at_simple self.extent) tokens.now) result }
         ensures shorter { IfOk result (λ x. length x.1.now < length tokens.now) }
     {
-        let (first, mut rest) = self.signed(tokens)?;
+        let (first, rest) = self.signed(tokens)?;
+        sum(self.alloc, first, self.terms(rest))
+    }
+
+    /// `{(+ | -) term}`, behind a first term
+    #[cycle(expression)]
+    #[tactic(auto, using(crate::proofs::ExpressionCode::simple_rules))]
+    fn terms<'a>(self, tokens: &'a [Token]) -> Parsed<'a, Vec<Operand>>
+        ensures reads { (first : Expression) → ShowsAs (operated first) (More (at.sum_turns self.extent) tokens.now first) result }
+        ensures shorter { IfOk result (λ x. length x.1.now ≤ length tokens.now) }
+    {
         let mut others = Vec::new(self.alloc);
+        let mut rest = tokens;
         while let Some((operator, after)) = self.adding(rest)? {
             let (operand, next) = self.term(after)?;
             others.push(Operand { operator, operand })?;
             rest = next;
         }
-        let expr = Expr::sum(self.alloc, first, others)?;
-        Ok((expr, rest))
+        Ok((others, rest))
     }
 
     /// `simple [(= | /= | < | <= | > | >=) simple]`
@@ -145,22 +160,15 @@ impl Parser {
         let Some((operator, after)) = self.relational(rest)? else {
             return Ok((left, rest));
         };
-        let (right, rest) = self.simple(after)?;
-        let expr = Expr::relation(self.alloc, left, operator, right)?;
-        Ok((expr, rest))
+        relation(self.alloc, left, operator, self.simple(after))
     }
 
     /// The relations that an operator joins to a first one: one of them, and more behind the same
     /// operator.
     #[cycle(expression)]
     #[tactic(auto, using(crate::proofs::ExpressionCode::chain_rules))]
-    fn chain<'a>(
-        self,
-        operator: LogicalOperator,
-        first: Expr,
-        tokens: &'a [Token],
-    ) -> Parsed<'a, Expr>
-        ensures reads { Shows (Reads (at.at_chain self.extent operator first) tokens.now) result }
+    fn relations<'a>(self, operator: LogicalOperator, tokens: &'a [Token]) -> Parsed<'a, Vec<Expr>>
+        ensures reads { (first : Expression) → ShowsAs (chained operator first) (Reads (at.at_chain self.extent operator first) tokens.now) result }
         ensures shorter { IfOk result (λ x. length x.1.now < length tokens.now) }
     {
         let (second, mut rest) = self.relation(tokens)?;
@@ -171,8 +179,7 @@ impl Parser {
             others.push(relation)?;
             rest = next;
         }
-        let expr = Expr::logical(self.alloc, operator, first, others)?;
-        Ok((expr, rest))
+        Ok((others, rest))
     }
 
     /// Relations with one and the same operator between them: `and`, `and then`, `or`, `or else` or
@@ -186,7 +193,10 @@ impl Parser {
         let (first, rest) = self.relation(tokens)?;
         match self.logical(rest)? {
             None => Ok((first, rest)),
-            Some((operator, after)) => self.chain(operator, first, after),
+            Some((operator, after)) => {
+                let others = self.relations(operator, after);
+                chain(self.alloc, operator, first, others)
+            }
         }
     }
 }

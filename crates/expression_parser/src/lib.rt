@@ -7,6 +7,7 @@
 //! The contract that the layers above use: [`Parser::name`] and [`Parser::expr`] answer what is read.
 #![tactic(auto)]
 
+mod building;
 mod expressions;
 mod extent;
 mod fault;

@@ -1,12 +1,16 @@
 //! Names and actuals (Ada RM 2012, 4.1, 6.4).
 
-ghost use Rattle.std.specs.Prelude.{◌<◌, length, IfOk};
+ghost use Rattle.std.specs.Prelude.{◌≡◌, ◌<◌, ◌∷◌, length, IfOk};
+ghost use Rattle.ada_lexer.specs.declared.token.Token.{Token as Read};
+ghost use Rattle.expression_parser.specs.declared.symbol.Symbol.TheVariants as symbol;
+ghost use Rattle.expression_parser.specs.Symbols.{Is};
 ghost use Rattle.expression_parser.specs.Shows.{Shows, ShowsAs, Reads, NextSuffix};
 ghost use Rattle.expression_parser.specs.Depth as at;
 
+use crate::building::applied;
 use crate::extent::Extent;
 use crate::fault::{Fault, Parsed};
-use crate::parser::{Parser, behind, word};
+use crate::parser::{Parser, behind};
 use crate::symbol::{Symbol, symbol_in};
 use ada_lexer::Token;
 use ada_syntax::{Expr, Name, Suffix};
@@ -28,6 +32,29 @@ impl Parser {
         Ok((Name::new(prefix, suffixes), rest))
     }
 
+    /// The identifier behind a dot.
+    #[tactic(auto, using(crate::proofs::NameCode::suffix_rules))]
+    fn selected<'a>(self, rest: &'a [Token]) -> Result<Option<(Suffix, &'a [Token])>, Fault<'a>>
+        ensures { (t : Read) → Is symbol.Dot t → NextSuffix self.extent (t ∷ rest.now) result }
+    {
+        let (selector, rest) = self.identifier(rest)?;
+        Ok(Some((Suffix::Selected(selector), rest)))
+    }
+
+    /// The identifier behind a tick, which is the first of these tokens.
+    #[tactic(auto, using(crate::proofs::NameCode::suffix_rules))]
+    fn attribute<'a>(
+        self,
+        tokens: &'a [Token],
+        rest: &'a [Token],
+    ) -> Result<Option<(Suffix, &'a [Token])>, Fault<'a>>
+        ensures { (t : Read) → Is symbol.Tick t → tokens.now ≡ t ∷ rest.now → NextSuffix self.extent tokens.now result }
+    {
+        self.needs(Extent::Objects, tokens)?;
+        let (attribute, rest) = self.identifier(rest)?;
+        Ok(Some((Suffix::Attribute(attribute), rest)))
+    }
+
     /// The next part of a name, where there is one.
     #[cycle(expression)]
     #[tactic(auto, using(crate::proofs::NameCode::suffix_rules))]
@@ -38,20 +65,9 @@ impl Parser {
             return Ok(None);
         };
         match symbol_in(token.lexeme) {
-            Symbol::Dot => {
-                let (selector, rest) = self.identifier(rest)?;
-                Ok(Some((Suffix::Selected(selector), rest)))
-            }
-            Symbol::Tick => {
-                self.needs(Extent::Objects, tokens)?;
-                let (attribute, rest) = self.identifier(rest)?;
-                Ok(Some((Suffix::Attribute(attribute), rest)))
-            }
-            Symbol::LeftParenthesis => {
-                let (exprs, rest) = self.exprs(rest)?;
-                let rest = word(Symbol::RightParenthesis, rest)?;
-                Ok(Some((Suffix::Applied(exprs), rest)))
-            }
+            Symbol::Dot => self.selected(rest),
+            Symbol::Tick => self.attribute(tokens, rest),
+            Symbol::LeftParenthesis => applied(self.exprs(rest)),
             _ => Ok(None),
         }
     }

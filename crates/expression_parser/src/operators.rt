@@ -1,6 +1,6 @@
 //! Operators (Ada RM 2012, 4.5).
 
-ghost use Rattle.std.specs.Prelude.{◌≡◌};
+ghost use Rattle.std.specs.Prelude.{◌≡◌, option_map};
 ghost use Rattle.expression_parser.specs.declared.extent.Extent.TheVariants.{Objects, Decisions};
 ghost use Rattle.expression_parser.specs.Symbols.{
   sign_of,
@@ -10,7 +10,8 @@ ghost use Rattle.expression_parser.specs.Symbols.{
   first_word,
   second_word_of,
 };
-ghost use Rattle.expression_parser.specs.Operators.{FindsOperator, FindsJoint, FindsChain};
+ghost use Rattle.expression_parser.specs.Shows.{after};
+ghost use Rattle.expression_parser.specs.Operators.{FindsOperator, FindsJoint, FindsChain, behind_operator, extent_of, joining, paired};
 
 use crate::extent::Extent;
 use crate::fault::Fault;
@@ -91,6 +92,54 @@ fn second_word_in(operator: LogicalOperator) -> Option<Symbol>
     }
 }
 
+/// The operator of one word, or of two where the second one stands next, and the tokens behind it.
+fn paired<'a>(
+    second: Symbol,
+    pair: LogicalOperator,
+    alone: LogicalOperator,
+    tokens: &'a [Token],
+) -> (LogicalOperator, &'a [Token])
+    ensures { behind_operator result ≡ paired pair alone tokens.now (after second tokens.now) }
+{
+    match behind(second, tokens) {
+        Some(rest) => (pair, rest),
+        None => (alone, tokens),
+    }
+}
+
+/// The operator that joins relations and begins with this symbol, if one does, and the tokens behind
+/// it. These tokens stand behind the symbol.
+fn joining<'a>(symbol: Symbol, tokens: &'a [Token]) -> Option<(LogicalOperator, &'a [Token])>
+    ensures { option_map behind_operator result ≡ joining symbol tokens.now }
+{
+    match symbol {
+        Symbol::And => Some(paired(
+            Symbol::Then,
+            LogicalOperator::AndThen,
+            LogicalOperator::And,
+            tokens,
+        )),
+        Symbol::Or => Some(paired(
+            Symbol::Else,
+            LogicalOperator::OrElse,
+            LogicalOperator::Or,
+            tokens,
+        )),
+        Symbol::Xor => Some((LogicalOperator::Xor, tokens)),
+        _ => None,
+    }
+}
+
+/// The extent that an operator which joins relations comes with.
+fn extent_of(operator: LogicalOperator) -> Extent
+    ensures { result ≡ extent_of operator }
+{
+    match operator {
+        LogicalOperator::And | LogicalOperator::Or | LogicalOperator::Xor => Extent::Decisions,
+        LogicalOperator::AndThen | LogicalOperator::OrElse => Extent::ShortCircuit,
+    }
+}
+
 impl Parser {
     /// The multiplying operator that stands next, and the tokens behind it.
     pub fn multiplying<'a>(
@@ -153,29 +202,12 @@ impl Parser {
         let Some((token, rest)) = tokens.split_first() else {
             return Ok(None);
         };
-        match symbol_in(token.lexeme) {
-            Symbol::And => {
-                self.needs(Extent::Decisions, tokens)?;
-                let Some(behind_then) = behind(Symbol::Then, rest) else {
-                    return Ok(Some((LogicalOperator::And, rest)));
-                };
-                self.needs(Extent::ShortCircuit, rest)?;
-                Ok(Some((LogicalOperator::AndThen, behind_then)))
-            }
-            Symbol::Or => {
-                self.needs(Extent::Decisions, tokens)?;
-                let Some(behind_else) = behind(Symbol::Else, rest) else {
-                    return Ok(Some((LogicalOperator::Or, rest)));
-                };
-                self.needs(Extent::ShortCircuit, rest)?;
-                Ok(Some((LogicalOperator::OrElse, behind_else)))
-            }
-            Symbol::Xor => {
-                self.needs(Extent::Decisions, tokens)?;
-                Ok(Some((LogicalOperator::Xor, rest)))
-            }
-            _ => Ok(None),
-        }
+        let Some((operator, after)) = joining(symbol_in(token.lexeme), rest) else {
+            return Ok(None);
+        };
+        self.needs(Extent::Decisions, tokens)?;
+        self.needs(extent_of(operator), rest)?;
+        Ok(Some((operator, after)))
     }
 
     /// The tokens behind an operator that joins a further relation to those it has joined so far,

@@ -5,7 +5,7 @@ use Rattle.ada_names.specs.Library.{item_name, with_units}
 use Rattle.ada_names.specs.Naming.{units_new}
 use Rattle.ada_names.specs.Rules.{library_names}
 use Rattle.ada_names.specs.NameCode.{SomeRefused}
-use Rattle.ada_names.proofs.Blame.{drop_item, blames}
+use Rattle.ada_names.proofs.Blame.{drop_item}
 use Rattle.ada_names.proofs.UnitLaws.{named_first, named_later, named_more}
 use Rattle.ada_names.proofs.library.declare_units.Goals as goal
 
@@ -23,8 +23,7 @@ loop-index-preserved c =
     let u = c.index-units-index.result in
     let region = c.loop-index.region in
     let name = key (item_name u.item) in
-    let declared : c.declare_unit.new.region ≡ declare name (entity.Procedure i) region = c.in_ok-declare_unit.ensures.declared ∙ ap
-    (λ n. declare name (entity.Procedure n) region) c.in_ok-numbered.ensures in
+    let declared : c.declare_unit.new.region ≡ declare name (entity.Procedure i) region = c.in_ok-declare_unit.ensures.declared in
     record {
       library = ap (λ q. with_units (i + 1) (drop (i + 1) us) q) declared ∙ (sym
           (ap (λ y. with_units i y region) (drop_item us i u (omega arith) c.index-units-index.is)) ∙ c.loop-index.invariant.library);
@@ -33,12 +32,3 @@ loop-index-preserved c =
       refused = λ f r. c.loop-index.invariant.refused f (named_later us i u (omega arith) c.index-units-index.is region
           (subst (λ q. SomeRefused (library_names (i + 1) (drop (i + 1) us) q) f) declared r));
     }
-
-pub returns-in_err-declare-clause-refused : goal.returns-in_err-declare-clause-refused
-returns-in_err-declare-clause-refused c = grind (arith, blames)
-
-pub returns-in_err-from_slice-clause-refused : goal.returns-in_err-from_slice-clause-refused
-returns-in_err-from_slice-clause-refused c = grind (arith, blames)
-
-pub returns-in_err-numbered-clause-refused : goal.returns-in_err-numbered-clause-refused
-returns-in_err-numbered-clause-refused c = grind (arith, blames)

@@ -1,41 +1,8 @@
-use Rattle.std.proofs.Common.{◌≡◌, rules, sym, ◌∙◌, subst, true, arith}
-use Rattle.ada_names.proofs.Blame.{blames}
-use Rattle.ada_names.specs.declared.library.Library.{Library}
-use Rattle.ada_names.specs.Naming.{library_of, units_named}
-use Rattle.ada_names.specs.Rules.{program, units_from}
-use Rattle.ada_names.specs.NameCode.{SomeRefused}
-use Rattle.ada_names.specs.Answer.{Refused}
-use Rattle.ada_names.proofs.UnitLaws.{units_known, named_holds, no_main, by_name, by_unit}
+use Rattle.std.proofs.Common.{rules}
+use Rattle.ada_names.proofs.UnitLaws.{by_name}
 use Rattle.ada_names.proofs.naming.check_names.Goals as goal
 
 pub returns-in_err-library-clause-refused : goal.returns-in_err-library-clause-refused
 returns-in_err-library-clause-refused c =
     let r = by_name c.args.units.now c.args.main.now c.in_err-library.ensures.refused in
     search (rules, r)
-
-pub returns-in_err-check_units-clause-refused : goal.returns-in_err-check_units-clause-refused
-returns-in_err-check_units-clause-refused c =
-    let us = c.args.units.now in
-    let f = c.in_err-check_units.field-0.0 in
-    let one : SomeRefused (units_from (library_of us) 0 us) f = subst (λ (l : Library). SomeRefused (units_from l 0 us) f) c.in_ok-library.ensures.library
-    c.in_err-check_units.ensures in
-    let r = by_unit us c.args.main.now one in
-    search (rules, r)
-
-pub returns-in-Some-clause-named : goal.returns-in-Some-clause-named
-returns-in-Some-clause-named c =
-    let us = c.args.units.now in
-    let known : units_named (library_of us) 0 us ≡ true = subst (λ (l : Library). units_named l 0 us ≡ true) c.in_ok-library.ensures.library
-    (sym (units_known c.in_ok-library.library 0 us) ∙ c.in_ok-check_units.ensures) in
-    named_holds us c.args.main.now c.in_ok-library.ensures.fresh known c.in-Some.main (sym c.in_ok-number.ensures ∙ c.in-Some.is)
-
-pub returns-in-None-clause-refused : goal.returns-in-None-clause-refused
-returns-in-None-clause-refused c =
-    let us = c.args.units.now in
-    let known : units_named (library_of us) 0 us ≡ true = subst (λ (l : Library). units_named l 0 us ≡ true) c.in_ok-library.ensures.library
-    (sym (units_known c.in_ok-library.library 0 us) ∙ c.in_ok-check_units.ensures) in
-    subst (λ f. Refused (program us c.args.main.now) f) (sym c.unnamed.ensures)
-    (no_main us c.args.main.now c.in_ok-library.ensures.fresh known (sym c.in_ok-number.ensures ∙ c.in-None.is))
-
-pub returns-in_err-number-clause-refused : goal.returns-in_err-number-clause-refused
-returns-in_err-number-clause-refused c = grind (arith, blames)

@@ -1,19 +1,345 @@
-use Rattle.std.proofs.Common.{List, length, ap, sym, subst, ◌∙◌, arith}
-use Rattle.ada_syntax.specs.Tree.{Expr, Name, simple, expr_pos}
-use Rattle.ada_syntax.specs.TreeView.{with_operands, with_suffixes, expr_of}
+use Rattle.std.proofs.Common.{List, [], ◌∷◌, ◌++◌, length, ap, sym, subst, ◌∙◌, arith}
+use Rattle.ada_syntax.specs.Tree.{Expr, Name, simple, named, parenthesized, unary, relation, expr_pos}
+use Rattle.ada_syntax.specs.TreeView.{with_operands, joined, with_suffixes}
 use Rattle.ada_syntax.specs.declared.expr.Operand.{Operand}
+use Rattle.ada_syntax.specs.declared.expr.UnaryOperator.TheVariants as unary_operator
 use Rattle.ada_syntax.proofs.Places.{with_suffixes-push}
 use Rattle.std.proofs.lemmas.Result.{err_from_is_err_and}
-use Rattle.expression_parser.specs.declared.extent.Extent.TheVariants.{Objects}
-use Rattle.expression_parser.specs.Symbols.{multiplying, adding}
+use Rattle.expression_parser.specs.declared.extent.Extent.TheVariants.{Objects, Decisions}
+use Rattle.expression_parser.specs.Building.{operated, chained}
+use Rattle.expression_parser.specs.Symbols.{sign_of, multiplying, adding}
 use Rattle.expression_parser.specs.Reading.{Stuck}
 use Rattle.expression_parser.specs.Shows.{More, Reads}
 use Rattle.expression_parser.specs.Depth as at
 use Rattle.expression_parser.specs.declared.symbol.Symbol.TheVariants as symbol
-use Rattle.expression_parser.proofs.NameCode.{after_some, exprs_step, select_fail, attribute_fail, closing_fail, exprs_rules, name_rules, suffix_rules}
-use Rattle.expression_parser.proofs.ExpressionCode.{product_push, sum_push, product_fail, sum_fail, product_closed, sum_closed, term_fail, factor_abs_fail, factor_not_fail, primary_inner_fail, primary_open, primary_name_fail, chain_rules, expr_rules, factor_rules, primary_rules, signed_rules, simple_rules, term_rules, relation_rules}
-use Rattle.expression_parser.proofs.Faults.{handed_on, word_handed_on, operator_handed_on, suffix_word_fault, suffix_identifier_fault}
+use Rattle.expression_parser.proofs.Wholes.{built, made, enclosed, built_below, made_below, enclosed_below, applied_next}
+use Rattle.expression_parser.proofs.NameCode.{after_some, exprs_step, exprs_rules, name_rules, suffix_rules}
+use Rattle.expression_parser.proofs.ExpressionCode.{primary_name_closed, primary_inner_closed, factor_abs_closed, factor_not_closed, signed_closed, primary_name, primary_name_fail, primary_inner, primary_open, primary_inner_fail, factor_abs, factor_abs_fail, factor_not, factor_not_fail, signed_sign, signed_fail, term_begin, term_fail, product_push, product_end, product_fail, product_closed, simple_begin, simple_fail, sum_push, sum_end, sum_fail, sum_closed, relation_two, relation_second_fail, chain_begin, chain_fail, chain_push, chain_step_fail, chain_half, chain_end, expr_chain, expr_rules, factor_rules, primary_rules, signed_rules, relation_rules}
+use Rattle.expression_parser.proofs.Faults.{handed_on, closed_handed_on, shown_as, operator_shown_as, joint_shown_as}
 use Rattle.expression_parser.proofs.parser.Parser.+expression.Goals as goal
+
+-- names, parentheses and operators before an operand
+pub primary-returns-in_ok-needs-in-Identifier-clause-reads : goal.primary-returns-in_ok-needs-in-Identifier-clause-reads
+primary-returns-in_ok-needs-in-Identifier-clause-reads t c =
+    let x = c.args.self.extent in
+    let ts = c.args.tokens.now in
+    let u = c.in-Some.token.now in
+    let us = c.in-Some.rest.now in
+    let is = sym c.symbol_in.ensures ∙ c.in-Identifier.is in
+    made (λ n. named u.pos n) (Reads (at.at_name x) ts) (Reads (at.at_primary x) ts) c.name.result c.named.result c.name.ensures.reads c.named.ensures
+    (λ n rest r. rw c.in-Some.ensures.cases.0 (primary_name x u us rest n is c.in_ok-needs-in-Identifier.ensures (rw c.in-Some.ensures.cases.0 at r)))
+    (λ rest r. rw c.in-Some.ensures.cases.0 (primary_name_fail x u us rest is c.in_ok-needs-in-Identifier.ensures (rw c.in-Some.ensures.cases.0 at r)))
+
+pub primary-returns-in_ok-needs-in-Identifier-clause-shorter : goal.primary-returns-in_ok-needs-in-Identifier-clause-shorter
+primary-returns-in_ok-needs-in-Identifier-clause-shorter t c =
+    let n = length c.args.tokens.now in
+    made_below (λ n. named c.in-Some.token.now.pos n) n n (omega arith) c.name.result c.named.result c.name.ensures.shorter c.named.ensures
+
+pub primary-returns-in_ok-needs-in-LeftParenthesis-clause-reads : goal.primary-returns-in_ok-needs-in-LeftParenthesis-clause-reads
+primary-returns-in_ok-needs-in-LeftParenthesis-clause-reads t c =
+    let x = c.args.self.extent in
+    let ts = c.args.tokens.now in
+    let u = c.in-Some.token.now in
+    let us = c.in-Some.rest.now in
+    let is = sym c.symbol_in.ensures ∙ c.in-LeftParenthesis.is in
+    enclosed (λ e. parenthesized u.pos e) (Reads (at.at_expr x) us) (Reads (at.at_primary x) ts) c.expr.result c.parenthesized.result c.expr.ensures.reads c.parenthesized.ensures
+    (λ e vs rest r k. rw c.in-Some.ensures.cases.0 (primary_inner x u us vs rest e is c.in_ok-needs-in-LeftParenthesis.ensures r k))
+    (λ e vs rest r k. rw c.in-Some.ensures.cases.0 (primary_open x u us vs rest e is c.in_ok-needs-in-LeftParenthesis.ensures r k))
+    (λ rest r. rw c.in-Some.ensures.cases.0 (primary_inner_fail x u us rest is c.in_ok-needs-in-LeftParenthesis.ensures r))
+
+pub primary-returns-in_ok-needs-in-LeftParenthesis-clause-shorter : goal.primary-returns-in_ok-needs-in-LeftParenthesis-clause-shorter
+primary-returns-in_ok-needs-in-LeftParenthesis-clause-shorter t c =
+    enclosed_below (λ e. parenthesized c.in-Some.token.now.pos e) (length c.in-Some.rest.now) (length c.args.tokens.now) (omega (arith, ap length c.in-Some.ensures.cases.0))
+    c.expr.result c.parenthesized.result c.expr.ensures.shorter c.parenthesized.ensures
+
+pub factor-returns-in_ok-needs-in-Abs-clause-reads : goal.factor-returns-in_ok-needs-in-Abs-clause-reads
+factor-returns-in_ok-needs-in-Abs-clause-reads t c =
+    let x = c.args.self.extent in
+    let ts = c.args.tokens.now in
+    let u = c.in-Some.token.now in
+    let us = c.in-Some.rest.now in
+    let is = sym c.symbol_in.ensures ∙ c.in-Abs.is in
+    made (λ e. unary u.pos unary_operator.Abs e) (Reads (at.at_primary x) us) (Reads (at.at_factor x) ts) c.primary-operand.result c.unary.result c.primary-operand.ensures.reads c.unary.ensures
+    (λ e rest r. rw c.in-Some.ensures.cases.0 (factor_abs x u us rest e is c.in_ok-needs-in-Abs.ensures r))
+    (λ rest r. rw c.in-Some.ensures.cases.0 (factor_abs_fail x u us rest is c.in_ok-needs-in-Abs.ensures r))
+
+pub factor-returns-in_ok-needs-in-Abs-clause-shorter : goal.factor-returns-in_ok-needs-in-Abs-clause-shorter
+factor-returns-in_ok-needs-in-Abs-clause-shorter t c =
+    made_below (λ e. unary c.in-Some.token.now.pos unary_operator.Abs e) (length c.in-Some.rest.now) (length c.args.tokens.now) (omega (arith, ap length c.in-Some.ensures.cases.0))
+    c.primary-operand.result c.unary.result c.primary-operand.ensures.shorter c.unary.ensures
+
+pub factor-returns-in_ok-needs-in-Not-clause-reads : goal.factor-returns-in_ok-needs-in-Not-clause-reads
+factor-returns-in_ok-needs-in-Not-clause-reads t c =
+    let x = c.args.self.extent in
+    let ts = c.args.tokens.now in
+    let u = c.in-Some.token.now in
+    let us = c.in-Some.rest.now in
+    let is = sym c.symbol_in.ensures ∙ c.in-Not.is in
+    made (λ e. unary u.pos unary_operator.Not e) (Reads (at.at_primary x) us) (Reads (at.at_factor x) ts) c.primary-operand-in-Not.result c.unary-in-Not.result c.primary-operand-in-Not.ensures.reads c.unary-in-Not.ensures
+    (λ e rest r. rw c.in-Some.ensures.cases.0 (factor_not x u us rest e is c.in_ok-needs-in-Not.ensures r))
+    (λ rest r. rw c.in-Some.ensures.cases.0 (factor_not_fail x u us rest is c.in_ok-needs-in-Not.ensures r))
+
+pub factor-returns-in_ok-needs-in-Not-clause-shorter : goal.factor-returns-in_ok-needs-in-Not-clause-shorter
+factor-returns-in_ok-needs-in-Not-clause-shorter t c =
+    made_below (λ e. unary c.in-Some.token.now.pos unary_operator.Not e) (length c.in-Some.rest.now) (length c.args.tokens.now) (omega (arith, ap length c.in-Some.ensures.cases.0))
+    c.primary-operand-in-Not.result c.unary-in-Not.result c.primary-operand-in-Not.ensures.shorter c.unary-in-Not.ensures
+
+pub signed-returns-clause-reads : goal.signed-returns-clause-reads
+signed-returns-clause-reads t c =
+    let x = c.args.self.extent in
+    let ts = c.args.tokens.now in
+    let u = c.in-Some.token.now in
+    let us = c.in-Some.rest.now in
+    let op = c.in-Some-sign_in.operator in
+    let is = ap (λ s. sign_of s) (sym c.symbol_in.ensures) ∙ sym c.in-Some-sign_in.ensures in
+    made (λ e. unary u.pos op e) (Reads (at.at_term x) us) (Reads (at.at_signed x) ts) c.term-2.result c.unary.result c.term-2.ensures.reads c.unary.ensures
+    (λ e rest r. rw c.in-Some.ensures.cases.0 (signed_sign x u us rest op e is c.in_ok-needs.ensures r))
+    (λ rest r. rw c.in-Some.ensures.cases.0 (signed_fail x u us rest op is c.in_ok-needs.ensures r))
+
+pub signed-returns-clause-shorter : goal.signed-returns-clause-shorter
+signed-returns-clause-shorter t c =
+    made_below (λ e. unary c.in-Some.token.now.pos c.in-Some-sign_in.operator e) (length c.in-Some.rest.now) (length c.args.tokens.now) (omega (arith, ap length c.in-Some.ensures.cases.0))
+    c.term-2.result c.unary.result c.term-2.ensures.shorter c.unary.ensures
+
+-- what is closed
+pub primary-returns-in_err-needs-in-Identifier-clause-reads : goal.primary-returns-in_err-needs-in-Identifier-clause-reads
+primary-returns-in_err-needs-in-Identifier-clause-reads t c =
+    let x = c.args.self.extent in
+    let p = err_from_is_err_and c.from_residual.result c.from_residual.ensures.1 in
+    rw (p.1, p.2) (closed_handed_on (Reads (at.at_primary x) c.args.tokens.now) x Objects c.args.tokens.now c.in_err-needs-in-Identifier.field-0.0 c.in_err-needs-in-Identifier.ensures
+    (λ o. rw c.in-Some.ensures.cases.0 (primary_name_closed x c.in-Some.token.now c.in-Some.rest.now (sym c.symbol_in.ensures ∙ c.in-Identifier.is) o)))
+
+pub primary-returns-in_err-needs-in-LeftParenthesis-clause-reads : goal.primary-returns-in_err-needs-in-LeftParenthesis-clause-reads
+primary-returns-in_err-needs-in-LeftParenthesis-clause-reads t c =
+    let x = c.args.self.extent in
+    let p = err_from_is_err_and c.from_residual-in_err-needs-in-LeftParenthesis.result c.from_residual-in_err-needs-in-LeftParenthesis.ensures.1 in
+    rw (p.1, p.2) (closed_handed_on (Reads (at.at_primary x) c.args.tokens.now) x Objects c.args.tokens.now c.in_err-needs-in-LeftParenthesis.field-0.0 c.in_err-needs-in-LeftParenthesis.ensures
+    (λ o. rw c.in-Some.ensures.cases.0 (primary_inner_closed x c.in-Some.token.now c.in-Some.rest.now (sym c.symbol_in.ensures ∙ c.in-LeftParenthesis.is) o)))
+
+pub factor-returns-in_err-needs-in-Abs-clause-reads : goal.factor-returns-in_err-needs-in-Abs-clause-reads
+factor-returns-in_err-needs-in-Abs-clause-reads t c =
+    let x = c.args.self.extent in
+    let p = err_from_is_err_and c.from_residual.result c.from_residual.ensures.1 in
+    rw (p.1, p.2) (closed_handed_on (Reads (at.at_factor x) c.args.tokens.now) x Objects c.args.tokens.now c.in_err-needs-in-Abs.field-0.0 c.in_err-needs-in-Abs.ensures
+    (λ o. rw c.in-Some.ensures.cases.0 (factor_abs_closed x c.in-Some.token.now c.in-Some.rest.now (sym c.symbol_in.ensures ∙ c.in-Abs.is) o)))
+
+pub factor-returns-in_err-needs-in-Not-clause-reads : goal.factor-returns-in_err-needs-in-Not-clause-reads
+factor-returns-in_err-needs-in-Not-clause-reads t c =
+    let x = c.args.self.extent in
+    let p = err_from_is_err_and c.from_residual-in_err-needs-in-Not.result c.from_residual-in_err-needs-in-Not.ensures.1 in
+    rw (p.1, p.2) (closed_handed_on (Reads (at.at_factor x) c.args.tokens.now) x Decisions c.args.tokens.now c.in_err-needs-in-Not.field-0.0 c.in_err-needs-in-Not.ensures
+    (λ o. rw c.in-Some.ensures.cases.0 (factor_not_closed x c.in-Some.token.now c.in-Some.rest.now (sym c.symbol_in.ensures ∙ c.in-Not.is) o)))
+
+pub signed-returns-in_err-needs-clause-reads : goal.signed-returns-in_err-needs-clause-reads
+signed-returns-in_err-needs-clause-reads t c =
+    let x = c.args.self.extent in
+    let p = err_from_is_err_and c.from_residual.result c.from_residual.ensures.1 in
+    rw (p.1, p.2) (closed_handed_on (Reads (at.at_signed x) c.args.tokens.now) x Objects c.args.tokens.now c.in_err-needs.field-0.0 c.in_err-needs.ensures
+    (λ o. rw c.in-Some.ensures.cases.0 (signed_closed x c.in-Some.token.now c.in-Some.rest.now c.in-Some-sign_in.operator (ap (λ s. sign_of s) (sym c.symbol_in.ensures) ∙ sym c.in-Some-sign_in.ensures) o)))
+
+-- operands of one level
+pub term-returns-clause-reads : goal.term-returns-clause-reads
+term-returns-clause-reads t c =
+    let x = c.args.self.extent in
+    let ts = c.args.tokens.now in
+    let a = c.in_ok-first.first in
+    let us = c.in_ok-first.rest.now in
+    built (operated a) (More (at.product_turns x) us a) (Reads (at.at_term x) ts) c.factors.result c.product.result (c.factors.ensures.reads a) c.product.ensures
+    (λ q f. term_begin x ts us a c.in_ok-first.ensures.reads c.in_ok-first.ensures.shorter q f)
+
+pub term-returns-clause-shorter : goal.term-returns-clause-shorter
+term-returns-clause-shorter t c =
+    built_below (operated c.in_ok-first.first) (length c.in_ok-first.rest.now) (length c.args.tokens.now) c.in_ok-first.ensures.shorter
+    c.factors.result c.product.result c.factors.ensures.shorter c.product.ensures
+
+pub term-returns-in_err-first-clause-reads : goal.term-returns-in_err-first-clause-reads
+term-returns-in_err-first-clause-reads t c =
+    let p = err_from_is_err_and c.from_residual.result c.from_residual.ensures.1 in
+    rw (p.1, p.2) (handed_on (Reads (at.at_term c.args.self.extent) c.args.tokens.now) (Reads (at.at_factor c.args.self.extent) c.args.tokens.now) c.in_err-first.field-0.0 c.in_err-first.ensures.reads (λ rest r. term_fail c.args.self.extent c.args.tokens.now rest r))
+
+pub factors-loop-others-init : goal.factors-loop-others-init
+factors-loop-others-init t c = record {
+  reads = λ a q f. subst (λ (os : List Operand). More (at.product_turns c.args.self.extent) c.args.tokens.now (with_operands (expr_pos a) a os) q) c.new-others.ensures.items f;
+  shorter = omega arith;
+}
+
+pub factors-loop-others-preserved : goal.factors-loop-others-preserved
+factors-loop-others-preserved t c =
+    let h = rw c.in-Some.is at c.in_ok-operator.ensures in
+    let os = c.loop-others.others.items in
+    let next = c.in_ok-operand.next.now in
+    record {
+      reads = λ a q f.
+          c.loop-others.invariant.reads a q
+          (product_push c.args.self.extent c.loop-others.rest.now c.in-Some.after.now next a os (record { operator = c.in-Some.operator; operand = c.in_ok-operand.operand }) h c.in_ok-operand.ensures.reads c.in_ok-operand.ensures.shorter q
+          (subst (λ (z : List Operand). More (at.product_turns c.args.self.extent) next (with_operands (expr_pos a) a z) q) c.in_ok-push.ensures.items f));
+      shorter = omega (arith, c.loop-others.invariant.shorter, c.in_ok-operand.ensures.shorter, ap length h.here);
+    }
+
+pub factors-returns-clause-reads : goal.factors-returns-clause-reads
+factors-returns-clause-reads t c = λ a. c.loop-others.invariant.reads a _ (product_end c.args.self.extent c.loop-others.rest.now _ (rw c.in_default.is at c.in_ok-operator.ensures))
+
+pub factors-returns-in_err-operand-clause-reads : goal.factors-returns-in_err-operand-clause-reads
+factors-returns-in_err-operand-clause-reads t c =
+    let h = rw c.in-Some.is at c.in_ok-operator.ensures in
+    let p = err_from_is_err_and c.from_residual-in_err-operand.result c.from_residual-in_err-operand.ensures.1 in
+    rw (p.1, p.2) (λ a. shown_as (operated a) (More (at.product_turns c.args.self.extent) c.args.tokens.now a) (Reads (at.at_factor c.args.self.extent) c.in-Some.after.now) c.in_err-operand.field-0.0 c.in_err-operand.ensures.reads (λ rest r. c.loop-others.invariant.reads a (Stuck rest) (product_fail c.args.self.extent c.loop-others.rest.now c.in-Some.after.now rest c.in-Some.operator _ h r)))
+
+pub factors-returns-in_err-operator-clause-reads : goal.factors-returns-in_err-operator-clause-reads
+factors-returns-in_err-operator-clause-reads t c =
+    let p = err_from_is_err_and c.from_residual.result c.from_residual.ensures.1 in
+    rw (p.1, p.2) (λ a. operator_shown_as (operated a) (More (at.product_turns c.args.self.extent) c.args.tokens.now a) multiplying c.args.self.extent Objects c.loop-others.rest.now c.in_err-operator.field-0.0 c.in_err-operator.ensures (λ rest k. c.loop-others.invariant.reads a (Stuck rest) (product_closed c.args.self.extent c.loop-others.rest.now rest _ k)))
+
+-- operands of one level
+pub simple-returns-clause-reads : goal.simple-returns-clause-reads
+simple-returns-clause-reads t c =
+    let x = c.args.self.extent in
+    let ts = c.args.tokens.now in
+    let a = c.in_ok-first.first in
+    let us = c.in_ok-first.rest.now in
+    built (operated a) (More (at.sum_turns x) us a) (Reads (at.at_simple x) ts) c.terms.result c.sum.result (c.terms.ensures.reads a) c.sum.ensures
+    (λ q f. simple_begin x ts us a c.in_ok-first.ensures.reads c.in_ok-first.ensures.shorter q f)
+
+pub simple-returns-clause-shorter : goal.simple-returns-clause-shorter
+simple-returns-clause-shorter t c =
+    built_below (operated c.in_ok-first.first) (length c.in_ok-first.rest.now) (length c.args.tokens.now) c.in_ok-first.ensures.shorter
+    c.terms.result c.sum.result c.terms.ensures.shorter c.sum.ensures
+
+pub simple-returns-in_err-first-clause-reads : goal.simple-returns-in_err-first-clause-reads
+simple-returns-in_err-first-clause-reads t c =
+    let p = err_from_is_err_and c.from_residual.result c.from_residual.ensures.1 in
+    rw (p.1, p.2) (handed_on (Reads (at.at_simple c.args.self.extent) c.args.tokens.now) (Reads (at.at_signed c.args.self.extent) c.args.tokens.now) c.in_err-first.field-0.0 c.in_err-first.ensures.reads (λ rest r. simple_fail c.args.self.extent c.args.tokens.now rest r))
+
+pub terms-loop-others-init : goal.terms-loop-others-init
+terms-loop-others-init t c = record {
+  reads = λ a q f. subst (λ (os : List Operand). More (at.sum_turns c.args.self.extent) c.args.tokens.now (with_operands (expr_pos a) a os) q) c.new-others.ensures.items f;
+  shorter = omega arith;
+}
+
+pub terms-loop-others-preserved : goal.terms-loop-others-preserved
+terms-loop-others-preserved t c =
+    let h = rw c.in-Some.is at c.in_ok-operator.ensures in
+    let os = c.loop-others.others.items in
+    let next = c.in_ok-operand.next.now in
+    record {
+      reads = λ a q f.
+          c.loop-others.invariant.reads a q
+          (sum_push c.args.self.extent c.loop-others.rest.now c.in-Some.after.now next a os (record { operator = c.in-Some.operator; operand = c.in_ok-operand.operand }) h c.in_ok-operand.ensures.reads c.in_ok-operand.ensures.shorter q
+          (subst (λ (z : List Operand). More (at.sum_turns c.args.self.extent) next (with_operands (expr_pos a) a z) q) c.in_ok-push.ensures.items f));
+      shorter = omega (arith, c.loop-others.invariant.shorter, c.in_ok-operand.ensures.shorter, ap length h.here);
+    }
+
+pub terms-returns-clause-reads : goal.terms-returns-clause-reads
+terms-returns-clause-reads t c = λ a. c.loop-others.invariant.reads a _ (sum_end c.args.self.extent c.loop-others.rest.now _ (rw c.in_default.is at c.in_ok-operator.ensures))
+
+pub terms-returns-in_err-operand-clause-reads : goal.terms-returns-in_err-operand-clause-reads
+terms-returns-in_err-operand-clause-reads t c =
+    let h = rw c.in-Some.is at c.in_ok-operator.ensures in
+    let p = err_from_is_err_and c.from_residual-in_err-operand.result c.from_residual-in_err-operand.ensures.1 in
+    rw (p.1, p.2) (λ a. shown_as (operated a) (More (at.sum_turns c.args.self.extent) c.args.tokens.now a) (Reads (at.at_term c.args.self.extent) c.in-Some.after.now) c.in_err-operand.field-0.0 c.in_err-operand.ensures.reads (λ rest r. c.loop-others.invariant.reads a (Stuck rest) (sum_fail c.args.self.extent c.loop-others.rest.now c.in-Some.after.now rest c.in-Some.operator _ h r)))
+
+pub terms-returns-in_err-operator-clause-reads : goal.terms-returns-in_err-operator-clause-reads
+terms-returns-in_err-operator-clause-reads t c =
+    let p = err_from_is_err_and c.from_residual.result c.from_residual.ensures.1 in
+    rw (p.1, p.2) (λ a. operator_shown_as (operated a) (More (at.sum_turns c.args.self.extent) c.args.tokens.now a) adding c.args.self.extent Objects c.loop-others.rest.now c.in_err-operator.field-0.0 c.in_err-operator.ensures (λ rest k. c.loop-others.invariant.reads a (Stuck rest) (sum_closed c.args.self.extent c.loop-others.rest.now rest _ k)))
+
+-- relations, and chains of them
+pub relation-returns-clause-reads : goal.relation-returns-clause-reads
+relation-returns-clause-reads t c =
+    let x = c.args.self.extent in
+    let ts = c.args.tokens.now in
+    let a = c.in_ok-left.left in
+    let us = c.in_ok-left.rest.now in
+    let op = c.in-Some.operator in
+    let vs = c.in-Some.after.now in
+    let h = rw c.in-Some.is at c.in_ok-operator.ensures in
+    made (λ e. relation (expr_pos a) a op e) (Reads (at.at_simple x) vs) (Reads (at.at_relation x) ts) c.simple-2.result c.relation.result c.simple-2.ensures.reads c.relation.ensures
+    (λ b rest r. relation_two x ts us vs rest a b op c.in_ok-left.ensures.reads c.in_ok-left.ensures.shorter h r)
+    (λ rest r. relation_second_fail x ts us vs rest a op c.in_ok-left.ensures.reads c.in_ok-left.ensures.shorter h r)
+
+pub relation-returns-clause-shorter : goal.relation-returns-clause-shorter
+relation-returns-clause-shorter t c =
+    let a = c.in_ok-left.left in
+    let h = rw c.in-Some.is at c.in_ok-operator.ensures in
+    made_below (λ e. relation (expr_pos a) a c.in-Some.operator e) (length c.in-Some.after.now) (length c.args.tokens.now) (omega (arith, c.in_ok-left.ensures.shorter, ap length h.here))
+    c.simple-2.result c.relation.result c.simple-2.ensures.shorter c.relation.ensures
+
+pub relations-loop-others-init : goal.relations-loop-others-init
+relations-loop-others-init t c = record {
+  reads = λ a q f. chain_begin c.args.self.extent c.args.operator c.args.tokens.now c.in_ok-second.rest.now a c.in_ok-second.second c.in_ok-second.ensures.reads c.in_ok-second.ensures.shorter q
+      (subst (λ (z : List Expr). More (at.chain_turns c.args.self.extent c.args.operator) c.in_ok-second.rest.now (joined (expr_pos a) c.args.operator a z) q) (c.in_ok-push.ensures.items ∙ ap (λ xs. xs ++ c.in_ok-second.second ∷ []) c.new-others.ensures.items) f);
+  shorter = c.in_ok-second.ensures.shorter;
+}
+
+pub relations-loop-others-preserved : goal.relations-loop-others-preserved
+relations-loop-others-preserved t c =
+    let x = c.args.self.extent in
+    let op = c.args.operator in
+    let h = rw c.in-Some.is at c.in_ok-after.ensures in
+    let next = c.in_ok-relation.next.now in
+    record {
+      reads = λ a q f. c.loop-others.invariant.reads a q
+          (chain_push x op c.loop-others.rest.now c.in-Some.after.now next a c.in_ok-relation.relation c.loop-others.others.items h c.in_ok-relation.ensures.reads c.in_ok-relation.ensures.shorter q
+          (subst (λ (z : List Expr). More (at.chain_turns x op) next (joined (expr_pos a) op a z) q) c.in_ok-push-2.ensures.items f));
+      shorter = omega (arith, c.loop-others.invariant.shorter, c.in_ok-relation.ensures.shorter, h.shorter);
+    }
+
+pub relations-returns-clause-reads : goal.relations-returns-clause-reads
+relations-returns-clause-reads t c = λ a. c.loop-others.invariant.reads a _ (chain_end c.args.self.extent c.args.operator c.loop-others.rest.now _ (rw c.in_default.is at c.in_ok-after.ensures))
+
+pub relations-returns-in_err-second-clause-reads : goal.relations-returns-in_err-second-clause-reads
+relations-returns-in_err-second-clause-reads t c =
+    let x = c.args.self.extent in
+    let op = c.args.operator in
+    let ts = c.args.tokens.now in
+    let p = err_from_is_err_and c.from_residual.result c.from_residual.ensures.1 in
+    rw (p.1, p.2) (λ a. shown_as (chained op a) (Reads (at.at_chain x op a) ts) (Reads (at.at_relation x) ts) c.in_err-second.field-0.0 c.in_err-second.ensures.reads (λ rest r. chain_fail x op ts rest a r))
+
+pub relations-returns-in_err-relation-clause-reads : goal.relations-returns-in_err-relation-clause-reads
+relations-returns-in_err-relation-clause-reads t c =
+    let x = c.args.self.extent in
+    let op = c.args.operator in
+    let h = rw c.in-Some.is at c.in_ok-after.ensures in
+    let p = err_from_is_err_and c.from_residual-in_err-relation.result c.from_residual-in_err-relation.ensures.1 in
+    rw (p.1, p.2) (λ a. shown_as (chained op a) (Reads (at.at_chain x op a) c.args.tokens.now) (Reads (at.at_relation x) c.in-Some.after.now) c.in_err-relation.field-0.0 c.in_err-relation.ensures.reads (λ rest r. c.loop-others.invariant.reads a (Stuck rest) (chain_step_fail x op c.loop-others.rest.now c.in-Some.after.now rest _ h r)))
+
+pub relations-returns-in_err-after-clause-reads : goal.relations-returns-in_err-after-clause-reads
+relations-returns-in_err-after-clause-reads t c =
+    let x = c.args.self.extent in
+    let op = c.args.operator in
+    let p = err_from_is_err_and c.from_residual-in_err-after.result c.from_residual-in_err-after.ensures.1 in
+    rw (p.1, p.2) (λ a. joint_shown_as (chained op a) (Reads (at.at_chain x op a) c.args.tokens.now) x op c.loop-others.rest.now c.in_err-after.field-0.0 c.in_err-after.ensures (λ rest k. c.loop-others.invariant.reads a (Stuck rest) (chain_half x op c.loop-others.rest.now rest _ k)))
+
+pub expr-returns-in-Some-clause-reads : goal.expr-returns-in-Some-clause-reads
+expr-returns-in-Some-clause-reads t c =
+    let x = c.args.self.extent in
+    let ts = c.args.tokens.now in
+    let a = c.in_ok-first.first in
+    let us = c.in_ok-first.rest.now in
+    let op = c.in-Some.operator in
+    let vs = c.in-Some.after.now in
+    let h = rw c.in-Some.is at c.in_ok-logical.ensures in
+    built (chained op a) (Reads (at.at_chain x op a) vs) (Reads (at.at_expr x) ts) c.relations-others.result c.chain.result (c.relations-others.ensures.reads a) c.chain.ensures
+    (λ q r. expr_chain x ts us vs a op q c.in_ok-first.ensures.reads c.in_ok-first.ensures.shorter h r)
+
+pub expr-returns-in-Some-clause-shorter : goal.expr-returns-in-Some-clause-shorter
+expr-returns-in-Some-clause-shorter t c =
+    let a = c.in_ok-first.first in
+    let h = rw c.in-Some.is at c.in_ok-logical.ensures in
+    made_below (chained c.in-Some.operator a) (length c.in-Some.after.now) (length c.args.tokens.now) (omega (arith, c.in_ok-first.ensures.shorter, h.shorter))
+    c.relations-others.result c.chain.result c.relations-others.ensures.shorter c.chain.ensures
+
+-- parts of a name
+pub suffix-returns-in-Dot : goal.suffix-returns-in-Dot
+suffix-returns-in-Dot t c = rw c.in-Some.ensures.cases.0 (c.selected.ensures c.in-Some.token.now (sym c.symbol_in.ensures ∙ c.in-Dot.is))
+
+pub suffix-returns-in-Tick : goal.suffix-returns-in-Tick
+suffix-returns-in-Tick t c = c.attribute.ensures c.in-Some.token.now (sym c.symbol_in.ensures ∙ c.in-Tick.is) c.in-Some.ensures.cases.0
+
+pub suffix-returns-in-LeftParenthesis : goal.suffix-returns-in-LeftParenthesis
+suffix-returns-in-LeftParenthesis t c =
+    rw c.in-Some.ensures.cases.0 (applied_next c.args.self.extent c.in-Some.token.now c.in-Some.rest.now c.exprs.result c.applied.result (sym c.symbol_in.ensures ∙ c.in-LeftParenthesis.is)
+    c.exprs.ensures.reads c.exprs.ensures.shorter c.applied.ensures)
 
 pub exprs-loop-after-preserved : goal.exprs-loop-after-preserved
 exprs-loop-after-preserved t c = record {
@@ -36,54 +362,8 @@ name-loop-suffixes-preserved t c =
       shorter = omega (arith, c.loop-suffixes.invariant.shorter, h.1);
     }
 
-pub simple-loop-others-preserved : goal.simple-loop-others-preserved
-simple-loop-others-preserved t c =
-    let h = rw c.in-Some.is at c.in_ok-operator.ensures in
-    let a = expr_of c.first.inside in
-    let os = c.loop-others.others.items in
-    let next = c.in_ok-operand.next.now in
-    record {
-      reads = λ q f.
-          c.loop-others.invariant.reads q
-          (sum_push c.args.self.extent c.loop-others.rest.now c.in-Some.after.now next a os (record { operator = c.in-Some.operator; operand = c.in_ok-operand.operand }) h c.in_ok-operand.ensures.reads c.in_ok-operand.ensures.shorter q
-          (subst (λ (z : List Operand). More (at.sum_turns c.args.self.extent) next (with_operands (expr_pos a) a z) q) c.in_ok-push.ensures.items f));
-      shorter = omega (arith, c.loop-others.invariant.shorter, c.in_ok-operand.ensures.shorter, ap length h.here);
-    }
-
-pub term-loop-others-preserved : goal.term-loop-others-preserved
-term-loop-others-preserved t c =
-    let h = rw c.in-Some.is at c.in_ok-operator.ensures in
-    let a = expr_of c.first.inside in
-    let os = c.loop-others.others.items in
-    let next = c.in_ok-operand.next.now in
-    record {
-      reads = λ q f.
-          c.loop-others.invariant.reads q
-          (product_push c.args.self.extent c.loop-others.rest.now c.in-Some.after.now next a os (record { operator = c.in-Some.operator; operand = c.in_ok-operand.operand }) h c.in_ok-operand.ensures.reads c.in_ok-operand.ensures.shorter q
-          (subst (λ (z : List Operand). More (at.product_turns c.args.self.extent) next (with_operands (expr_pos a) a z) q) c.in_ok-push.ensures.items f));
-      shorter = omega (arith, c.loop-others.invariant.shorter, c.in_ok-operand.ensures.shorter, ap length h.here);
-    }
-
-pub chain-loop-others-init : goal.chain-loop-others-init
-chain-loop-others-init t c = grind (arith, chain_rules)
-
-pub chain-loop-others-preserved : goal.chain-loop-others-preserved
-chain-loop-others-preserved t c = grind (arith, chain_rules)
-
-pub chain-returns-clause-reads : goal.chain-returns-clause-reads
-chain-returns-clause-reads t c = grind (arith, chain_rules)
-
-pub chain-returns-in_err-after-clause-reads : goal.chain-returns-in_err-after-clause-reads
-chain-returns-in_err-after-clause-reads t c = grind (arith, chain_rules)
-
-pub chain-returns-in_err-relation-clause-reads : goal.chain-returns-in_err-relation-clause-reads
-chain-returns-in_err-relation-clause-reads t c = grind (arith, chain_rules)
-
 pub expr-returns-in-None-clause-reads : goal.expr-returns-in-None-clause-reads
 expr-returns-in-None-clause-reads t c = grind (arith, expr_rules)
-
-pub expr-returns-in-Some-clause-reads : goal.expr-returns-in-Some-clause-reads
-expr-returns-in-Some-clause-reads t c = grind (arith, expr_rules)
 
 pub expr-returns-in_err-logical-clause-reads : goal.expr-returns-in_err-logical-clause-reads
 expr-returns-in_err-logical-clause-reads t c = grind (arith, expr_rules)
@@ -100,141 +380,17 @@ exprs-returns-in_err-expr-clause-reads t c = grind (arith, exprs_rules)
 pub factor-returns-in_default-symbol_in : goal.factor-returns-in_default-symbol_in
 factor-returns-in_default-symbol_in t c = grind (arith, factor_rules)
 
-pub factor-returns-in_err-operand-in-Abs-clause-reads : goal.factor-returns-in_err-operand-in-Abs-clause-reads
-factor-returns-in_err-operand-in-Abs-clause-reads t c =
-    let p = err_from_is_err_and c.from_residual-in_err-operand-in-Abs.result c.from_residual-in_err-operand-in-Abs.ensures.1 in
-    rw (p.1, p.2) (handed_on (Reads (at.at_factor c.args.self.extent) c.args.tokens.now) (Reads (at.at_primary c.args.self.extent) c.in-Some.rest.now) c.in_err-operand-in-Abs.field-0.0 c.in_err-operand-in-Abs.ensures.reads (λ rest r. rw c.in-Some.ensures.cases.0 (factor_abs_fail c.args.self.extent c.in-Some.token.now c.in-Some.rest.now rest (sym c.symbol_in.ensures ∙ c.in-Abs.is) c.in_ok-needs-in-Abs.ensures r)))
-
-pub factor-returns-in_err-operand-in-Not-clause-reads : goal.factor-returns-in_err-operand-in-Not-clause-reads
-factor-returns-in_err-operand-in-Not-clause-reads t c =
-    let p = err_from_is_err_and c.from_residual-in_err-operand-in-Not.result c.from_residual-in_err-operand-in-Not.ensures.1 in
-    rw (p.1, p.2) (handed_on (Reads (at.at_factor c.args.self.extent) c.args.tokens.now) (Reads (at.at_primary c.args.self.extent) c.in-Some.rest.now) c.in_err-operand-in-Not.field-0.0 c.in_err-operand-in-Not.ensures.reads (λ rest r. rw c.in-Some.ensures.cases.0 (factor_not_fail c.args.self.extent c.in-Some.token.now c.in-Some.rest.now rest (sym c.symbol_in.ensures ∙ c.in-Not.is) c.in_ok-needs-in-Not.ensures r)))
-
-pub factor-returns-in_ok-expr-in-Abs-clause-reads : goal.factor-returns-in_ok-expr-in-Abs-clause-reads
-factor-returns-in_ok-expr-in-Abs-clause-reads t c = grind (arith, factor_rules)
-
-pub factor-returns-in_ok-expr-in-Not-clause-reads : goal.factor-returns-in_ok-expr-in-Not-clause-reads
-factor-returns-in_ok-expr-in-Not-clause-reads t c = grind (arith, factor_rules)
-
 pub name-loop-suffixes-init : goal.name-loop-suffixes-init
 name-loop-suffixes-init t c = grind (arith, name_rules)
-
-pub primary-returns-in_err-inner-in-LeftParenthesis-clause-reads : goal.primary-returns-in_err-inner-in-LeftParenthesis-clause-reads
-primary-returns-in_err-inner-in-LeftParenthesis-clause-reads t c =
-    let p = err_from_is_err_and c.from_residual-in_err-inner-in-LeftParenthesis.result c.from_residual-in_err-inner-in-LeftParenthesis.ensures.1 in
-    rw (p.1, p.2) (handed_on (Reads (at.at_primary c.args.self.extent) c.args.tokens.now) (Reads (at.at_expr c.args.self.extent) c.in-Some.rest.now) c.in_err-inner-in-LeftParenthesis.field-0.0 c.in_err-inner-in-LeftParenthesis.ensures.reads (λ rest r. rw c.in-Some.ensures.cases.0 (primary_inner_fail c.args.self.extent c.in-Some.token.now c.in-Some.rest.now rest (sym c.symbol_in.ensures ∙ c.in-LeftParenthesis.is) c.in_ok-needs-in-LeftParenthesis.ensures r)))
-
-pub primary-returns-in_err-name-in-Identifier-clause-reads : goal.primary-returns-in_err-name-in-Identifier-clause-reads
-primary-returns-in_err-name-in-Identifier-clause-reads t c =
-    let p = err_from_is_err_and c.from_residual-in_err-name-in-Identifier.result c.from_residual-in_err-name-in-Identifier.ensures.1 in
-    rw (p.1, p.2) (handed_on (Reads (at.at_primary c.args.self.extent) c.args.tokens.now) (Reads (at.at_name c.args.self.extent) c.args.tokens.now) c.in_err-name-in-Identifier.field-0.0 c.in_err-name-in-Identifier.ensures.reads (λ rest r. rw c.in-Some.ensures.cases.0 (primary_name_fail c.args.self.extent c.in-Some.token.now c.in-Some.rest.now rest (sym c.symbol_in.ensures ∙ c.in-Identifier.is) c.in_ok-needs-in-Identifier.ensures (rw c.in-Some.ensures.cases.0 at r))))
-
-pub primary-returns-in_err-rest-in-LeftParenthesis-clause-reads : goal.primary-returns-in_err-rest-in-LeftParenthesis-clause-reads
-primary-returns-in_err-rest-in-LeftParenthesis-clause-reads t c =
-    let p = err_from_is_err_and c.from_residual-in_err-rest-in-LeftParenthesis.result c.from_residual-in_err-rest-in-LeftParenthesis.ensures.1 in
-    rw (p.1, p.2) (word_handed_on (Reads (at.at_primary c.args.self.extent) c.args.tokens.now) symbol.RightParenthesis c.in_ok-inner-in-LeftParenthesis.rest.now c.in_err-rest-in-LeftParenthesis.field-0.0 c.in_err-rest-in-LeftParenthesis.ensures (λ rest k. rw c.in-Some.ensures.cases.0 (primary_open c.args.self.extent c.in-Some.token.now c.in-Some.rest.now c.in_ok-inner-in-LeftParenthesis.rest.now rest _ (sym c.symbol_in.ensures ∙ c.in-LeftParenthesis.is) c.in_ok-needs-in-LeftParenthesis.ensures c.in_ok-inner-in-LeftParenthesis.ensures.reads k)))
-
-pub primary-returns-in_ok-expr-in-LeftParenthesis-clause-reads : goal.primary-returns-in_ok-expr-in-LeftParenthesis-clause-reads
-primary-returns-in_ok-expr-in-LeftParenthesis-clause-reads t c = grind (arith, primary_rules)
-
-pub primary-returns-in_ok-name-in-Identifier-clause-reads : goal.primary-returns-in_ok-name-in-Identifier-clause-reads
-primary-returns-in_ok-name-in-Identifier-clause-reads t c = grind (arith, primary_rules)
-
-pub signed-returns-clause-reads : goal.signed-returns-clause-reads
-signed-returns-clause-reads t c = grind (arith, signed_rules)
 
 pub signed-returns-in_default-sign_in-clause-reads : goal.signed-returns-in_default-sign_in-clause-reads
 signed-returns-in_default-sign_in-clause-reads t c = grind (arith, signed_rules)
 
-pub signed-returns-in_err-term-clause-reads : goal.signed-returns-in_err-term-clause-reads
-signed-returns-in_err-term-clause-reads t c = grind (arith, signed_rules)
-
-pub simple-loop-others-init : goal.simple-loop-others-init
-simple-loop-others-init t c = grind (arith, simple_rules)
-
-pub simple-returns-clause-reads : goal.simple-returns-clause-reads
-simple-returns-clause-reads t c = grind (arith, simple_rules)
-
-pub simple-returns-in_err-operand-clause-reads : goal.simple-returns-in_err-operand-clause-reads
-simple-returns-in_err-operand-clause-reads t c =
-    let h = rw c.in-Some.is at c.in_ok-operator.ensures in
-    let p = err_from_is_err_and c.from_residual-in_err-operand.result c.from_residual-in_err-operand.ensures.1 in
-    rw (p.1, p.2) (handed_on (Reads (at.at_simple c.args.self.extent) c.args.tokens.now) (Reads (at.at_term c.args.self.extent) c.in-Some.after.now) c.in_err-operand.field-0.0 c.in_err-operand.ensures.reads (λ rest r. c.loop-others.invariant.reads (Stuck rest) (sum_fail c.args.self.extent c.loop-others.rest.now c.in-Some.after.now rest c.in-Some.operator _ h r)))
-
-pub simple-returns-in_err-operator-clause-reads : goal.simple-returns-in_err-operator-clause-reads
-simple-returns-in_err-operator-clause-reads t c =
-    let p = err_from_is_err_and c.from_residual-in_err-operator.result c.from_residual-in_err-operator.ensures.1 in
-    rw (p.1, p.2) (operator_handed_on (Reads (at.at_simple c.args.self.extent) c.args.tokens.now) adding c.args.self.extent Objects c.loop-others.rest.now c.in_err-operator.field-0.0 c.in_err-operator.ensures (λ rest k. c.loop-others.invariant.reads (Stuck rest) (sum_closed c.args.self.extent c.loop-others.rest.now rest _ k)))
-
-pub suffix-returns-in_err-attribute-in-Tick : goal.suffix-returns-in_err-attribute-in-Tick
-suffix-returns-in_err-attribute-in-Tick t c =
-    let p = err_from_is_err_and c.from_residual-in_err-attribute-in-Tick.result c.from_residual-in_err-attribute-in-Tick.ensures.1 in
-    rw (p.1, p.2) (suffix_identifier_fault c.args.self.extent c.args.tokens.now c.in-Some.rest.now c.in_err-attribute-in-Tick.field-0.0 c.in_err-attribute-in-Tick.ensures (λ rest k n. rw c.in-Some.ensures.cases.0 (attribute_fail c.args.self.extent c.in-Some.token.now c.in-Some.rest.now rest (sym c.symbol_in.ensures ∙ c.in-Tick.is) c.in_ok-needs-in-Tick.ensures k n)))
-
-pub suffix-returns-in_err-exprs-in-LeftParenthesis : goal.suffix-returns-in_err-exprs-in-LeftParenthesis
-suffix-returns-in_err-exprs-in-LeftParenthesis t c = grind (arith, suffix_rules)
-
-pub suffix-returns-in_err-rest-in-LeftParenthesis : goal.suffix-returns-in_err-rest-in-LeftParenthesis
-suffix-returns-in_err-rest-in-LeftParenthesis t c =
-    let p = err_from_is_err_and c.from_residual-in_err-rest-in-LeftParenthesis.result c.from_residual-in_err-rest-in-LeftParenthesis.ensures.1 in
-    rw (p.1, p.2) (suffix_word_fault c.args.self.extent c.args.tokens.now symbol.RightParenthesis c.in_ok-exprs-in-LeftParenthesis.rest.now c.in_err-rest-in-LeftParenthesis.field-0.0 c.in_err-rest-in-LeftParenthesis.ensures (λ rest k n. rw c.in-Some.ensures.cases.0 (closing_fail c.args.self.extent c.in-Some.token.now c.in-Some.rest.now c.in_ok-exprs-in-LeftParenthesis.rest.now rest _ (sym c.symbol_in.ensures ∙ c.in-LeftParenthesis.is) c.in_ok-exprs-in-LeftParenthesis.ensures.reads k n)))
-
-pub suffix-returns-in_err-selector-in-Dot : goal.suffix-returns-in_err-selector-in-Dot
-suffix-returns-in_err-selector-in-Dot t c =
-    let p = err_from_is_err_and c.from_residual.result c.from_residual.ensures.1 in
-    rw (p.1, p.2) (suffix_identifier_fault c.args.self.extent c.args.tokens.now c.in-Some.rest.now c.in_err-selector-in-Dot.field-0.0 c.in_err-selector-in-Dot.ensures (λ rest k n. rw c.in-Some.ensures.cases.0 (select_fail c.args.self.extent c.in-Some.token.now c.in-Some.rest.now rest (sym c.symbol_in.ensures ∙ c.in-Dot.is) k n)))
-
-pub suffix-returns-in_ok-attribute-in-Tick : goal.suffix-returns-in_ok-attribute-in-Tick
-suffix-returns-in_ok-attribute-in-Tick t c = grind (arith, suffix_rules)
-
-pub suffix-returns-in_ok-rest-in-LeftParenthesis : goal.suffix-returns-in_ok-rest-in-LeftParenthesis
-suffix-returns-in_ok-rest-in-LeftParenthesis t c = grind (arith, suffix_rules)
-
-pub suffix-returns-in_ok-selector-in-Dot : goal.suffix-returns-in_ok-selector-in-Dot
-suffix-returns-in_ok-selector-in-Dot t c = grind (arith, suffix_rules)
-
-pub term-loop-others-init : goal.term-loop-others-init
-term-loop-others-init t c = grind (arith, term_rules)
-
-pub term-returns-clause-reads : goal.term-returns-clause-reads
-term-returns-clause-reads t c = grind (arith, term_rules)
-
-pub term-returns-in_err-first-clause-reads : goal.term-returns-in_err-first-clause-reads
-term-returns-in_err-first-clause-reads t c =
-    let p = err_from_is_err_and c.from_residual.result c.from_residual.ensures.1 in
-    rw (p.1, p.2) (handed_on (Reads (at.at_term c.args.self.extent) c.args.tokens.now) (Reads (at.at_factor c.args.self.extent) c.args.tokens.now) c.in_err-first.field-0.0 c.in_err-first.ensures.reads (λ rest r. term_fail c.args.self.extent c.args.tokens.now rest r))
-
-pub term-returns-in_err-operand-clause-reads : goal.term-returns-in_err-operand-clause-reads
-term-returns-in_err-operand-clause-reads t c =
-    let h = rw c.in-Some.is at c.in_ok-operator.ensures in
-    let p = err_from_is_err_and c.from_residual-in_err-operand.result c.from_residual-in_err-operand.ensures.1 in
-    rw (p.1, p.2) (handed_on (Reads (at.at_term c.args.self.extent) c.args.tokens.now) (Reads (at.at_factor c.args.self.extent) c.in-Some.after.now) c.in_err-operand.field-0.0 c.in_err-operand.ensures.reads (λ rest r. c.loop-others.invariant.reads (Stuck rest) (product_fail c.args.self.extent c.loop-others.rest.now c.in-Some.after.now rest c.in-Some.operator _ h r)))
-
-pub term-returns-in_err-operator-clause-reads : goal.term-returns-in_err-operator-clause-reads
-term-returns-in_err-operator-clause-reads t c =
-    let p = err_from_is_err_and c.from_residual-in_err-operator.result c.from_residual-in_err-operator.ensures.1 in
-    rw (p.1, p.2) (operator_handed_on (Reads (at.at_term c.args.self.extent) c.args.tokens.now) multiplying c.args.self.extent Objects c.loop-others.rest.now c.in_err-operator.field-0.0 c.in_err-operator.ensures (λ rest k. c.loop-others.invariant.reads (Stuck rest) (product_closed c.args.self.extent c.loop-others.rest.now rest _ k)))
-
 pub suffix-returns-in_default-symbol_in : goal.suffix-returns-in_default-symbol_in
 suffix-returns-in_default-symbol_in t c = grind (arith, suffix_rules)
 
-pub chain-loop-others-smaller : goal.chain-loop-others-smaller
-chain-loop-others-smaller t c = grind (arith, chain_rules)
-
-pub chain-relation-requires-in-Some : goal.chain-relation-requires-in-Some
-chain-relation-requires-in-Some t c = grind (arith, chain_rules)
-
-pub chain-returns-clause-shorter : goal.chain-returns-clause-shorter
-chain-returns-clause-shorter t c = grind (arith, chain_rules)
-
-pub expr-chain-requires : goal.expr-chain-requires
-expr-chain-requires t c = grind (arith, expr_rules)
-
 pub expr-returns-in-None-clause-shorter : goal.expr-returns-in-None-clause-shorter
 expr-returns-in-None-clause-shorter t c = grind (arith, expr_rules)
-
-pub expr-returns-in-Some-clause-shorter : goal.expr-returns-in-Some-clause-shorter
-expr-returns-in-Some-clause-shorter t c = grind (arith, expr_rules)
 
 pub exprs-expr-requires-in-Some : goal.exprs-expr-requires-in-Some
 exprs-expr-requires-in-Some t c = grind (arith, exprs_rules)
@@ -247,12 +403,6 @@ exprs-returns-clause-shorter t c = grind (arith, exprs_rules)
 
 pub factor-returns-in_default-clause-reads : goal.factor-returns-in_default-clause-reads
 factor-returns-in_default-clause-reads t c = grind (arith, factor_rules)
-
-pub factor-returns-in_ok-expr-in-Abs-clause-shorter : goal.factor-returns-in_ok-expr-in-Abs-clause-shorter
-factor-returns-in_ok-expr-in-Abs-clause-shorter t c = grind (arith, factor_rules)
-
-pub factor-returns-in_ok-expr-in-Not-clause-shorter : goal.factor-returns-in_ok-expr-in-Not-clause-shorter
-factor-returns-in_ok-expr-in-Not-clause-shorter t c = grind (arith, factor_rules)
 
 pub name-loop-suffixes-smaller : goal.name-loop-suffixes-smaller
 name-loop-suffixes-smaller t c = grind (arith, name_rules)
@@ -272,18 +422,6 @@ primary-returns-in_default-clause-reads t c = grind (arith, primary_rules)
 pub primary-returns-in_default-symbol_in : goal.primary-returns-in_default-symbol_in
 primary-returns-in_default-symbol_in t c = grind (arith, primary_rules)
 
-pub primary-returns-in_ok-expr-in-LeftParenthesis-clause-shorter : goal.primary-returns-in_ok-expr-in-LeftParenthesis-clause-shorter
-primary-returns-in_ok-expr-in-LeftParenthesis-clause-shorter t c = grind (arith, primary_rules)
-
-pub primary-returns-in_ok-name-in-Identifier-clause-shorter : goal.primary-returns-in_ok-name-in-Identifier-clause-shorter
-primary-returns-in_ok-name-in-Identifier-clause-shorter t c = grind (arith, primary_rules)
-
-pub relation-returns-clause-reads : goal.relation-returns-clause-reads
-relation-returns-clause-reads t c = grind (arith, relation_rules)
-
-pub relation-returns-clause-shorter : goal.relation-returns-clause-shorter
-relation-returns-clause-shorter t c = grind (arith, relation_rules)
-
 pub relation-returns-in_default-clause-reads : goal.relation-returns-in_default-clause-reads
 relation-returns-in_default-clause-reads t c = grind (arith, relation_rules)
 
@@ -293,29 +431,8 @@ relation-returns-in_default-clause-shorter t c = grind (arith, relation_rules)
 pub relation-simple-requires-2 : goal.relation-simple-requires-2
 relation-simple-requires-2 t c = grind (arith, relation_rules)
 
-pub signed-returns-clause-shorter : goal.signed-returns-clause-shorter
-signed-returns-clause-shorter t c = grind (arith, signed_rules)
-
 pub signed-returns-in_default-clause-reads : goal.signed-returns-in_default-clause-reads
 signed-returns-in_default-clause-reads t c = grind (arith, signed_rules)
 
-pub simple-loop-others-smaller : goal.simple-loop-others-smaller
-simple-loop-others-smaller t c = grind (arith, simple_rules)
-
-pub simple-returns-clause-shorter : goal.simple-returns-clause-shorter
-simple-returns-clause-shorter t c = grind (arith, simple_rules)
-
-pub simple-term-requires : goal.simple-term-requires
-simple-term-requires t c = grind (arith, simple_rules)
-
 pub suffix-returns-in_default : goal.suffix-returns-in_default
 suffix-returns-in_default t c = grind (arith, suffix_rules)
-
-pub term-factor-requires-in-Some : goal.term-factor-requires-in-Some
-term-factor-requires-in-Some t c = grind (arith, term_rules)
-
-pub term-loop-others-smaller : goal.term-loop-others-smaller
-term-loop-others-smaller t c = grind (arith, term_rules)
-
-pub term-returns-clause-shorter : goal.term-returns-clause-shorter
-term-returns-clause-shorter t c = grind (arith, term_rules)

@@ -1,6 +1,6 @@
-use Rattle.std.proofs.Common.{◌<◌, ◌+◌, ◌*◌, length, List}
+use Rattle.std.proofs.Common.{◌<◌, ◌≤◌, ◌+◌, ◌*◌, length, List}
 use Rattle.ada_syntax.specs.Tree.{Expr, Name, simple, expr_pos}
-use Rattle.ada_syntax.specs.TreeView.{with_operands, with_suffixes, joined, expr_of}
+use Rattle.ada_syntax.specs.TreeView.{with_operands, with_suffixes, joined}
 use Rattle.expression_parser.specs.Reading.{Reading}
 use Rattle.expression_parser.specs.Shows.{Reads, More}
 use Rattle.expression_parser.specs.Depth as at
@@ -22,17 +22,23 @@ decreases-factor l = 16 * length l.tokens.now + 3
 abbrev pub decreases-term : goal.decreases-term
 decreases-term l = 16 * length l.tokens.now + 4
 
+abbrev pub decreases-factors : goal.decreases-factors
+decreases-factors l = 16 * length l.tokens.now + 4
+
 abbrev pub decreases-signed : goal.decreases-signed
 decreases-signed l = 16 * length l.tokens.now + 5
 
 abbrev pub decreases-simple : goal.decreases-simple
 decreases-simple l = 16 * length l.tokens.now + 6
 
+abbrev pub decreases-terms : goal.decreases-terms
+decreases-terms l = 16 * length l.tokens.now + 6
+
 abbrev pub decreases-relation : goal.decreases-relation
 decreases-relation l = 16 * length l.tokens.now + 7
 
-abbrev pub decreases-chain : goal.decreases-chain
-decreases-chain l = 16 * length l.tokens.now + 8
+abbrev pub decreases-relations : goal.decreases-relations
+decreases-relations l = 16 * length l.tokens.now + 8
 
 abbrev pub decreases-expr : goal.decreases-expr
 decreases-expr l = 16 * length l.tokens.now + 9
@@ -59,29 +65,29 @@ invariant-exprs-loop-after l = record {
 abbrev pub decreases-exprs-loop-after : goal.decreases-exprs-loop-after
 decreases-exprs-loop-after l = length l.rest
 
-abbrev pub invariant-term-loop-others : goal.invariant-term-loop-others
-invariant-term-loop-others l = record {
-  reads : (q : Reading Expr) → More (at.product_turns l.self.extent) l.rest (with_operands (expr_pos (expr_of l.first-inside)) (expr_of l.first-inside) l.others.items) q → Reads (at.at_term l.self.extent) l.tokens q;
+abbrev pub invariant-factors-loop-others : goal.invariant-factors-loop-others
+invariant-factors-loop-others l = record {
+  reads : (a : Expr) (q : Reading Expr) → More (at.product_turns l.self.extent) l.rest (with_operands (expr_pos a) a l.others.items) q → More (at.product_turns l.self.extent) l.tokens a q;
+  shorter : length l.rest ≤ length l.tokens;
+}
+
+abbrev pub decreases-factors-loop-others : goal.decreases-factors-loop-others
+decreases-factors-loop-others l = length l.rest
+
+abbrev pub invariant-terms-loop-others : goal.invariant-terms-loop-others
+invariant-terms-loop-others l = record {
+  reads : (a : Expr) (q : Reading Expr) → More (at.sum_turns l.self.extent) l.rest (with_operands (expr_pos a) a l.others.items) q → More (at.sum_turns l.self.extent) l.tokens a q;
+  shorter : length l.rest ≤ length l.tokens;
+}
+
+abbrev pub decreases-terms-loop-others : goal.decreases-terms-loop-others
+decreases-terms-loop-others l = length l.rest
+
+abbrev pub invariant-relations-loop-others : goal.invariant-relations-loop-others
+invariant-relations-loop-others l = record {
+  reads : (a : Expr) (q : Reading Expr) → More (at.chain_turns l.self.extent l.operator) l.rest (joined (expr_pos a) l.operator a l.others.items) q → Reads (at.at_chain l.self.extent l.operator a) l.tokens q;
   shorter : length l.rest < length l.tokens;
 }
 
-abbrev pub decreases-term-loop-others : goal.decreases-term-loop-others
-decreases-term-loop-others l = length l.rest
-
-abbrev pub invariant-simple-loop-others : goal.invariant-simple-loop-others
-invariant-simple-loop-others l = record {
-  reads : (q : Reading Expr) → More (at.sum_turns l.self.extent) l.rest (with_operands (expr_pos (expr_of l.first-inside)) (expr_of l.first-inside) l.others.items) q → Reads (at.at_simple l.self.extent) l.tokens q;
-  shorter : length l.rest < length l.tokens;
-}
-
-abbrev pub decreases-simple-loop-others : goal.decreases-simple-loop-others
-decreases-simple-loop-others l = length l.rest
-
-abbrev pub invariant-chain-loop-others : goal.invariant-chain-loop-others
-invariant-chain-loop-others l = record {
-  reads : (q : Reading Expr) → More (at.chain_turns l.self.extent l.operator) l.rest (joined (expr_pos (expr_of l.first-inside)) l.operator (expr_of l.first-inside) l.others.items) q → Reads (at.at_chain l.self.extent l.operator (expr_of l.first-inside)) l.tokens q;
-  shorter : length l.rest < length l.tokens;
-}
-
-abbrev pub decreases-chain-loop-others : goal.decreases-chain-loop-others
-decreases-chain-loop-others l = length l.rest
+abbrev pub decreases-relations-loop-others : goal.decreases-relations-loop-others
+decreases-relations-loop-others l = length l.rest
