@@ -1,0 +1,15 @@
+//! What names of a generic's text are in an instance (Ada RM 2012, 3.5, 4.9, 12.3): the values of static
+//! expressions and the bounds of ranges, as the definitions of ada_meaning have them of the program that
+//! contracts see. There is none where a part leaves the base range of the integer types.
+//!
+//! The contract that the layers above use: [`number_in`] is `static_value`, [`bounds_in`] is
+//! `static_bounds`, and [`constants_in`] is `constant_values`, each value computed once and in order.
+#![tactic(auto)]
+
+mod arithmetic;
+mod constants;
+mod known;
+mod values;
+
+pub use constants::constants_in;
+pub use values::{bounds_in, number_in};
