@@ -1,3 +1,5 @@
+use Rattle.std.proofs.Common.{arith}
+use Rattle.std.proofs.lemmas.Grind.{common_steps}
 use Rattle.std.proofs.Common.{◌≡◌, ◌∙◌, List, Some, ap, sym, length}
 use Rattle.exemptions.specs.declared.mark.Mark.{Mark}
 use Rattle.exemptions.specs.declared.mark.Mark.TheVariants as mark
@@ -26,3 +28,9 @@ returns-clause-placed c =
     let none : length c.loop-after.rest.now ≡ 0 = c.in_default.ensures.cases in
     let all = all_done c.loop-after.regions.items c.loop-after.opened c.loop-after.rest.now c.args.tokens.now c.loop-after.invariant none c.in_ok-closed.ensures in
     regions_of-placed c.args.tokens.now c.loop-after.regions.items all
+
+pub returns-clause-regions : goal.returns-clause-regions
+returns-clause-regions c = grind (arith, common_steps) steps 2000000
+
+pub returns-in_err-closed-clause-fault : goal.returns-in_err-closed-clause-fault
+returns-in_err-closed-clause-fault c = grind (arith, common_steps) steps 2000000

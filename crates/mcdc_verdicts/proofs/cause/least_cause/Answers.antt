@@ -1,3 +1,5 @@
+use Rattle.std.proofs.Common.{arith}
+use Rattle.std.proofs.lemmas.Grind.{common_steps}
 use Rattle.std.proofs.Common.{◌≡◌, [], None, drop, sym, ap, subst, ◌∙◌}
 use Rattle.std.proofs.lemmas.List.{drop_all}
 use Rattle.decision_meaning.specs.Expr.{size}
@@ -19,3 +21,6 @@ returns c = λ e is.
     ap (λ vs. best_of test vs vectors (pair_view c.loop-v.best)) (sym none) ∙ c.loop-v.invariant.1 e is in
     subst (λ answer. IsLeastPair (size e) test vectors answer) (sym found)
     (search_finds e test vectors (subst (λ es. Everywhere (IsPathVector es) vectors) is c.requires) words)
+
+pub loop-v-preserved : goal.loop-v-preserved
+loop-v-preserved c = grind (arith, common_steps) steps 2000000

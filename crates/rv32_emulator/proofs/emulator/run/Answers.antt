@@ -1,3 +1,4 @@
+use Rattle.std.proofs.lemmas.Grind.{common_steps}
 use Rattle.std.proofs.Common.{◌≡◌, ℕ, ◌+◌, ◌-◌, Some, Err, refl, sym, subst, ◌∙◌, arith, rules}
 use Rattle.cov_base.specs.declared.failure.Failure.TheVariants.{WantOfMemory}
 use Rattle.rv_machine.specs.Objects.{object_image, object_start, object_run}
@@ -104,3 +105,6 @@ returns-in-Trap-clause-object c = c.in_ok-rest.ensures.object ∙ c.loop-done.in
 
 pub returns-clause-object : goal.returns-clause-object
 returns-clause-object c = c.loop-done.invariant.object ∙ sym c.requires.same
+
+pub new-requires : goal.new-requires
+new-requires c = grind (arith, common_steps) steps 2000000
