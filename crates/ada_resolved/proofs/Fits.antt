@@ -1,11 +1,11 @@
 -- The base range is that of 32 bits.
-use Rattle.std.proofs.Common.{◌≡◌, Bool, true, false, ℤ, pos, negsuc, FitsSigned, Option, Some, None, if◌then◌else◌, refl, ap, sym, ◌∙◌, arith}
-use Rattle.std.specs.Result.{OkIff, result_ok}
-use Rattle.std.specs.Int.{w32}
+use Rattle.std.proofs.Common.{◌≡◌, ℕ, Bool, true, false, ℤ, pos, negsuc, unsigned_abs, FitsSigned, Option, Some, None, if◌then◌else◌, refl, ap, sym, ◌∙◌, arith}
+use Rattle.std.specs.Result.{OkIff, result_ok, result_unwrap_or}
+use Rattle.std.specs.Int.{w32, w64, FitsUnsignedBits}
 use Rattle.std.specs.Prelude.{Result, Ok, Err}
 use Rattle.std.proofs.lemmas.Bool.Decides.{nat_tests}
 use Rattle.std.proofs.lemmas.Int.{ints}
-use Rattle.ada_meaning.specs.Arithmetic.{is_within, base_range}
+use Rattle.ada_meaning.specs.Arithmetic.{is_within, base_range, natural}
 use Rattle.ada_meaning.specs.Statics.{in_base}
 
 fits_when : (z : ℤ) → is_within base_range z ≡ true → FitsSigned w32 z
@@ -33,3 +33,10 @@ converted (Err e) z h = by_test (is_within base_range z) refl
 
 pub converted_to : {E : Type 0} (r : Result ℤ E) (y z : ℤ) → OkIff r (FitsSigned w32 y) y → y ≡ z → result_ok r ≡ in_base z
 converted_to r y z h is = converted r y h ∙ ap in_base is
+
+-- a count that is converted, where it is not negative
+pub counted : {E : Type 0} (r : Result ℕ E) (y z : ℤ) → OkIff r (FitsUnsignedBits 64 y) (unsigned_abs y) → FitsSigned w64 y → y ≡ z → result_unwrap_or r 0 ≡ natural z
+counted (Ok n) (pos m) z h small is = h.1 ∙ ap natural is
+counted (Ok n) (negsuc m) z h small is = absurd h.0
+counted (Err e) (pos m) z h small is = absurd (h (omega (arith, small.sfits)))
+counted (Err e) (negsuc m) z h small is = ap natural is

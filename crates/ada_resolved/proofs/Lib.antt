@@ -1,2 +1,4 @@
 pub mod Fits
 pub mod Instances
+pub mod SizeLaws
+pub mod Rows

@@ -1,2 +1,4 @@
 pub mod Known
 pub mod Signs
+pub mod Sizes
+pub mod Table

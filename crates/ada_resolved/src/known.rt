@@ -23,7 +23,7 @@ pub struct Known<'a> {
 }
 
 /// The number of the instance that owns an entity, seen from an instance.
-fn owner_in(instance: u32, owner: Owner) -> u32
+pub fn owner_in(instance: u32, owner: Owner) -> u32
     ensures { result ≡ resolved.owner_in instance (owner_of owner) }
 {
     match owner {

@@ -3,13 +3,16 @@
 //! contracts see. There is none where a part leaves the base range of the integer types.
 //!
 //! The contract that the layers above use: [`number_in`] is `static_value`, [`bounds_in`] is
-//! `static_bounds`, and [`constants_in`] is `constant_values`, each value computed once and in order.
+//! `static_bounds`, and [`constants_in`] is `constant_values`, each value computed once and in order;
+//! [`TypeSizes`] has the sizes of types in words, which are those of the shapes that executions take.
 #![tactic(auto)]
 
 mod arithmetic;
 mod constants;
 mod known;
+mod sizes;
 mod values;
 
 pub use constants::constants_in;
+pub use sizes::{TypeSizes, sizes_are_exact};
 pub use values::{bounds_in, number_in};
