@@ -1,9 +1,8 @@
 -- An image that implements the kernel of a program does what the program means.
-use Rattle.std.proofs.Common.{◌≡◌, ◌≢◌, ℕ, suc, eqb, true, false, ◌+◌, ◌*◌, ◌≤◌, ℤ, List, reverse, Option, Some, None, refl, sym, ap, ◌∙◌, subst, arith, ◌⊎◌, inl, inr}
+use Rattle.std.proofs.Common.{◌≡◌, ℕ, ◌+◌, ◌*◌, ◌≤◌, ℤ, List, reverse, Option, Some, refl, sym, ap, ◌∙◌, subst, arith}
 use Rattle.ada_meaning.specs.Execution as source
 use Rattle.ada_meaning.specs.Execution.{Execution, by_return, by_exception, execution_of, Ends}
 use Rattle.ada_meaning.specs.Program.{Program}
-use Rattle.ada_meaning.specs.Refines as source_refines
 use Rattle.ada_meaning.specs.State.{Seen, Outcome, Gives, Raises, OutOfFuel}
 use Rattle.compiler.specs.Behaves.{number_of, ShowsExecution, Behaves, EndsInTime}
 use Rattle.kernel_code.specs.Implements.{EndedWith, EndsAs, EndsInTime as KernelEndsInTime, Implements}

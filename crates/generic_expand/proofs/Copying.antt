@@ -1,7 +1,7 @@
 -- Copies of subprograms, and refusals.
-use Rattle.std.proofs.Common.{◌≡◌, ℕ, ◌+◌, ◌<◌, ◌≤◌, Bool, true, false, List, [], ◌∷◌, ◌++◌, map, length, get_or, drop, Option, Some, None, if◌then◌else◌, refl, sym, ap, subst, ◌∙◌}
+use Rattle.std.proofs.Common.{◌≡◌, ℕ, ◌+◌, Bool, true, false, List, [], ◌∷◌, ◌++◌, map, Option, Some, None, if◌then◌else◌, refl, sym, ap, subst, ◌∙◌}
 use Rattle.std.specs.Prelude.{nat_eq}
-use Rattle.std.proofs.lemmas.List.{map-append, append_assoc, append-nil, at_drop_more, at_drop_all}
+use Rattle.std.proofs.lemmas.List.{map-append}
 use Rattle.cov_base.specs.declared.failure.Failure.{Failure}
 use Rattle.cov_base.specs.declared.failure.Failure.TheVariants.{WantOfMemory}
 use Rattle.ada_meaning.specs.Bodies.{Body, instances_from, instances_of, bodies_from}
@@ -10,9 +10,8 @@ use Rattle.ada_tree.specs.declared.program.Instance.{Instance}
 use Rattle.ada_tree.specs.declared.program.Subprogram.{Subprogram}
 use Rattle.ada_tree.specs.declared.program.UnitEntry.{UnitEntry}
 use Rattle.ada_tree.specs.Programs.{instance_of, subprogram_of}
-use Rattle.generic_expand.specs.declared.copies.BodyCopy.{BodyCopy}
 use Rattle.generic_expand.specs.declared.fault.ExpandFault.{ExpandFault}
-use Rattle.generic_expand.specs.Copying.{copy_in, in_instance, in_instances, of_subprogram, of_subprograms}
+use Rattle.generic_expand.specs.Copying.{copy_in, in_instances, of_subprogram, of_subprograms}
 use Rattle.generic_expand.specs.Expanded.{copy_of, Refuses, memory_is_out}
 
 -- the copies that are made are the bodies of the program

@@ -1,3 +1,5 @@
+use Rattle.std.proofs.Common.{arith}
+use Rattle.std.proofs.lemmas.Grind.{common_steps}
 use Rattle.std.proofs.lemmas.List.{drop_all}
 use Rattle.compiler.proofs.UnitLaws.{next_of, lexed_more, lexed_all, each_lexed}
 use Rattle.compiler.proofs.units.all_tokens.Goals as goal
@@ -13,3 +15,9 @@ returns-clause-tokens c = lexed_all (rw (drop_all c.loop-file.file c.args.files.
 
 pub returns-clause-lexed : goal.returns-clause-lexed
 returns-clause-lexed c = each_lexed (rw (drop_all c.loop-file.file c.args.files.now c.loop-file-test.false) at c.loop-file.invariant)
+
+pub lex-requires : goal.lex-requires
+lex-requires c = grind (arith, common_steps) steps 2000000
+
+pub returns-in_err-tokens-clause-fault : goal.returns-in_err-tokens-clause-fault
+returns-in_err-tokens-clause-fault c = grind (arith, common_steps) steps 2000000

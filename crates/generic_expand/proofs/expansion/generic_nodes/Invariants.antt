@@ -1,5 +1,5 @@
 -- The nodes so far, and those of the rest.
-use Rattle.std.proofs.Common.{◌≡◌, ◌+◌, ◌≤◌, drop}
+use Rattle.std.proofs.Common.{◌≡◌, ◌+◌, drop}
 use Rattle.generic_expand.specs.Expanded as spec
 use Rattle.generic_expand.proofs.expansion.generic_nodes.Given as goal
 
