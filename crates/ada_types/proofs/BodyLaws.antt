@@ -1,5 +1,5 @@
 -- Bodies and blocks: declarations and the statements behind them.
-use Rattle.std.proofs.Common.{◌≡◌, ℕ, ◌+◌, ◌<◌, length, take, Bool, true, false, ◌&&◌, List, [], ◌∷◌, ◌++◌, Option, Some, None, option_map, is_some, refl, sym, ap, ◌∙◌, subst, arith}
+use Rattle.std.proofs.Common.{◌≡◌, ℕ, ◌+◌, ◌<◌, length, take, Bool, true, false, ◌&&◌, List, [], ◌∷◌, ◌++◌, Result, Ok, Err, Option, Some, None, option_map, is_some, refl, sym, ap, ◌∙◌, subst, arith}
 use Rattle.std.specs.List.{list_all}
 use Rattle.std.specs.Option.{option_and_then}
 use Rattle.std.proofs.lemmas.Bool.{false≢true}
@@ -11,17 +11,18 @@ use Rattle.ada_syntax.specs.StatementView.{handlers_of}
 use Rattle.ada_syntax.specs.declared.declaration.Declaration.{Declaration}
 use Rattle.ada_syntax.specs.declared.statement.Handler.{Handler}
 use Rattle.ada_meaning.specs.Tree as tree
+use Rattle.ada_tree.specs.declared.statement.Statement.{Statement as TypedStatement}
 use Rattle.ada_names.specs.Library.{statements_in}
 use Rattle.ada_names.specs.Naming.{declarations_in}
 use Rattle.ada_names.specs.ScopeView.{enclosing}
 use Rattle.ada_expressions.specs.declared.fault.TypeFault.{TypeFault}
 use Rattle.ada_expressions.specs.Answer.{mistyped}
 use Rattle.ada_types.specs.declared.context.Declared.{Declared}
-use Rattle.ada_types.specs.Typing.{Context, Elaborated, of_block, block_of, has_no_handlers, objects_in_all, objects_in_handled, typed_declarations, typed_statements, typed_handled, typed_statement}
+use Rattle.ada_types.specs.Typing.{Context, Elaborated, of_block, block_of, has_no_handlers, declared_by_all, objects_in, objects_in_all, objects_in_handled, typed_declarations, typed_statements, typed_handled, typed_statement}
 use Rattle.ada_types.specs.Rules as rule
 use Rattle.ada_types.specs.Rules.{Construct, Among, here, holds, parts_of_block, sequence_behind, declarations, sequence, statement}
 use Rattle.ada_types.specs.Answer.{Refused}
-use Rattle.ada_types.specs.TypingCode.{SomeRefused, one_of, Passed, Grown, typed_parts}
+use Rattle.ada_types.specs.TypingCode.{SomeRefused, one_of, Passed, Grown, IsBlock, Types, typed_parts}
 use Rattle.ada_types.proofs.Blame.{breaks, of_some}
 use Rattle.ada_types.proofs.DeclarationLaws.{so_far}
 
@@ -75,13 +76,16 @@ parts_there k ds ss b typed = by (typed_declarations k ds) typed
     by None h = ap (λ x. is_some x) h
     by (Some x) h = and_true (is_some (typed_statements x.context ss)) ∙ inside x.declarations (typed_statements x.context ss) h
 
+handled_objects : (h : source.Handled) → objects_in_handled h ≡ objects_in_all (statements_in h)
+handled_objects (handled ss hs) = refl
+
 -- block statements, which have no handlers so far
 module _ (k : Context) (p : Pos) (ds : Option (List Declaration)) (h : source.Handled) where
   pub in_block : {f : Failure TypeFault} → SomeRefused (parts_of_block (of_block k) (declarations_in ds) (statements_in h)) f → Refused (statement k (source.block p ds h)) f
   in_block r = of_some (statement k (source.block p ds h)) r
 
   module _ (b : tree.Block) (typed : typed_parts (of_block k) (declarations_in ds) (statements_in h) ≡ Some b) where
-    pub handlers_later : {f : Failure TypeFault} → has_no_handlers h ≡ false → f ≡ mistyped p → Refused (statement k (source.block p ds h)) f
+    handlers_later : {f : Failure TypeFault} → has_no_handlers h ≡ false → f ≡ mistyped p → Refused (statement k (source.block p ds h)) f
     handlers_later some at = breaks (statement k (source.block p ds h)) at
         (parts_there (of_block k) (declarations_in ds) (statements_in h) b typed) (by (typed_declarations (of_block k) (declarations_in ds)))
       where
@@ -93,7 +97,7 @@ module _ (k : Context) (p : Pos) (ds : Option (List Declaration)) (h : source.Ha
         by None = refl
         by (Some x) = ap (λ o. is_some (option_map (λ ss. tree.block_statement (block_of x.declarations ss)) o)) (untyped x.context h some)
 
-    pub a_block : has_no_handlers h ≡ true → typed_statement k (source.block p ds h) ≡ Some (tree.block_statement b)
+    a_block : has_no_handlers h ≡ true → typed_statement k (source.block p ds h) ≡ Some (tree.block_statement b)
     a_block none = by (typed_declarations (of_block k) (declarations_in ds)) typed
       where
         same : (j : Context) (g : source.Handled) → has_no_handlers g ≡ true → typed_handled j g ≡ typed_statements j (statements_in g)
@@ -111,8 +115,14 @@ module _ (k : Context) (p : Pos) (ds : Option (List Declaration)) (h : source.Ha
         by (Some x) e = ap (λ o. option_map (λ ss. tree.block_statement (block_of x.declarations ss)) o) (same x.context h none)
             ∙ inside x.declarations (typed_statements x.context (statements_in h)) e
 
-pub handled_objects : (h : source.Handled) → objects_in_handled h ≡ objects_in_all (statements_in h)
-handled_objects (handled ss hs) = refl
+    pub block_typed : (old new : Declared) (r : Result TypedStatement (Failure TypeFault)) → IsBlock p h b r →
+        Passed (declared_by_all (declarations_in ds) + objects_in_all (statements_in h)) old new →
+        Types (λ x. x) (typed_statement k (source.block p ds h)) (objects_in (source.block p ds h)) (statement k (source.block p ds h)) old new r
+    block_typed old new (Ok s) is passed = record {
+      form = a_block is.0 ∙ ap Some (sym is.1);
+      passed = subst (λ m. Passed (declared_by_all (declarations_in ds) + m) old new) (sym (handled_objects h)) passed;
+    }
+    block_typed old new (Err f) is passed = handlers_later is.0 is.1
 
 -- the same of a block
 pub moved : (P : Context → List Declaration → Statements → Type 0) {j k : Context} {ds es : List Declaration} {ss ts : Statements} → j ≡ k → ds ≡ es → ss ≡ ts →

@@ -22,8 +22,8 @@ use Rattle.ada_types.specs.declared.context.Around.{Around}
 use Rattle.ada_types.specs.declared.context.Declared.{Declared}
 use Rattle.ada_types.specs.Typing.{Context, Looping, inner, regions_of, past, of_block, new_value, tested_in}
 use Rattle.ada_types.specs.Rules.{Construct, phrase, value, decision_in}
-use Rattle.ada_types.specs.Answer.{Refused, Shows}
-use Rattle.ada_types.specs.TypingCode.{visible_regions, context_with, looping_of, context, opened, Passed, Types}
+use Rattle.ada_types.specs.Answer.{Refused, no_memory, Shows}
+use Rattle.ada_types.specs.TypingCode.{visible_regions, context_with, looping_of, context, opened, Passed, Kept, Types, Builds}
 use Rattle.ada_types.proofs.Blame.{in_phrase, phrase_shown}
 
 pub regions_are : (seen : Region) (locals : List Region) → innermost (locals ++ regions_in seen) ∷ enclosing (locals ++ regions_in seen) ≡ locals ++ regions_in seen
@@ -41,6 +41,14 @@ context_is rs qs os ps n m l places e h i = ap (λ x. context_with x os n l plac
 pub past_is : (a : Around) (n : ℕ) (old new : Declared) → Passed n old new → context a new ≡ past (context a old) n
 past_is a n old new p = context_is (visible_regions a new) (visible_regions a old) new.objects.items old.objects.items new.next (old.next + n)
     (looping_of a.looping) a.places.now (ap (λ ls. ls ++ regions_in a.seen.now) p.locals) p.objects p.next
+
+pub past_more : (k : Context) (n m : ℕ) → past (past k n) m ≡ past k (n + m)
+past_more k n m =
+    let count : k.next + n + m ≡ k.next + (n + m) = omega arith in
+    ap (λ x. at x) count
+  where
+    at : ℕ → Context
+    at x = record { outer = k.outer; region = k.region; objects = k.objects; next = x; looping = k.looping; places = k.places }
 
 -- before a block, and inside it before its declarations
 pub opened_is : (a : Around) (d : Declared) → opened a d ≡ of_block (context a d)
@@ -60,13 +68,19 @@ nothing_passed d = record { locals = refl; objects = refl; next = omega arith }
 pub then_passed : (n m : ℕ) (a b c : Declared) → Passed n a b → Passed m b c → Passed (n + m) a c
 then_passed n m a b c p q = record { locals = q.locals ∙ p.locals; objects = q.objects ∙ p.objects; next = omega (arith, p.next, q.next) }
 
-pub passed_as : (n m : ℕ) (a b : Declared) → n ≡ m → Passed n a b → Passed m a b
-passed_as n m a b e p = subst (λ k. Passed k a b) e p
-
 -- a form of what declares no objects
 pub shown : {A B : Type 0} (view : A → B) (typed : Option B) (c : Construct) (d : Declared) (r : Result A (Failure TypeFault)) → Shows view typed c r → Types view typed 0 c d d r
 shown view typed c d (Ok x) h = record { form = h; passed = nothing_passed d }
 shown view typed c d (Err f) h = h
+
+-- the form of what is built of a part
+pub built : {A B C D : Type 0} (f : B → A) (seen : B → D) (part : Option D) (m : ℕ) (d : Construct) (mid : Declared) (view : A → C) (typed : Option C) (n : ℕ) (c : Construct) (old new : Declared)
+    (r : Result B (Failure TypeFault)) (s : Result A (Failure TypeFault)) → Builds f r s → Types seen part m d mid new r →
+    ((x : B) → Kept part (seen x) m mid new → Kept typed (view (f x)) n old new) → ((e : Failure TypeFault) → Refused d e → Refused c e) → Types view typed n c old new s
+built f seen part m d mid view typed n c old new (Ok x) (Ok y) b p g h = subst (λ z. Kept typed (view z) n old new) (sym b) (g x p)
+built f seen part m d mid view typed n c old new (Ok x) (Err e) b p g h = subst (λ z. Refused c z) (sym b) no_memory
+built f seen part m d mid view typed n c old new (Err e) (Ok y) b p g h = absurd b
+built f seen part m d mid view typed n c old new (Err e) (Err k) b p g h = subst (λ z. Refused c z) (sym b) (h e p)
 
 -- names and expressions in a statement, where nothing is hidden
 module _ (a : Around) (d : Declared) (hidden : Region) (none : hidden ≡ []) (os : List DeclaredObject) (same : os ≡ d.objects.items) where

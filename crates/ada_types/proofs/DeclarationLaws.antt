@@ -28,12 +28,15 @@ use Rattle.ada_expressions.specs.Kinds.{is_variable}
 use Rattle.ada_types.specs.declared.context.Around.{Around}
 use Rattle.ada_types.specs.declared.context.Declared.{Declared}
 use Rattle.ada_types.specs.Typing.{Context, Looping, inner, statement_label, indicated, new_value, Elaborated, behind, objects_of, without_values, declared_as, declared_set, declared_by_all, typed_kind, typed_declaration, with_earlier, typed_declarations}
-use Rattle.ada_types.specs.TypingCode.{SomeRefused, one_of, memory_refused, set_to, declared_objects, visible_regions, context_with, looping_of, context, Grown}
+use Rattle.ada_types.specs.TypingCode.{SomeRefused, one_of, memory_refused, set_to, declared_objects, visible_regions, context_with, looping_of, context, names_in, objects_from, DeclaredTogether, Grown, Added}
 use Rattle.ada_types.specs.Rules as rule
 use Rattle.ada_types.specs.Rules.{Construct, Among, here, parts, parts_of_kind, value_behind, declarations_behind, holds, indication, declaration, declarations}
 use Rattle.ada_types.specs.Answer.{Refused, no_memory}
 use Rattle.ada_types.proofs.Blame.{up, breaks, drop_item}
 use Rattle.ada_types.proofs.ContextLaws.{context_is}
+
+abbrev pub so_far : List tree.Declaration → Context → Elaborated
+so_far ds k = record { declarations = ds; context = k }
 
 -- what a declaration of these objects comes to
 abbrev pub comes_to : Context → List Identifier → Constancy → ScalarSubtype → List tree.Declaration → Elaborated
@@ -88,9 +91,13 @@ module _ (k : Context) (d : Declaration) (is : List Identifier) (c : Constancy) 
         breaks (declaration k d) at (ap (λ cs. list_all holds cs) parts_are ∙ rw (some, all) refl) test
 
     pub now_declared : (l : tree.Label) (ds : List tree.Declaration) → l ≡ statement_label k d.pos →
-        declared_objects k.places.decisions (inner k is) k.objects l is (first_of k c t) i ≡ Some ds → typed_declaration k d ≡ Some (comes_to k is c t ds)
-    now_declared l ds label some = typed_as ∙ ap (λ x. option_map (comes_to k is c t) x)
-        (ap (λ m. declared_objects k.places.decisions (inner k is) k.objects m is (first_of k c t) i) (sym label) ∙ some)
+        declared_objects k.places.decisions (inner k is) k.objects l is (first_of k c t) i ≡ Some ds → DeclaredTogether k d (first_of k c t) ds
+    now_declared l ds label some = record {
+      number = refl;
+      form = typed_as ∙ (ap (λ x. option_map (comes_to k is c t) x)
+          (ap (λ m. declared_objects k.places.decisions (inner k is) k.objects m is (first_of k c t) i) (sym label) ∙ some)
+          ∙ ap (λ x. Some (comes_to k (names_in x) c t ds)) (sym kind));
+    }
 
 -- a context with objects in its innermost region
 placed : (seen : Region) (ls : List Region) (n : ℕ) (is : List Identifier) (os : List DeclaredObject) (m : ℕ) (l : Looping) (places : Places) → IsOpen ls →
@@ -115,15 +122,34 @@ behind_is a old new is c t start locals objects next =
     (looping_of a.looping) a.places.now (ap (λ ls. ls ++ regions_in a.seen.now) locals) objects next
     ∙ placed a.seen.now old.locals n is os (old.next + length is) (looping_of a.looping) a.places.now start
 
-pub declared_grown : (old new : Declared) (k : DeclarationKind) (is : List Identifier) (c : Constancy) (s : SubtypeIndication) (i : Option Initial) (more : List DeclaredObject) →
-    k ≡ declares.Object is c s i → new.locals ≡ with_objects (length old.objects.items) is old.locals → new.objects.items ≡ old.objects.items ++ more →
-    new.next ≡ old.next + length is → Grown (declared_by k) old new
-declared_grown old new k is c s i more kind locals objects next = record {
-  locals = locals ∙ ap (λ r. r ∷ enclosing old.locals) (sym (ap (λ ls. innermost ls) locals));
-  more = more;
-  objects = objects;
-  next = next ∙ ap (λ x. old.next + declared_by x) (sym kind);
-}
+counted : (k : DeclarationKind) → length (names_in k) ≡ declared_by k
+counted (declares.Type n t) = refl
+counted (declares.Subtype n s) = refl
+counted (declares.Object is c s i) = refl
+counted (declares.Exception is) = refl
+counted (declares.Pragma p) = refl
+
+-- the objects of a declaration are added
+pub now_added : (a : Around) (old new : Declared) (d : Declaration) (js : List Identifier) (o : DeclaredObject) (ds : List tree.Declaration) → IsOpen old.locals →
+    DeclaredTogether (context a old) d o ds → js ≡ names_in d.kind → new.locals ≡ with_objects (length old.objects.items) js old.locals →
+    new.objects.items ≡ old.objects.items ++ objects_from js o → new.next ≡ old.next + length js → Added a d old new ds
+now_added a old new d js o ds start first names locals objects next =
+    let is = names_in d.kind in
+    let os = old.objects.items in
+    let more = objects_of old.next is o.constancy o.subtype in
+    let placed : new.locals ≡ with_objects (length os) is old.locals = locals ∙ ap (λ (xs : List Identifier). with_objects (length os) xs old.locals) names in
+    let grown : new.objects.items ≡ os ++ more = objects ∙ (ap (λ (xs : List Identifier). os ++ objects_from xs o) names
+    ∙ ap (λ n. os ++ objects_of n is o.constancy o.subtype) first.number) in
+    let numbered : new.next ≡ old.next + length is = next ∙ ap (λ (xs : List Identifier). old.next + length xs) names in
+    record {
+      form = first.form ∙ ap (λ (j : Context). Some (so_far ds j)) (sym (behind_is a old new is o.constancy o.subtype start placed grown numbered));
+      grown = record {
+        locals = placed ∙ ap (λ r. r ∷ enclosing old.locals) (sym (ap (λ ls. innermost ls) placed));
+        more = more;
+        objects = grown;
+        next = numbered ∙ ap (λ n. old.next + n) (counted d.kind);
+      };
+    }
 
 -- other declarations have no typed form yet
 pub other_declaration : (k : Context) (d : Declaration) {f : Failure TypeFault} →
@@ -154,9 +180,6 @@ after_declaration k ds i d x {f} h is typed r =
     let among : Among (declarations x.context rest) (parts (declarations k (d ∷ rest))) = rule.behind
     (subst (λ o. Among (declarations x.context rest) (declarations_behind o rest)) (sym typed) here) in
     subst (λ y. Refused (declarations k y) f) (sym (drop_item ds i d h is)) (up among r)
-
-abbrev pub so_far : List tree.Declaration → Context → Elaborated
-so_far ds k = record { declarations = ds; context = k }
 
 joined : (xs ys : List tree.Declaration) (j k : Context) (o : Option Elaborated) →
     option_map (with_earlier (so_far xs j)) (option_map (with_earlier (so_far ys k)) o) ≡ option_map (with_earlier (so_far (xs ++ ys) k)) o

@@ -1,16 +1,17 @@
 -- Whole programs: how they are refused, and which they are.
-use Rattle.std.proofs.Common.{◌≡◌, ℕ, true, false, List, ◌∷◌, Some, None, refl}
+use Rattle.std.proofs.Common.{◌≡◌, ℕ, true, false, List, ◌∷◌, Some, None, refl, sym, ap, subst, if◌then◌else◌}
 use Rattle.std.specs.Prelude.{nat_le}
+use Rattle.std.specs.Str.{str_to_ascii_lowercase}
 use Rattle.cov_base.specs.declared.failure.Failure.{Failure}
 use Rattle.ada_syntax.specs.declared.unit.Unit.{Unit as LibraryUnit}
-use Rattle.ada_meaning.specs.Program.{Subprogram}
+use Rattle.ada_meaning.specs.Program.{Subprogram, Program}
 use Rattle.ada_names.specs.declared.fault.NameFault.{NameFault}
 use Rattle.ada_names.specs.Naming.{named, main_from}
 use Rattle.ada_names.specs.Rules as names
 use Rattle.ada_names.specs.Answer as naming
 use Rattle.ada_expressions.specs.declared.fault.TypeFault.{TypeFault}
 use Rattle.ada_types.specs.Typing.{too_many_words, block_words, word_limit}
-use Rattle.ada_types.specs.Legal.{typed, past_limits, program_with, typed_program}
+use Rattle.ada_types.specs.Legal.{typed, past_limits, program_with, program_of_main, typed_program, elaborated}
 use Rattle.ada_types.specs.Rules.{program}
 use Rattle.ada_types.specs.Answer.{Refused, breaks_a_rule, no_memory}
 use Rattle.ada_types.specs.CheckCode.{naming_of, typing_of}
@@ -24,9 +25,16 @@ pub refused_by_types : (us : List LibraryUnit) (main : List ℕ) (f : Failure Ty
 refused_by_types us main _ h (breaks_a_rule o) = breaks_types h o
 refused_by_types us main _ h no_memory = memory_is_out
 
-pub a_program : (us : List LibraryUnit) (main : List ℕ) (m : ℕ) (ss : List Subprogram) → main_from 0 us main ≡ Some m → typed us ≡ Some ss → past_limits us ss ≡ None →
-    typed_program us main ≡ Some (program_with m ss)
-a_program us main m ss first all few = rw (first, all, few) refl
+pub a_program : (us : List LibraryUnit) (m : ℕ) (ss : List Subprogram) (p : Program) → typed us ≡ Some ss → past_limits us ss ≡ None → p ≡ program_with m ss →
+    program_of_main us m ≡ Some p
+a_program us m ss p all few made = rw (all, few) (ap Some (sym made))
+
+pub named_program : (us : List LibraryUnit) (main : List ℕ) (m : ℕ) (p : Program) → main_from 0 us main ≡ Some m → program_of_main us m ≡ Some p → typed_program us main ≡ Some p
+named_program us main m p first made = rw (first) made
+
+pub legal_program : (us : List LibraryUnit) (main lower : List ℕ) (p : Program) → lower ≡ str_to_ascii_lowercase main → named us lower ≡ true → typed_program us lower ≡ Some p →
+    elaborated us main ≡ Some p
+legal_program us main lower p same hold made = subst (λ l. (if named us l then typed_program us l else None) ≡ Some p) same (rw (hold) made)
 
 pub first_too_large : (u : LibraryUnit) (us : List LibraryUnit) (s : Subprogram) (ss : List Subprogram) → nat_le (block_words s.body) word_limit ≡ false →
     too_many_words (u ∷ us) (s ∷ ss) ≡ Some u.item_pos

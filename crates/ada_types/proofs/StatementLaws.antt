@@ -1,5 +1,5 @@
 -- Refusals of statements, and how the code goes through them.
-use Rattle.std.proofs.Common.{◌≡◌, ℕ, ◌+◌, ◌<◌, ◌≤◌, length, List, [], ◌∷◌, ◌++◌, drop, map, Result, Option, Some, None, option_map, refl, sym, ap, ◌∙◌, subst}
+use Rattle.std.proofs.Common.{◌≡◌, ℕ, ◌+◌, ◌<◌, ◌≤◌, length, List, [], ◌∷◌, ◌++◌, drop, map, Result, Ok, Err, Option, Some, None, option_map, refl, sym, ap, ◌∙◌, subst}
 use Rattle.std.specs.Option.{option_and_then}
 use Rattle.std.proofs.Math.ListN.{get_or}
 use Rattle.std.proofs.lemmas.List.{append_assoc, at_drop_all}
@@ -15,10 +15,15 @@ use Rattle.ada_syntax.specs.declared.declaration.Pragma.{Pragma}
 use Rattle.ada_syntax.specs.declared.name.Identifier.{Identifier}
 use Rattle.ada_syntax.specs.declared.statement.Branch.{Branch}
 use Rattle.ada_syntax.specs.declared.statement.Direction.{Direction}
+use Rattle.ada_syntax.specs.declared.statement.LoopScheme.{LoopScheme}
 use Rattle.ada_syntax.specs.declared.statement.LoopScheme.TheVariants as scheme
 use Rattle.ada_meaning.specs.Tree as tree
+use Rattle.std.specs.declared.vec.Vec.{Vec}
+use Rattle.std.specs.declared.alloc.Global.{Global}
 use Rattle.ada_tree.specs.View as view
+use Rattle.ada_tree.specs.View.{label_of}
 use Rattle.ada_tree.specs.declared.statement.Branch.{Branch as TypedBranch}
+use Rattle.ada_tree.specs.declared.statement.Decision.{Decision}
 use Rattle.ada_tree.specs.declared.statement.Statement.{Statement as TypedStatement}
 use Rattle.ada_expressions.specs.declared.fault.TypeFault.{TypeFault}
 use Rattle.ada_expressions.specs.declared.denoted.Denoted.{Denoted}
@@ -33,9 +38,9 @@ use Rattle.ada_types.specs.Typing.{Context, Chosen, regions_of, past, in_loop, s
 use Rattle.ada_types.specs.Rules as rule
 use Rattle.ada_types.specs.Rules.{Construct, here, Among, parts, value_assigned, phrase, value, statement, sequence, branches, decision_in}
 use Rattle.ada_types.specs.Answer.{Refused, no_memory, Shows}
-use Rattle.ada_types.specs.TypingCode.{SomeRefused, one_of, memory_refused, Passed, Types, chosen_in, chosen_of, context, parts_of_branch}
+use Rattle.ada_types.specs.TypingCode.{SomeRefused, one_of, memory_refused, Passed, Types, TypesParts, Builds, RefusesLoop, branch_with, Ways, ways_in, chosen_in, chosen_of, context, parts_of_branch}
 use Rattle.ada_types.proofs.Blame.{up, breaks, drop_item}
-use Rattle.ada_types.proofs.ContextLaws.{past_is, nothing_passed, then_passed, shown}
+use Rattle.ada_types.proofs.ContextLaws.{past_is, past_more, built, nothing_passed, then_passed, shown}
 
 module _ (k : Context) (p : Pos) (n : Name) where
   pub in_call : {f : Failure TypeFault} → Refused (phrase (phrases.name k.places.decisions (regions_of k) k.objects n)) f → Refused (statement k (source.call p n)) f
@@ -113,11 +118,57 @@ module _ (k : Context) (p : Pos) (ss : source.Statements) where
         ∙ (ap (λ x. Some (tree.while_loop x (decision_label k e) t (view.statements_of xs))) (sym label)
         ∙ ap (λ x. Some (tree.while_loop l x t (view.statements_of xs))) (sym own)))
 
+-- what is built of the statements of a loop
+pub at_scheme : (k : Context) (p : Pos) (ss : source.Statements) (old new : Declared) (s : Result TypedStatement (Failure TypeFault)) {x y : LoopScheme} → x ≡ y →
+    Types (λ z. z) (typed_statement k (source.repeat p x ss)) (objects_in_all ss) (statement k (source.repeat p x ss)) old new s →
+    Types (λ z. z) (typed_statement k (source.repeat p y ss)) (objects_in_all ss) (statement k (source.repeat p y ss)) old new s
+at_scheme k p ss old new s same h =
+    subst (λ (x : LoopScheme). Types (λ z. z) (typed_statement k (source.repeat p x ss)) (objects_in_all ss) (statement k (source.repeat p x ss)) old new s) same h
+
+pub bare_loop_built : (k : Context) (p : Pos) (ss : source.Statements) (l : tree.Label) (old new : Declared) (r : Result (Vec tree.Stmt Global) (Failure TypeFault))
+    (s : Result TypedStatement (Failure TypeFault)) → l ≡ statement_label k p → Builds (λ xs. tree.bare_loop l (view.statements_of xs.items)) r s →
+    Types (λ v. v.items) (typed_statements (in_loop k) ss) (objects_in_all ss) (sequence (in_loop k) ss) old new r →
+    Types (λ z. z) (typed_statement k (source.repeat p scheme.Forever ss)) (objects_in_all ss) (statement k (source.repeat p scheme.Forever ss)) old new s
+bare_loop_built k p ss l old new r s label b h =
+    built (λ xs. tree.bare_loop l (view.statements_of xs.items)) (λ v. v.items) (typed_statements (in_loop k) ss) (objects_in_all ss) (sequence (in_loop k) ss) old
+    (λ z. z) (typed_statement k (source.repeat p scheme.Forever ss)) (objects_in_all ss) (statement k (source.repeat p scheme.Forever ss)) old new r s b h
+    (λ xs kept. record { form = a_bare_loop k p ss l xs.items label kept.form; passed = kept.passed }) (λ f q. in_bare_loop k p ss q)
+
+pub while_built : (k : Context) (p : Pos) (ss : source.Statements) (e : Expr) (l : tree.Label) (d : Decision) (old new : Declared) (r : Result (Vec tree.Stmt Global) (Failure TypeFault))
+    (s : Result TypedStatement (Failure TypeFault)) → l ≡ statement_label k p → label_of d.label ≡ decision_label k e → tested_in k e ≡ Some d.test →
+    Builds (λ xs. tree.while_loop l (label_of d.label) d.test (view.statements_of xs.items)) r s →
+    Types (λ v. v.items) (typed_statements (in_loop k) ss) (objects_in_all ss) (sequence (in_loop k) ss) old new r →
+    Types (λ z. z) (typed_statement k (source.repeat p (scheme.While e) ss)) (objects_in_all ss) (statement k (source.repeat p (scheme.While e) ss)) old new s
+while_built k p ss e l d old new r s label own test b h =
+    built (λ xs. tree.while_loop l (label_of d.label) d.test (view.statements_of xs.items)) (λ v. v.items) (typed_statements (in_loop k) ss) (objects_in_all ss) (sequence (in_loop k) ss) old
+    (λ z. z) (typed_statement k (source.repeat p (scheme.While e) ss)) (objects_in_all ss) (statement k (source.repeat p (scheme.While e) ss)) old new r s b h
+    (λ xs kept. record { form = a_while k p ss e l (label_of d.label) d.test xs.items label own test kept.form; passed = kept.passed }) (λ f q. in_while_body k p ss e q)
+
+pub for_built : (k : Context) (p : Pos) (ss : source.Statements) (i : Identifier) (d : Direction) (q : DiscreteRange) (old new : Declared) (r : Result (Vec tree.Stmt Global) (Failure TypeFault))
+    (s : Result TypedStatement (Failure TypeFault)) → RefusesLoop p r s →
+    Types (λ v. v.items) (typed_statements (in_loop k) ss) (objects_in_all ss) (sequence (in_loop k) ss) old new r →
+    Types (λ z. z) (typed_statement k (source.repeat p (scheme.For i d q) ss)) (objects_in_all ss) (statement k (source.repeat p (scheme.For i d q) ss)) old new s
+for_built k p ss i d q old new r (Ok y) b h = absurd b
+for_built k p ss i d q old new (Ok xs) (Err g) b h = for_later k p ss i d q xs.items h.form b
+for_built k p ss i d q old new (Err f) (Err g) b h = subst (λ z. Refused (statement k (source.repeat p (scheme.For i d q) ss)) z) (sym b) (in_for k p ss i d q h)
+
 -- a branch of an if statement
 pub a_branch : (k : Context) (e : Expr) (ss : source.Statements) (m : tree.Label) (t : tree.Test) (xs : List tree.Stmt) → m ≡ decision_label k e →
     tested_in k e ≡ Some t → typed_statements k ss ≡ Some xs → chosen_in k e ss ≡ Some (spec.chosen m t xs)
 a_branch k e ss m t xs own test typed = ap (λ o. option_and_then (λ t. option_map (spec.chosen (decision_label k e) t) (typed_statements k ss)) o) test
     ∙ (ap (λ o. option_map (spec.chosen (decision_label k e) t) o) typed ∙ ap (λ x. Some (spec.chosen x t xs)) (sym own))
+
+pub branch_built : (k : Context) (e : Expr) (ss : source.Statements) (d : Decision) (old new : Declared) (r : Result (Vec tree.Stmt Global) (Failure TypeFault))
+    (s : Result TypedBranch (Failure TypeFault)) → label_of d.label ≡ decision_label k e → tested_in k e ≡ Some d.test → Builds (branch_with d) r s →
+    Types (λ v. v.items) (typed_statements k ss) (objects_in_all ss) (sequence k ss) old new r →
+    TypesParts chosen_of (chosen_in k e ss) (objects_in_all ss) (parts_of_branch k e ss) old new s
+branch_built k e ss d old new (Ok xs) (Ok b) own test built h = record {
+  form = a_branch k e ss (label_of d.label) d.test xs.items own test h.form ∙ ap (λ (c : TypedBranch). Some (chosen_of c)) (sym built);
+  passed = h.passed;
+}
+branch_built k e ss d old new (Ok xs) (Err f) own test built h = subst (λ g. SomeRefused (parts_of_branch k e ss) g) (sym built) memory_refused
+branch_built k e ss d old new (Err f) (Ok b) own test built h = absurd built
+branch_built k e ss d old new (Err f) (Err g) own test built h = subst (λ g. SomeRefused (parts_of_branch k e ss) g) (sym built) (one_of (rule.behind here) h)
 
 in_front : (c a b : Construct) (cs : List Construct) → Among c (a ∷ b ∷ []) → Among c (a ∷ b ∷ cs)
 in_front c a b cs here = here
@@ -131,20 +182,24 @@ module _ (k : Context) (p : Pos) (e : Expr) (ss : source.Statements) (bs : sourc
       (branches (past k (objects_in_all ss)) bs ∷ sequence (past k (objects_in_all ss + objects_in_branches bs)) es ∷ []) a) r
   in_first memory_refused = no_memory
 
-  pub in_others : {f : Failure TypeFault} → Refused (branches (past k (objects_in_all ss)) bs) f → Refused (statement k (source.conditional p e ss bs es)) f
-  in_others r = up (rule.behind (rule.behind here)) r
+  pub in_ways : {j : Context} {f : Failure TypeFault} → j ≡ past k (objects_in_all ss) → SomeRefused (ways_in j bs es) f → Refused (statement k (source.conditional p e ss bs es)) f
+  in_ways {f = f} same r = by (subst (λ (j : Context). SomeRefused (ways_in j bs es) f) same r)
+    where
+      by : {g : Failure TypeFault} → SomeRefused (ways_in (past k (objects_in_all ss)) bs es) g → Refused (statement k (source.conditional p e ss bs es)) g
+      by (one_of {c = c} a q) = up (rule.behind (rule.behind (subst (λ (j : Context). Among c (branches (past k (objects_in_all ss)) bs ∷ sequence j es ∷ []))
+          (past_more k (objects_in_all ss) (objects_in_branches bs)) a))) q
+      by memory_refused = no_memory
 
-  pub in_otherwise : {f : Failure TypeFault} → Refused (sequence (past k (objects_in_all ss + objects_in_branches bs)) es) f →
-      Refused (statement k (source.conditional p e ss bs es)) f
-  in_otherwise r = up (rule.behind (rule.behind (rule.behind here))) r
-
-  pub an_if : (l : tree.Label) (c : Chosen) (cs : List Chosen) (xs : List tree.Stmt) → l ≡ statement_label k p → chosen_in k e ss ≡ Some c →
-      typed_branches (past k (objects_in_all ss)) bs ≡ Some cs → typed_statements (past k (objects_in_all ss + objects_in_branches bs)) es ≡ Some xs →
-      typed_statement k (source.conditional p e ss bs es) ≡ Some (tree.if_statement l (spec.branches_of (c ∷ cs) xs))
-  an_if l c cs xs label first others other =
+  pub an_if : (l : tree.Label) (c : Chosen) (cs : List Chosen) (xs : List tree.Stmt) (old new : Declared) (j : Context) → l ≡ statement_label k p → chosen_in k e ss ≡ Some c →
+      j ≡ past k (objects_in_all ss) → Ways j bs es cs xs old new → typed_statement k (source.conditional p e ss bs es) ≡ Some (tree.if_statement l (spec.branches_of (c ∷ cs) xs))
+  an_if l c cs xs old new j label first same ways =
       let own = statement_label k p in
-      let second = typed_branches (past k (objects_in_all ss)) bs in
-      let third = typed_statements (past k (objects_in_all ss + objects_in_branches bs)) es in
+      let n = objects_in_all ss in
+      let m = objects_in_branches bs in
+      let second = typed_branches (past k n) bs in
+      let third = typed_statements (past k (n + m)) es in
+      let others : second ≡ Some cs = ap (λ (i : Context). typed_branches i bs) (sym same) ∙ ways.others in
+      let other : third ≡ Some xs = ap (λ (i : Context). typed_statements i es) (sym (ap (λ (i : Context). past i m) same ∙ past_more k n m)) ∙ ways.otherwise in
       ap (λ o. conditional own o second third) first
       ∙ (ap (λ o. conditional own (Some c) o third) others
       ∙ (ap (λ o. conditional own (Some c) (Some cs) o) other ∙ ap (λ m. Some (tree.if_statement m (spec.branches_of (c ∷ cs) xs))) (sym label)))

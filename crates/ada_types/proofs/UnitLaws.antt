@@ -1,17 +1,20 @@
 -- Refusals of units, and how the code goes through them.
-use Rattle.std.proofs.Common.{◌≡◌, ℕ, ◌+◌, ◌<◌, length, Result, Ok, Err, true, false, List, [], ◌∷◌, ◌++◌, map, drop, Option, Some, None, option_map, is_some, refl, sym, ap, ◌∙◌, subst}
-use Rattle.std.specs.Option.{option_and_then}
+use Rattle.std.proofs.Common.{◌≡◌, ℕ, ◌+◌, ◌<◌, length, Result, Ok, Err, true, List, [], ◌∷◌, ◌++◌, map, drop, Option, Some, None, option_map, is_some, refl, sym, ap, ◌∙◌, subst, if◌then◌else◌}
+use Rattle.std.specs.Option.{option_and_then, ok_or}
 use Rattle.std.specs.declared.vec.Vec.{Vec}
 use Rattle.std.specs.declared.alloc.Global.{Global}
 use Rattle.std.proofs.Math.ListN.{get_or}
 use Rattle.std.proofs.lemmas.Bool.{false≢true}
 use Rattle.cov_base.specs.declared.failure.Failure.{Failure}
+use Rattle.ada_syntax.specs.StatementTree.{Statements}
+use Rattle.ada_syntax.specs.declared.declaration.Declaration.{Declaration}
+use Rattle.ada_syntax.specs.declared.unit.LibraryItem.{LibraryItem}
 use Rattle.ada_syntax.specs.declared.unit.Unit.{Unit as LibraryUnit}
 use Rattle.ada_meaning.specs.Tree as tree
 use Rattle.ada_meaning.specs.Program as meaning
 use Rattle.ada_tree.specs.declared.program.Subprogram.{Subprogram}
 use Rattle.ada_names.specs.Names.{Region}
-use Rattle.ada_names.specs.Library.{seen, regions_in, declarations_of_item, statements_of_item}
+use Rattle.ada_names.specs.Library.{regions_in, declarations_of_item, statements_of_item}
 use Rattle.ada_names.specs.Naming.{library_of}
 use Rattle.ada_places.specs.declared.places.Places.{Places}
 use Rattle.ada_places.specs.Places.{all_places_of}
@@ -29,11 +32,12 @@ use Rattle.ada_tree.specs.declared.program.Raisable.{Raisable}
 use Rattle.ada_tree.specs.declared.types.CompositeType.{CompositeType}
 use Rattle.ada_types.specs.Typing.{Context, Elaborated, outside_loops, context_of, block_of, typed_declarations, typed_statements, procedure_of, typed_body, is_plain_item, typed_unit, typed_units}
 use Rattle.ada_types.specs.Legal.{typed, program_with}
-use Rattle.ada_types.specs.TypingCode.{SomeRefused, typed_parts, ShowsUnits, subprograms_view}
+use Rattle.ada_types.specs.declared.context.Declared.{Declared}
+use Rattle.ada_types.specs.TypingCode.{SomeRefused, TypesParts, ShowsBlock, typed_parts, plain_procedure, ShowsUnits, subprograms_view}
 use Rattle.ada_types.specs.Rules.{parts_of_block, unit, units_from, program}
 use Rattle.ada_types.specs.Answer.{Refused, Shows}
-use Rattle.ada_types.proofs.Blame.{breaks, drop_item, some_first, some_rest, of_some}
-use Rattle.ada_types.proofs.BodyLaws.{parts_there}
+use Rattle.ada_types.proofs.Blame.{drop_item, shows_viewed, some_first, some_rest, of_some}
+use Rattle.ada_types.proofs.BodyLaws.{moved, parts_there}
 use Rattle.ada_types.proofs.StatementLaws.{later}
 
 -- a subprogram with this body
@@ -41,9 +45,13 @@ abbrev pub procedure_with : tree.Block → meaning.Subprogram
 procedure_with b = record { generic = None; parameters = []; body = b }
 
 -- as a typed subprogram, whose types there are none to unfold
-pub procedure_made : (b : tree.Block) (qs : List Parameter) → qs ≡ []
+procedure_made : (b : tree.Block) (qs : List Parameter) → qs ≡ []
     → Some (procedure_with b) ≡ Some (subprogram_of [] (record { generic = None; parameters = qs; body = b }))
 procedure_made b qs none = λ i. Some (record { generic = None; parameters = map (parameter_of []) (sym none i); body = sym (block_stays b) i })
+
+pub plain_made : (item : LibraryItem) (b : tree.Block) (qs : List Parameter) → qs ≡ [] → is_plain_item item ≡ true →
+    Some (subprogram_of [] (record { generic = None; parameters = qs; body = b })) ≡ plain_procedure item b
+plain_made item b qs none plain = sym (procedure_made b qs none) ∙ sym (ap (λ p. if p then Some (procedure_with b) else None) plain)
 
 -- a program without packages, of its parts
 pub program_made : (main : ℕ) (subprograms ss : List Subprogram) (types : List CompositeType) (objects : List LibraryObject) (constants : List GenericConstant)
@@ -68,28 +76,27 @@ program_made main subprograms ss types objects constants instances exceptions ra
   exceptions = map raisable_of (r i);
 }
 
--- before the first declaration
-abbrev pub started : List Region → Region → List DeclaredObject → Places → Context
-started locals seen objects places =
-    record { outer = locals ++ regions_in seen; region = []; objects = objects; next = 0; looping = outside_loops; places = places }
+-- the block of a unit, before whose first declaration there are no regions of its own and no objects
+module _ (sees : Region) (places : Places) (item : LibraryItem) (locals : List Region) (objects : List DeclaredObject) where
+  abbrev pub started : List Region → List DeclaredObject → Context
+  started ls os = record { outer = ls ++ regions_in sees; region = []; objects = os; next = 0; looping = outside_loops; places = places }
+
+  pub block_shown : (ds : List Declaration) (ss : Statements) (m : ℕ) (old new : Declared) (r : Result tree.Block (Failure TypeFault)) → locals ≡ [] → objects ≡ [] →
+      ds ≡ declarations_of_item item → ss ≡ statements_of_item item →
+      TypesParts (λ x. x) (typed_parts (started locals objects) ds ss) m (parts_of_block (started locals objects) ds ss) old new r → ShowsBlock sees places item r
+  block_shown ds ss m old new (Ok b) none empty own also h = moved (λ k xs ys. typed_parts k xs ys ≡ Some b)
+      (ap (λ ls. started ls objects) none ∙ ap (λ os. started [] os) empty) own also h.form
+  block_shown ds ss m old new (Err f) none empty own also h = moved (λ k xs ys. SomeRefused (parts_of_block k xs ys) f)
+      (ap (λ ls. started ls objects) none ∙ ap (λ os. started [] os) empty) own also h
 
 module _ (library : Region) (places : Places) (n : ℕ) (u : LibraryUnit) where
-  pub start_is : (locals : List Region) (s : Region) (objects : List DeclaredObject) → locals ≡ [] → s ≡ seen library n u → objects ≡ [] →
-      started locals s objects places ≡ context_of library places n u
-  start_is locals s objects none sees empty = ap (λ ls. started ls s objects places) none
-      ∙ (ap (λ (r : Region). started [] r objects places) sees ∙ ap (λ os. started [] (seen library n u) os places) empty)
-
   pub in_body : {f : Failure TypeFault} → SomeRefused (parts_of_block (context_of library places n u) (declarations_of_item u.item) (statements_of_item u.item)) f →
       Refused (unit library places n u) f
   in_body r = of_some (unit library places n u) r
 
   module _ (b : tree.Block) (body : typed_parts (context_of library places n u) (declarations_of_item u.item) (statements_of_item u.item) ≡ Some b) where
-    pub not_plain : {f : Failure TypeFault} → is_plain_item u.item ≡ false → f ≡ mistyped u.pos → Refused (unit library places n u) f
-    not_plain none at = breaks (unit library places n u) at
-        (parts_there (context_of library places n u) (declarations_of_item u.item) (statements_of_item u.item) b body) (rw none refl)
-
-    pub a_plain_unit : is_plain_item u.item ≡ true → typed_unit library places n u ≡ Some (procedure_with b)
-    a_plain_unit plain = rw plain (by (typed_declarations (context_of library places n u) (declarations_of_item u.item)) body)
+    procedure_is : option_and_then (typed_body (statements_of_item u.item)) (typed_declarations (context_of library places n u) (declarations_of_item u.item)) ≡ Some (procedure_with b)
+    procedure_is = by (typed_declarations (context_of library places n u) (declarations_of_item u.item)) body
       where
         inside : (xs : List tree.Declaration) (o : Option (List tree.Stmt)) → option_map (block_of xs) o ≡ Some b → option_map (procedure_of xs) o ≡ Some (procedure_with b)
         inside xs None e = absurd (false≢true (ap (λ x. is_some x) e))
@@ -99,6 +106,13 @@ module _ (library : Region) (places : Places) (n : ℕ) (u : LibraryUnit) where
             option_and_then (typed_body (statements_of_item u.item)) o ≡ Some (procedure_with b)
         by None e = absurd (false≢true (ap (λ x. is_some x) e))
         by (Some x) e = inside x.declarations (typed_statements x.context (statements_of_item u.item)) e
+
+    -- the answer where the unit's block is typed
+    pub unit_shown : (o : Option Subprogram) (f : Failure TypeFault) (r : Result Subprogram (Failure TypeFault)) → option_map (subprogram_of []) o ≡ plain_procedure u.item b →
+        f ≡ mistyped u.pos → r ≡ ok_or o f → Shows (subprogram_of []) (typed_unit library places n u) (unit library places n u) r
+    unit_shown o f r same at answer = shows_viewed (subprogram_of []) (unit library places n u) (typed_unit library places n u) o f r answer
+        (ap (λ x. if is_plain_item u.item then x else None) procedure_is ∙ sym same) at refl
+        (parts_there (context_of library places n u) (declarations_of_item u.item) (statements_of_item u.item) b body)
 
 -- several
 pub at_unit : (library : Region) (places : Places) (us : List LibraryUnit) (i : ℕ) (u : LibraryUnit) {f : Failure TypeFault} → i < length us → u ≡ get_or us i u →

@@ -1,5 +1,5 @@
 -- How the code goes through declarations, statements and units.
-use Rattle.std.specs.Prelude.{◌≡◌, ℕ, ◌+◌, nat_eq, true, List, [], ◌∷◌, ◌++◌, map, length, Option, Some, None, option_map, Result, Ok, Err, if◌then◌else◌}
+use Rattle.std.specs.Prelude.{◌≡◌, ℕ, ◌+◌, nat_eq, true, false, List, [], ◌∷◌, ◌++◌, map, length, Option, Some, None, option_map, Result, Ok, Err, if◌then◌else◌}
 use Rattle.std.specs.List.{list_all}
 use Rattle.std.specs.Option.{option_and_then}
 use Rattle.std.specs.declared.vec.Vec.{Vec}
@@ -10,8 +10,11 @@ use Rattle.cov_base.specs.declared.failure.Failure.TheVariants.{WantOfMemory}
 use Rattle.ada_syntax.specs.Tree as source
 use Rattle.ada_syntax.specs.StatementTree as source_statement
 use Rattle.ada_syntax.specs.declared.declaration.Declaration.{Declaration as SourceDeclaration}
+use Rattle.ada_syntax.specs.declared.declaration.DeclarationKind.{DeclarationKind}
+use Rattle.ada_syntax.specs.declared.declaration.DeclarationKind.TheVariants as declares
 use Rattle.ada_syntax.specs.declared.declaration.Initial.{Initial}
 use Rattle.ada_syntax.specs.declared.name.Identifier.{Identifier}
+use Rattle.ada_syntax.specs.declared.unit.LibraryItem.{LibraryItem}
 use Rattle.ada_syntax.specs.declared.unit.Unit.{Unit as LibraryUnit}
 use Rattle.ada_meaning.specs.Tree as tree
 use Rattle.ada_meaning.specs.Program as meaning
@@ -22,19 +25,21 @@ use Rattle.ada_tree.specs.declared.statement.Declaration.{Declaration}
 use Rattle.ada_tree.specs.View.{declaration_of, label_of}
 use Rattle.ada_tree.specs.Programs.{subprogram_of}
 use Rattle.ada_names.specs.Names.{Region}
-use Rattle.ada_names.specs.Library.{regions_in}
+use Rattle.ada_names.specs.Library.{regions_in, declarations_of_item, statements_of_item}
 use Rattle.ada_names.specs.Naming.{declared_by}
 use Rattle.ada_names.specs.ScopeView.{innermost, enclosing}
 use Rattle.ada_places.specs.declared.places.Places.{Places}
 use Rattle.ada_expressions.specs.declared.fault.TypeFault.{TypeFault}
 use Rattle.ada_expressions.specs.declared.kind.DeclaredObject.{DeclaredObject}
+use Rattle.ada_expressions.specs.Answer.{mistyped}
 use Rattle.ada_expressions.specs.Kinds.{is_variable}
 use Rattle.ada_types.specs.declared.context.Around.{Around}
 use Rattle.ada_types.specs.declared.context.Declared.{Declared}
 use Rattle.ada_types.specs.declared.context.Looping.{Looping as InLoop}
 use Rattle.ada_types.specs.declared.context.Looping.TheVariants as in_loop
-use Rattle.ada_types.specs.Typing.{Context, Looping, outside_loops, inside_loop, Chosen, chosen, block_of, decision_label, tested_in, declared_by_all, without_values, objects_of, new_value, typed_declaration, typed_declarations, typed_statements, typed_units}
-use Rattle.ada_types.specs.Rules.{Construct, declaration, declarations, sequence, decision_in, value_behind, units_from, holds, Among}
+use Rattle.ada_types.specs.declared.declarations.Together.{Together}
+use Rattle.ada_types.specs.Typing.{Context, Looping, outside_loops, inside_loop, past, behind, Chosen, chosen, block_of, has_no_handlers, is_plain_item, decision_label, tested_in, declared_by_all, objects_in_all, objects_in_branches, without_values, objects_of, new_value, typed_declaration, typed_declarations, typed_statements, typed_branches, typed_units}
+use Rattle.ada_types.specs.Rules.{Construct, declaration, declarations, sequence, branches, parts_of_block, decision_in, value_behind, units_from, holds, Among}
 use Rattle.ada_types.specs.Answer.{Refused}
 
 -- one of these constructs is refused
@@ -126,6 +131,20 @@ pub record Grown (n : ℕ) (old new : Declared) : Type 0 where
   pub objects : new.objects.items ≡ old.objects.items ++ more
   pub next : new.next ≡ old.next + n
 
+-- the names of the objects of a declaration
+abbrev pub names_in : DeclarationKind → List Identifier
+names_in (declares.Object is c s i) = is
+names_in _ = []
+
+-- The objects of a declaration, of which this is the first, have this typed form.
+pub record DeclaredTogether (k : Context) (d : SourceDeclaration) (o : DeclaredObject) (ds : List tree.Declaration) : Type 0 where
+  pub number : o.number ≡ k.next
+  pub form : typed_declaration k d ≡ Some (record { declarations = ds; context = behind k (names_in d.kind) o.constancy o.subtype })
+
+abbrev pub ShowsTogether : Context → SourceDeclaration → Result Together (Failure TypeFault) → Type 0
+ShowsTogether k d (Ok x) = DeclaredTogether k d x.first (declarations_view x.typed)
+ShowsTogether k d (Err f) = Refused (declaration k d) f
+
 -- a declaration was added
 pub record Added (a : Around) (d : SourceDeclaration) (old new : Declared) (ds : List tree.Declaration) : Type 0 where
   pub form : typed_declaration (context a old) d ≡ Some (record { declarations = ds; context = context a new })
@@ -148,6 +167,24 @@ AddsAll a ds old new (Err f) = Refused (declarations (context a old) ds) f
 abbrev pub typed_parts : Context → List SourceDeclaration → source_statement.Statements → Option tree.Block
 typed_parts k ds ss = option_and_then (λ x. option_map (block_of x.declarations) (typed_statements x.context ss)) (typed_declarations k ds)
 
+-- where a unit sees this of the library, before its first declaration
+abbrev pub unit_context : Region → Places → Context
+unit_context seen places = record { outer = regions_in seen; region = []; objects = []; next = 0; looping = outside_loops; places = places }
+
+-- the block of a unit that sees this of the library, or a refusal of a part of it
+abbrev pub ShowsBlock : Region → Places → LibraryItem → Result tree.Block (Failure TypeFault) → Type 0
+ShowsBlock seen places item (Ok b) = typed_parts (unit_context seen places) (declarations_of_item item) (statements_of_item item) ≡ Some b
+ShowsBlock seen places item (Err f) = SomeRefused (parts_of_block (unit_context seen places) (declarations_of_item item) (statements_of_item item)) f
+
+-- the subprogram of a unit with this block: a procedure without parameters and handlers
+abbrev pub plain_procedure : LibraryItem → tree.Block → Option meaning.Subprogram
+plain_procedure item b = if is_plain_item item then Some (record { generic = None; parameters = []; body = b }) else None
+
+-- a block as a statement at this place, or its refusal
+abbrev pub IsBlock : Pos → source_statement.Handled → tree.Block → Result tree.Stmt (Failure TypeFault) → Type 0
+IsBlock p h b (Ok s) = (has_no_handlers h ≡ true) × (s ≡ tree.block_statement b)
+IsBlock p h b (Err f) = (has_no_handlers h ≡ false) × (f ≡ mistyped p)
+
 -- a decision and its label, or its refusal
 pub record Decided (k : Context) (e : source.Expr) (d : Decision) : Type 0 where
   pub test : tested_in k e ≡ Some d.test
@@ -169,6 +206,35 @@ chosen_in k e ss = option_and_then (λ t. option_map (chosen (decision_label k e
 
 abbrev pub parts_of_branch : Context → source.Expr → source_statement.Statements → List Construct
 parts_of_branch k e ss = decision_in k e ∷ sequence k ss ∷ []
+
+-- a whole of a part that has a typed form, or the part's refusal; memory may be refused
+abbrev pub Builds : {A B : Type 0} → (B → A) → Result B (Failure TypeFault) → Result A (Failure TypeFault) → Type 0
+Builds f (Ok x) (Ok y) = y ≡ f x
+Builds f (Ok x) (Err g) = g ≡ WantOfMemory
+Builds f (Err e) (Ok y) = ⊥
+Builds f (Err e) (Err g) = g ≡ e
+
+-- a loop at this place that has no typed form, whatever its statements are
+abbrev pub RefusesLoop : Pos → Result (Vec tree.Stmt Global) (Failure TypeFault) → Result tree.Stmt (Failure TypeFault) → Type 0
+RefusesLoop p r (Ok y) = ⊥
+RefusesLoop p (Ok x) (Err g) = g ≡ mistyped p
+RefusesLoop p (Err e) (Err g) = g ≡ e
+
+abbrev pub branch_with : Decision → Vec tree.Stmt Global → Branch
+branch_with d xs = record { decision = d; statements = xs }
+
+-- the branches behind the first one of an if statement, and the statements of its else part
+pub record Ways (k : Context) (bs : source_statement.Branches) (es : source_statement.Statements) (cs : List Chosen) (xs : List tree.Stmt) (old new : Declared) : Type 0 where
+  pub others : typed_branches k bs ≡ Some cs
+  pub otherwise : typed_statements (past k (objects_in_branches bs)) es ≡ Some xs
+  pub passed : Passed (objects_in_branches bs + objects_in_all es) old new
+
+abbrev pub ways_in : Context → source_statement.Branches → source_statement.Statements → List Construct
+ways_in k bs es = branches k bs ∷ sequence (past k (objects_in_branches bs)) es ∷ []
+
+abbrev pub TypesWays : Context → source_statement.Branches → source_statement.Statements → (old : Declared) → (new : Declared) → Result (Vec Branch Global × Vec tree.Stmt Global) (Failure TypeFault) → Type 0
+TypesWays k bs es old new (Ok x) = Ways k bs es (chosen_view x.0) x.1.items old new
+TypesWays k bs es old new (Err f) = SomeRefused (ways_in k bs es) f
 
 abbrev pub subprograms_view : Vec Subprogram Global → List meaning.Subprogram
 subprograms_view ss = map (subprogram_of []) ss.items

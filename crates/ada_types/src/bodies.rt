@@ -9,8 +9,9 @@ ghost use Rattle.ada_tree.specs.View.{label_of};
 ghost use Rattle.ada_names.specs.Naming.{declarations_in};
 ghost use Rattle.ada_types.specs.Typing as spec;
 ghost use Rattle.ada_types.specs.Rules as rules;
-ghost use Rattle.ada_types.specs.TypingCode.{Types, TypesParts, chosen_in, chosen_of, chosen_view, context, opened, parts_of_branch, typed_parts};
+ghost use Rattle.ada_types.specs.TypingCode.{IsBlock, Types, TypesParts, TypesWays, chosen_in, chosen_of, chosen_view, context, opened, parts_of_branch, typed_parts};
 
+use crate::building::{bare_loop, branch_of, later_loop, while_loop};
 use crate::context::{Around, Declared, Looping};
 use crate::declarations::typed_declarations;
 use crate::statements::{decision, typed_assignment, typed_call, typed_exit, typed_return};
@@ -64,6 +65,22 @@ fn if_statement(
     branches.append(&mut others)?;
     Ok(ada_tree::Statement {
         kind: ada_tree::StatementKind::If(label, branches, otherwise),
+    })
+}
+
+/// A block as a statement, which has no handlers so far.
+fn block_statement(
+    pos: Pos,
+    handled: &HandledStatements,
+    block: Block,
+) -> Result<ada_tree::Statement, Failure<TypeFault>>
+    ensures { IsBlock pos handled.now block result }
+{
+    if !has_no_handlers(handled) {
+        return Err(mistyped(pos));
+    }
+    Ok(ada_tree::Statement {
+        kind: ada_tree::StatementKind::Block(block),
     })
 }
 
@@ -135,11 +152,8 @@ fn typed_branch(
     ensures { TypesParts chosen_of (chosen_in (context around.now declared.old) branch.now.condition (statements_of branch.now.statements.items)) (spec.objects_in_all (statements_of branch.now.statements.items)) (parts_of_branch (context around.now declared.old) branch.now.condition (statements_of branch.now.statements.items)) declared.old declared.new result }
 {
     let decision = decision(alloc, around, declared, &branch.condition)?;
-    let statements = typed_statements(alloc, around, declared, &branch.statements)?;
-    Ok(ada_tree::Branch {
-        decision,
-        statements,
-    })
+    let statements = typed_statements(alloc, around, declared, &branch.statements);
+    branch_of(decision, statements)
 }
 
 /// `elsif` and what follows it (RM 5.3).
@@ -161,6 +175,23 @@ fn typed_branches(
     Ok(typed)
 }
 
+/// The branches behind `elsif`, and the statements of the else part (RM 5.3).
+#[cycle(statements)]
+#[tactic(auto, using(crate::proofs::Blame::blames))]
+fn typed_ways(
+    alloc: Global,
+    around: &Around<'_>,
+    declared: &mut Declared,
+    others: &[Branch],
+    otherwise: &[Statement],
+) -> Result<(Vec<ada_tree::Branch>, Vec<ada_tree::Statement>), Failure<TypeFault>>
+    ensures { TypesWays (context around.now declared.old) (branches_of others.now) (statements_of otherwise.now) declared.old declared.new result }
+{
+    let others = typed_branches(alloc, around, declared, others)?;
+    let otherwise = typed_statements(alloc, around, declared, otherwise)?;
+    Ok((others, otherwise))
+}
+
 /// An if statement (RM 5.3).
 #[cycle(statements)]
 #[tactic(auto, using(crate::proofs::Blame::blames))]
@@ -177,8 +208,7 @@ fn typed_if(
 {
     let label = around.statement_label(pos);
     let first = typed_branch(alloc, around, declared, first)?;
-    let others = typed_branches(alloc, around, declared, others)?;
-    let otherwise = typed_statements(alloc, around, declared, otherwise)?;
+    let (others, otherwise) = typed_ways(alloc, around, declared, others, otherwise)?;
     Ok(if_statement(alloc, label, first, others, otherwise)?)
 }
 
@@ -203,21 +233,17 @@ fn typed_loop(
     };
     match scheme {
         LoopScheme::Forever => {
-            let body = typed_statements(alloc, &inside, declared, statements)?;
-            Ok(ada_tree::Statement {
-                kind: ada_tree::StatementKind::Loop(label, body),
-            })
+            let body = typed_statements(alloc, &inside, declared, statements);
+            bare_loop(label, body)
         }
         LoopScheme::While(condition) => {
             let decision = decision(alloc, around, declared, condition)?;
-            let body = typed_statements(alloc, &inside, declared, statements)?;
-            Ok(ada_tree::Statement {
-                kind: ada_tree::StatementKind::While(label, decision, body),
-            })
+            let body = typed_statements(alloc, &inside, declared, statements);
+            while_loop(label, decision, body)
         }
         LoopScheme::For(..) => {
-            typed_statements(alloc, &inside, declared, statements)?;
-            Err(mistyped(pos))
+            let body = typed_statements(alloc, &inside, declared, statements);
+            later_loop(pos, body)
         }
     }
 }
@@ -262,10 +288,5 @@ fn typed_block(
 {
     let declarations = declarations_of(declarations);
     let block = typed_body(alloc, around, declared, declarations, &handled.statements)?;
-    if !has_no_handlers(handled) {
-        return Err(mistyped(pos));
-    }
-    Ok(ada_tree::Statement {
-        kind: ada_tree::StatementKind::Block(block),
-    })
+    block_statement(pos, handled, block)
 }

@@ -11,6 +11,7 @@ ghost use Rattle.ada_types.specs.declared.fault.CheckFault.{CheckFault};
 ghost use Rattle.ada_types.specs.Typing as spec;
 ghost use Rattle.cov_base.specs.TextOrder.{precedes};
 ghost use Rattle.ada_places.specs.Places.{all_places_of};
+ghost use Rattle.ada_types.specs.Legal as legal;
 ghost use Rattle.ada_types.specs.Legal.{elaborated, typed, earlier, past_limits, program_with};
 ghost use Rattle.ada_types.specs.Checked.{Refuses, entry_of};
 ghost use Rattle.ada_types.specs.CheckCode.{naming_of, typing_of};
@@ -189,6 +190,35 @@ fn program_of_main(
     }
 }
 
+/// The program of these units, which keep the rules on names.
+#[tactic(auto, using(crate::proofs::Programs::refusals))]
+fn program_of_named(
+    alloc: Global,
+    units: &[Unit],
+    named: &Named,
+) -> Result<Program, Failure<CheckFault>>
+    requires { named.now.library ≡ library_of units.now }
+    ensures program { IfOk result (λ p. legal.program_of_main units.now named.now.main ≡ Some (program_of p)) }
+    ensures units { IfOk result (λ p. p.units ≡ map entry_of units.now) }
+    ensures refused { IfErr result (λ f. (main : List ℕ) → naming.named units.now main ≡ true → Refuses units.now main f) }
+{
+    let subprograms = within_limits(alloc, &named.library, units)?;
+    let entries = entries(alloc, units)?;
+    Ok(program_of_main(alloc, named.main, subprograms, entries))
+}
+
+/// The program of these units whose main procedure has this name in lower case.
+#[tactic(auto, using(crate::proofs::Programs::refusals))]
+fn check_lower(alloc: Global, units: &[Unit], main: &[u8]) -> Result<Program, Failure<CheckFault>>
+    ensures named { IfOk result (λ _. naming.named units.now main.now ≡ true) }
+    ensures program { IfOk result (λ p. legal.typed_program units.now main.now ≡ Some (program_of p)) }
+    ensures units { IfOk result (λ p. p.units ≡ map entry_of units.now) }
+    ensures refused { IfErr result (Refuses units.now main.now) }
+{
+    let named = named(alloc, units, main)?;
+    program_of_named(alloc, units, &named)
+}
+
 /// The program of these units whose main procedure has this name, where case does not count. Rules on
 /// names come first, over all units, then those on types, and then the limits.
 #[tactic(auto, using(crate::proofs::Programs::refusals))]
@@ -198,10 +228,7 @@ pub fn check(alloc: Global, units: &[Unit], main: &str) -> Result<Program, Failu
     ensures refused { IfErr result (Refuses units.now (str_to_ascii_lowercase main.now)) }
 {
     let lower = main.as_bytes().to_ascii_lowercase(alloc)?;
-    let named = named(alloc, units, lower.as_slice())?;
-    let subprograms = within_limits(alloc, &named.library, units)?;
-    let entries = entries(alloc, units)?;
-    Ok(program_of_main(alloc, named.main, subprograms, entries))
+    check_lower(alloc, units, lower.as_slice())
 }
 
 /// Units that are refused are no legal program.

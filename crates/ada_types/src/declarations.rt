@@ -7,7 +7,7 @@ ghost use Rattle.ada_names.specs.LocalsCode.{IsOpen};
 ghost use Rattle.ada_types.specs.Typing as spec;
 ghost use Rattle.ada_types.specs.Rules as rules;
 ghost use Rattle.ada_types.specs.Answer.{Shows};
-ghost use Rattle.ada_types.specs.TypingCode.{Adds, AddsAll, Declares, bare, set_to, declarations_view, objects_from};
+ghost use Rattle.ada_types.specs.TypingCode.{Adds, AddsAll, Declares, ShowsTogether, bare, context, set_to, declarations_view, names_in, objects_from};
 
 use crate::context::{Around, Declared};
 use ada_expressions::expressions::{denoted, judged};
@@ -227,16 +227,32 @@ fn add_objects(
     Ok(())
 }
 
-/// Adds a declaration.
+/// The names of the objects of a declaration.
+fn names_in(kind: &DeclarationKind) -> &[Identifier]
+    ensures { result.now ≡ names_in kind.now }
+{
+    match kind {
+        DeclarationKind::Object(names, ..) => names.as_slice(),
+        _ => &[],
+    }
+}
+
+/// Objects that are declared together: the first of them, and their typed form.
+#[derive(Drop)]
+struct Together {
+    first: DeclaredObject,
+    typed: Vec<ada_tree::Declaration>,
+}
+
+/// The objects of a declaration, which are not visible yet.
 #[tactic(auto, using(crate::proofs::Blame::blames))]
-fn declare(
+fn typed_together(
     alloc: Global,
     around: &Around<'_>,
+    declared: &Declared,
     declaration: &Declaration,
-    declared: &mut Declared,
-) -> Result<Vec<ada_tree::Declaration>, Failure<TypeFault>>
-    requires { IsOpen declared.old.locals }
-    ensures { Adds around.now declaration.now declared.old declared.new result }
+) -> Result<Together, Failure<TypeFault>>
+    ensures { ShowsTogether (context around.now declared.now) declaration.now result }
 {
     let DeclarationKind::Object(names, constancy, indication, initial) = &declaration.kind else {
         return Err(mistyped(declaration.pos));
@@ -251,19 +267,32 @@ fn declare(
     let objects = declared.objects.as_slice();
     let places = &around.places.decisions;
     let subtype = indicated(alloc, &scope, objects, places, indication)?;
-    let object = DeclaredObject {
+    let first = DeclaredObject {
         number: declared.next,
         constancy: *constancy,
         subtype,
     };
     let label = around.statement_label(declaration.pos);
-    let typed = typed_objects(
-        alloc, &scope, objects, places, label, names, object, initial,
-    )?;
-    let Some(typed) = typed else {
-        return Err(mistyped(declaration.pos));
-    };
-    add_objects(alloc, names, object, declared)?;
+    let typed = typed_objects(alloc, &scope, objects, places, label, names, first, initial)?;
+    match typed {
+        Some(typed) => Ok(Together { first, typed }),
+        None => Err(mistyped(declaration.pos)),
+    }
+}
+
+/// Adds a declaration.
+#[tactic(auto, using(crate::proofs::Blame::blames))]
+fn declare(
+    alloc: Global,
+    around: &Around<'_>,
+    declaration: &Declaration,
+    declared: &mut Declared,
+) -> Result<Vec<ada_tree::Declaration>, Failure<TypeFault>>
+    requires { IsOpen declared.old.locals }
+    ensures { Adds around.now declaration.now declared.old declared.new result }
+{
+    let Together { first, typed } = typed_together(alloc, around, declared, declaration)?;
+    add_objects(alloc, names_in(&declaration.kind), first, declared)?;
     Ok(typed)
 }
 

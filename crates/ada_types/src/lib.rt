@@ -13,6 +13,7 @@
 #![tactic(auto)]
 
 mod bodies;
+mod building;
 mod checker;
 mod context;
 mod declarations;

@@ -1,6 +1,6 @@
 //! Library units (Ada RM 2012, 6.3, 10.1).
 
-ghost use Rattle.std.specs.Prelude.{◌≡◌, []};
+ghost use Rattle.std.specs.Prelude.{◌≡◌, [], option_map};
 ghost use Rattle.ada_tree.specs.Programs.{subprogram_of};
 ghost use Rattle.ada_names.specs.Naming.{library_of};
 ghost use Rattle.ada_places.specs.Places.{all_places_of};
@@ -8,7 +8,7 @@ ghost use Rattle.ada_types.specs.Legal.{typed};
 ghost use Rattle.ada_types.specs.Typing as spec;
 ghost use Rattle.ada_types.specs.Rules as rules;
 ghost use Rattle.ada_types.specs.Answer.{Shows};
-ghost use Rattle.ada_types.specs.TypingCode.{ShowsUnits, subprograms_view};
+ghost use Rattle.ada_types.specs.TypingCode.{ShowsBlock, ShowsUnits, plain_procedure, subprograms_view};
 
 use crate::bodies::{has_no_handlers, typed_body};
 use crate::context::{Around, Declared, Looping};
@@ -18,7 +18,7 @@ use ada_names::{
 };
 use ada_places::Places;
 use ada_syntax::{LibraryItem, Unit};
-use ada_tree::Subprogram;
+use ada_tree::{Block, Subprogram};
 use cov_base::{Failure, Seq};
 use std::alloc::Global;
 
@@ -34,6 +34,45 @@ fn is_plain(item: &LibraryItem) -> bool
     }
 }
 
+/// The block of a unit that sees this of the library.
+fn unit_block(
+    alloc: Global,
+    seen: &Region,
+    places: &Places,
+    item: &LibraryItem,
+) -> Result<Block, Failure<TypeFault>>
+    ensures { ShowsBlock seen.now places.now item.now result }
+{
+    let around = Around {
+        seen,
+        places,
+        looping: Looping::Outside,
+    };
+    let mut declared = Declared {
+        locals: Locals::new(alloc),
+        objects: Vec::new(alloc),
+        next: 0,
+    };
+    let declarations = declarations_of(item);
+    let statements = statements_of(item);
+    typed_body(alloc, &around, &mut declared, declarations, statements)
+}
+
+/// The subprogram of a unit with this block, which is plain so far.
+fn plain_subprogram(alloc: Global, item: &LibraryItem, body: Block) -> Option<Subprogram>
+    ensures { option_map (subprogram_of []) result ≡ plain_procedure item.now body }
+{
+    if is_plain(item) {
+        Some(Subprogram {
+            generic: None,
+            parameters: Seq::from(Vec::new(alloc)),
+            body,
+        })
+    } else {
+        None
+    }
+}
+
 /// A unit, by its number.
 #[tactic(auto, using(crate::proofs::Blame::blames))]
 fn typed_unit(
@@ -46,27 +85,8 @@ fn typed_unit(
     ensures { Shows (subprogram_of []) (spec.typed_unit library.now places.now number unit.now) (rules.unit library.now places.now number unit.now) result }
 {
     let seen = seen(alloc, library, number, unit)?;
-    let around = Around {
-        seen: &seen,
-        places,
-        looping: Looping::Outside,
-    };
-    let mut declared = Declared {
-        locals: Locals::new(alloc),
-        objects: Vec::new(alloc),
-        next: 0,
-    };
-    let declarations = declarations_of(&unit.item);
-    let statements = statements_of(&unit.item);
-    let body = typed_body(alloc, &around, &mut declared, declarations, statements)?;
-    if !is_plain(&unit.item) {
-        return Err(mistyped(unit.pos));
-    }
-    Ok(Subprogram {
-        generic: None,
-        parameters: Seq::from(Vec::new(alloc)),
-        body,
-    })
+    let block = unit_block(alloc, &seen, places, &unit.item)?;
+    plain_subprogram(alloc, &unit.item, block).ok_or(mistyped(unit.pos))
 }
 
 /// All units, of which all obligations stand at these places.

@@ -1,3 +1,4 @@
+use Rattle.std.proofs.lemmas.Grind.{common_steps}
 use Rattle.std.proofs.Common.{rules, ◌≡◌, ⊎_elim, true, ◌+◌, ◌++◌, [], ◌∷◌, List, Option, Some, None, option_map, drop, sum_by, arith, refl, sym, ap, ◌∙◌, subst}
 use Rattle.std.specs.Option.{option_and_then}
 use Rattle.std.proofs.lemmas.List.{drop_all}
@@ -18,7 +19,7 @@ use Rattle.ada_expressions.specs.Expressions as spec
 use Rattle.ada_expressions.specs.Expressions.{judged, denoted, typed_actuals}
 use Rattle.ada_expressions.specs.Phrases as rule
 use Rattle.ada_expressions.specs.Answer.{Refused, Shows, mistyped}
-use Rattle.ada_expressions.proofs.Blame.{shows_or, breaks, drop_item}
+use Rattle.ada_expressions.proofs.Blame.{shows_or, drop_item, blames}
 use Rattle.ada_expressions.proofs.ExpressionLaws as law
 use Rattle.ada_expressions.proofs.expressions.+expressions.Goals as goal
 
@@ -529,3 +530,66 @@ suffixed-returns-in_ok-actuals-in-Applied t c n means begins =
     (sym c.in-Applied.is) (shows_or (rule.name places regions objects (tree.applied n es))
     (denoted places regions objects (tree.applied n es)) c.call_of.result c.mistyped-in-Applied.result c.ok_or-in-Applied.result c.ok_or-in-Applied.ensures.value same
     (c.mistyped-in-Applied.ensures ∙ ap (λ p. mistyped p) (sym begins)) refl (rw (means, typed) refl))
+
+pub operations-returns-in_err-longer : goal.operations-returns-in_err-longer
+operations-returns-in_err-longer t c = grind (arith, blames)
+
+pub judged-returns-in_err-relation-in-Relation : goal.judged-returns-in_err-relation-in-Relation
+judged-returns-in_err-relation-in-Relation t c = grind (arith, blames)
+
+pub suffixed-returns-in_err-attribute-in-Attribute : goal.suffixed-returns-in_err-attribute-in-Attribute
+suffixed-returns-in_err-attribute-in-Attribute t c = grind (arith, blames)
+
+pub logical-returns-in_err-longer : goal.logical-returns-in_err-longer
+logical-returns-in_err-longer t c = grind (arith, blames)
+
+pub actuals-returns-in_err-push_actual : goal.actuals-returns-in_err-push_actual
+actuals-returns-in_err-push_actual t c = grind (arith, blames)
+
+pub operations-returns-in_err-judged : goal.operations-returns-in_err-judged
+operations-returns-in_err-judged t c = grind (arith, blames)
+
+pub judged-returns-in_err-operation-in-Unary : goal.judged-returns-in_err-operation-in-Unary
+judged-returns-in_err-operation-in-Unary t c = grind (arith, blames)
+
+pub logical-returns-in_err-circuit : goal.logical-returns-in_err-circuit
+logical-returns-in_err-circuit t c = grind (arith, blames)
+
+pub suffixed-returns-in_err-selected-in-Selected : goal.suffixed-returns-in_err-selected-in-Selected
+suffixed-returns-in_err-selected-in-Selected t c = grind (arith, blames)
+
+pub logical-returns-in_err-judged : goal.logical-returns-in_err-judged
+logical-returns-in_err-judged t c = grind (arith, blames)
+
+pub denoted-returns-in_err-entity : goal.denoted-returns-in_err-entity
+denoted-returns-in_err-entity t c = grind (arith, blames)
+
+pub operations-judged-requires-in-loop-other : goal.operations-judged-requires-in-loop-other
+operations-judged-requires-in-loop-other t c = grind (arith, common_steps, blames)
+
+pub denoted-returns : goal.denoted-returns
+denoted-returns t c = grind (arith, common_steps, blames)
+
+pub actuals-returns : goal.actuals-returns
+actuals-returns t c = grind (arith, common_steps, blames)
+
+pub actuals-actual-requires : goal.actuals-actual-requires
+actuals-actual-requires t c = grind (arith, common_steps, blames)
+
+pub refused-judged-requires : goal.refused-judged-requires
+refused-judged-requires t c = grind (arith, common_steps, blames)
+
+pub denoted-loop-suffix-preserved : goal.denoted-loop-suffix-preserved
+denoted-loop-suffix-preserved t c = grind (arith, common_steps, blames)
+
+pub logical-judged-requires-in-loop-other : goal.logical-judged-requires-in-loop-other
+logical-judged-requires-in-loop-other t c = grind (arith, common_steps, blames)
+
+pub operations-returns : goal.operations-returns
+operations-returns t c = grind (arith, common_steps, blames)
+
+pub operations-loop-other-preserved : goal.operations-loop-other-preserved
+operations-loop-other-preserved t c = grind (arith, common_steps, blames)
+
+pub logical-returns : goal.logical-returns
+logical-returns t c = grind (arith, common_steps, blames)

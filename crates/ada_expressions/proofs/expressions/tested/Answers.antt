@@ -4,7 +4,7 @@ use Rattle.ada_places.specs.Places.{condition_place}
 use Rattle.ada_names.specs.ScopeView.{regions_of}
 use Rattle.ada_expressions.specs.Expressions as spec
 use Rattle.ada_expressions.specs.Phrases as rule
-use Rattle.ada_expressions.specs.Answer.{Refused, mistyped}
+use Rattle.ada_expressions.specs.Answer.{mistyped}
 use Rattle.ada_expressions.proofs.Blame.{shows_or}
 use Rattle.ada_expressions.proofs.ExpressionLaws as law
 use Rattle.ada_expressions.proofs.expressions.tested.Goals as goal

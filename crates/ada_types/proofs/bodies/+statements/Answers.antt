@@ -17,8 +17,8 @@ use Rattle.ada_types.specs.Typing.{Context, Chosen, past, in_loop, of_block, obj
 use Rattle.ada_types.specs.Rules as rule
 use Rattle.ada_types.specs.Rules.{here, behind}
 use Rattle.ada_types.specs.Answer.{Refused}
-use Rattle.ada_types.specs.TypingCode.{SomeRefused, one_of, Passed, Kept, chosen_of, chosen_view, context, opened, parts_of_branch, declarations_view, typed_parts}
-use Rattle.ada_types.proofs.ContextLaws.{past_is, opened_is, region_opened, nothing_passed, then_passed, passed_as}
+use Rattle.ada_types.specs.TypingCode.{SomeRefused, one_of, Passed, Kept, Types, ways_in, chosen_of, chosen_view, context, opened, parts_of_branch, declarations_view, typed_parts}
+use Rattle.ada_types.proofs.ContextLaws.{past_is, opened_is, region_opened, nothing_passed, then_passed}
 use Rattle.ada_types.proofs.DeclarationLaws.{so_far}
 use Rattle.ada_types.proofs.StatementLaws as law
 use Rattle.ada_types.proofs.BodyLaws as body
@@ -92,28 +92,16 @@ typed_branch-returns-in_err-decision t c =
     let r : SomeRefused (parts_of_branch k b.condition (statements_of b.statements.items)) c.in_err-decision.field-0.0 = one_of here c.in_err-decision.ensures in
     search (rules, r)
 
-pub typed_branch-returns-in_err-statements : goal.typed_branch-returns-in_err-statements
-typed_branch-returns-in_err-statements t c =
-    let k : Context = context c.args.around.now c.args.declared.now in
-    let b = c.args.branch.now in
-    let f = c.in_err-statements.field-0.0 in
-    let one : Refused (rule.sequence k (statements_of b.statements.items)) f = subst (λ xs. Refused (rule.sequence k (statements_of xs)) f) c.deref.ensures.value c.in_err-statements.ensures in
-    let r : SomeRefused (parts_of_branch k b.condition (statements_of b.statements.items)) f = one_of (behind here) one in
-    search (rules, r)
-
 pub typed_branch-returns : goal.typed_branch-returns
 typed_branch-returns t c =
     let k : Context = context c.args.around.now c.args.declared.now in
     let b = c.args.branch.now in
+    let ss = statements_of b.statements.items in
     let d = c.in_ok-decision.decision in
-    let xs = c.in_ok-statements.statements.items in
-    let old = c.args.declared.now in
-    let new = c.typed_statements.new.declared in
-    let typed : typed_statements k (statements_of b.statements.items) ≡ Some xs = subst (λ ys. typed_statements k (statements_of ys) ≡ Some xs) c.deref.ensures.value c.in_ok-statements.ensures.form in
-    record {
-      form = law.a_branch k b.condition (statements_of b.statements.items) (label_of d.label) d.test xs c.in_ok-decision.ensures.label c.in_ok-decision.ensures.test typed;
-      passed = subst (λ ys. Passed (objects_in_all (statements_of ys)) old new) c.deref.ensures.value c.in_ok-statements.ensures.passed;
-    }
+    law.branch_built k b.condition ss d c.args.declared.now c.typed_statements-statements.new.declared c.typed_statements-statements.result c.branch_of.result
+    c.in_ok-decision.ensures.label c.in_ok-decision.ensures.test c.branch_of.ensures
+    (subst (λ ys. Types (λ v. v.items) (typed_statements k (statements_of ys)) (objects_in_all (statements_of ys)) (rule.sequence k (statements_of ys)) c.args.declared.now
+    c.typed_statements-statements.new.declared c.typed_statements-statements.result) c.deref.ensures.value c.typed_statements-statements.ensures)
 
 -- branches
 pub typed_branches-returns-in_err-branch : goal.typed_branches-returns-in_err-branch
@@ -153,6 +141,42 @@ typed_branches-returns t c =
       passed = c.loop-branch.invariant.passed d (law.branches_stay bs i d (omega arith));
     }
 
+-- the branches behind the first one, and the else part
+pub typed_ways-returns-in_err-others : goal.typed_ways-returns-in_err-others
+typed_ways-returns-in_err-others t c =
+    let k : Context = context c.args.around.now c.args.declared.now in
+    let r : SomeRefused (ways_in k (branches_of c.args.others.now) (statements_of c.args.otherwise.now)) c.in_err-others.field-0.0 = one_of here c.in_err-others.ensures in
+    search (rules, r)
+
+pub typed_ways-returns-in_err-otherwise : goal.typed_ways-returns-in_err-otherwise
+typed_ways-returns-in_err-otherwise t c =
+    let a = c.args.around.now in
+    let old = c.args.declared.now in
+    let k : Context = context a old in
+    let bs = branches_of c.args.others.now in
+    let es = statements_of c.args.otherwise.now in
+    let f = c.in_err-otherwise.field-0.0 in
+    let one : Refused (rule.sequence (past k (objects_in_branches bs)) es) f = subst (λ (j : Context). Refused (rule.sequence j es) f)
+    (past_is a (objects_in_branches bs) old c.typed_branches.new.declared c.in_ok-others.ensures.passed) c.in_err-otherwise.ensures in
+    let r : SomeRefused (ways_in k bs es) f = one_of (behind here) one in
+    search (rules, r)
+
+pub typed_ways-returns : goal.typed_ways-returns
+typed_ways-returns t c =
+    let a = c.args.around.now in
+    let old = c.args.declared.now in
+    let bs = branches_of c.args.others.now in
+    let es = statements_of c.args.otherwise.now in
+    let m = objects_in_branches bs in
+    let xs = c.in_ok-otherwise.otherwise.items in
+    let one = c.typed_branches.new.declared in
+    let two = c.typed_statements.new.declared in
+    record {
+      others = c.in_ok-others.ensures.form;
+      otherwise = subst (λ (j : Context). typed_statements j es ≡ Some xs) (past_is a m old one c.in_ok-others.ensures.passed) c.in_ok-otherwise.ensures.form;
+      passed = then_passed m (objects_in_all es) old one two c.in_ok-others.ensures.passed c.in_ok-otherwise.ensures.passed;
+    }
+
 -- an if statement
 pub typed_if-returns-in_err-first : goal.typed_if-returns-in_err-first
 typed_if-returns-in_err-first t c =
@@ -165,31 +189,10 @@ pub typed_if-returns-in_err-others : goal.typed_if-returns-in_err-others
 typed_if-returns-in_err-others t c =
     let a = c.args.around.now in
     let old = c.args.declared.now in
-    let k : Context = context a old in
     let b = c.args.first.now in
     let ss = statements_of b.statements.items in
-    let bs = branches_of c.args.others.now in
-    let f = c.in_err-others.field-0.0 in
-    let one : Refused (rule.branches (past k (objects_in_all ss)) bs) f = subst (λ (j : Context). Refused (rule.branches j bs) f)
+    let r = law.in_ways (context a old) c.args.pos b.condition ss (branches_of c.args.others.now) (statements_of c.args.otherwise.now)
     (past_is a (objects_in_all ss) old c.typed_branch.new.declared c.in_ok-first.ensures.passed) c.in_err-others.ensures in
-    let r = law.in_others k c.args.pos b.condition ss bs (statements_of c.args.otherwise.now) one in
-    search (rules, r)
-
-pub typed_if-returns-in_err-otherwise : goal.typed_if-returns-in_err-otherwise
-typed_if-returns-in_err-otherwise t c =
-    let a = c.args.around.now in
-    let old = c.args.declared.now in
-    let k : Context = context a old in
-    let b = c.args.first.now in
-    let ss = statements_of b.statements.items in
-    let bs = branches_of c.args.others.now in
-    let es = statements_of c.args.otherwise.now in
-    let f = c.in_err-otherwise.field-0.0 in
-    let both = then_passed (objects_in_all ss) (objects_in_branches bs) old c.typed_branch.new.declared c.typed_branches.new.declared c.in_ok-first.ensures.passed
-    c.in_ok-others.ensures.passed in
-    let one : Refused (rule.sequence (past k (objects_in_all ss + objects_in_branches bs)) es) f = subst (λ (j : Context). Refused (rule.sequence j es) f)
-    (past_is a (objects_in_all ss + objects_in_branches bs) old c.typed_branches.new.declared both) c.in_err-otherwise.ensures in
-    let r = law.in_otherwise k c.args.pos b.condition ss bs es one in
     search (rules, r)
 
 pub typed_if-returns : goal.typed_if-returns
@@ -202,33 +205,24 @@ typed_if-returns t c =
     let bs = branches_of c.args.others.now in
     let es = statements_of c.args.otherwise.now in
     let n = objects_in_all ss in
-    let m = objects_in_branches bs in
     let one = c.typed_branch.new.declared in
-    let two = c.typed_branches.new.declared in
-    let three = c.typed_statements.new.declared in
-    let cs = chosen_view c.in_ok-others.others in
-    let xs = c.in_ok-otherwise.otherwise.items in
-    let both = then_passed n m old one two c.in_ok-first.ensures.passed c.in_ok-others.ensures.passed in
-    let others : typed_branches (past k n) bs ≡ Some cs = subst (λ (j : Context). typed_branches j bs ≡ Some cs)
-    (past_is a n old one c.in_ok-first.ensures.passed) c.in_ok-others.ensures.form in
-    let other : typed_statements (past k (n + m)) es ≡ Some xs = subst (λ (j : Context). typed_statements j es ≡ Some xs)
-    (past_is a (n + m) old two both) c.in_ok-otherwise.ensures.form in
+    let two = c.typed_ways.new.declared in
+    let ways = c.in_ok-others.ensures in
     record {
-      form = law.an_if k c.args.pos b.condition ss bs es (label_of c.statement_label-label.result) (chosen_of c.in_ok-first.first) cs xs c.statement_label-label.ensures
-          c.in_ok-first.ensures.form others other ∙ ap Some (sym c.in_ok-if_statement.ensures);
-      passed = passed_as (n + m + objects_in_all es) (n + (m + objects_in_all es)) old three (omega arith)
-          (then_passed (n + m) (objects_in_all es) old two three both c.in_ok-otherwise.ensures.passed);
+      form = law.an_if k c.args.pos b.condition ss bs es (label_of c.statement_label-label.result) (chosen_of c.in_ok-first.first)
+          (chosen_view c.in_ok-others.others) c.in_ok-others.otherwise.items one two (context a one) c.statement_label-label.ensures
+          c.in_ok-first.ensures.form (past_is a n old one c.in_ok-first.ensures.passed) ways ∙ ap Some (sym c.in_ok-if_statement.ensures);
+      passed = then_passed n (objects_in_branches bs + objects_in_all es) old one two c.in_ok-first.ensures.passed ways.passed;
     }
 
 -- loops
-pub typed_loop-returns-in_err-body-in-Forever : goal.typed_loop-returns-in_err-body-in-Forever
-typed_loop-returns-in_err-body-in-Forever t c =
+pub typed_loop-returns-in-Forever : goal.typed_loop-returns-in-Forever
+typed_loop-returns-in-Forever t c =
     let k : Context = context c.args.around.now c.args.declared.now in
     let ss = statements_of c.args.statements.now in
-    let f = c.in_err-body-in-Forever.field-0.0 in
-    let r : Refused (rule.statement k (source.repeat c.args.pos c.args.scheme.now ss)) f = subst (λ (x : LoopScheme). Refused (rule.statement k (source.repeat c.args.pos x ss)) f)
-    (sym c.in-Forever.is) (law.in_bare_loop k c.args.pos ss c.in_err-body-in-Forever.ensures) in
-    search (rules, r)
+    law.at_scheme k c.args.pos ss c.args.declared.now c.typed_statements-body.new.declared c.bare_loop.result (sym c.in-Forever.is)
+    (law.bare_loop_built k c.args.pos ss (label_of c.statement_label-label.result) c.args.declared.now c.typed_statements-body.new.declared
+    c.typed_statements-body.result c.bare_loop.result c.statement_label-label.ensures c.bare_loop.ensures c.typed_statements-body.ensures)
 
 pub typed_loop-returns-in_err-decision-in-While : goal.typed_loop-returns-in_err-decision-in-While
 typed_loop-returns-in_err-decision-in-While t c =
@@ -239,31 +233,22 @@ typed_loop-returns-in_err-decision-in-While t c =
     (sym c.in-While.is) (law.in_while k c.args.pos ss c.in-While.condition c.in_err-decision-in-While.ensures) in
     search (rules, r)
 
-pub typed_loop-returns-in_err-body-in-While : goal.typed_loop-returns-in_err-body-in-While
-typed_loop-returns-in_err-body-in-While t c =
+pub typed_loop-returns-in_ok-decision-in-While : goal.typed_loop-returns-in_ok-decision-in-While
+typed_loop-returns-in_ok-decision-in-While t c =
     let k : Context = context c.args.around.now c.args.declared.now in
     let ss = statements_of c.args.statements.now in
-    let f = c.in_err-body-in-While.field-0.0 in
-    let r : Refused (rule.statement k (source.repeat c.args.pos c.args.scheme.now ss)) f = subst (λ (x : LoopScheme). Refused (rule.statement k (source.repeat c.args.pos x ss)) f)
-    (sym c.in-While.is) (law.in_while_body k c.args.pos ss c.in-While.condition c.in_err-body-in-While.ensures) in
-    search (rules, r)
+    law.at_scheme k c.args.pos ss c.args.declared.now c.typed_statements-body-in-While.new.declared c.while_loop.result (sym c.in-While.is)
+    (law.while_built k c.args.pos ss c.in-While.condition (label_of c.statement_label-label.result) c.in_ok-decision-in-While.decision c.args.declared.now
+    c.typed_statements-body-in-While.new.declared c.typed_statements-body-in-While.result c.while_loop.result c.statement_label-label.ensures
+    c.in_ok-decision-in-While.ensures.label c.in_ok-decision-in-While.ensures.test c.while_loop.ensures c.typed_statements-body-in-While.ensures)
 
-pub typed_loop-returns-in_err-typed_statements-in-For : goal.typed_loop-returns-in_err-typed_statements-in-For
-typed_loop-returns-in_err-typed_statements-in-For t c =
+pub typed_loop-returns-in-For : goal.typed_loop-returns-in-For
+typed_loop-returns-in-For t c =
     let k : Context = context c.args.around.now c.args.declared.now in
     let ss = statements_of c.args.statements.now in
-    let f = c.in_err-typed_statements-in-For.field-0.0 in
-    let r : Refused (rule.statement k (source.repeat c.args.pos c.args.scheme.now ss)) f = subst (λ (x : LoopScheme). Refused (rule.statement k (source.repeat c.args.pos x ss)) f)
-    (sym c.in-For.is) (law.in_for k c.args.pos ss c.in-For.field-0 c.in-For.field-1 c.in-For.field-2 c.in_err-typed_statements-in-For.ensures) in
-    search (rules, r)
-
-pub typed_loop-returns-in_ok-typed_statements-in-For : goal.typed_loop-returns-in_ok-typed_statements-in-For
-typed_loop-returns-in_ok-typed_statements-in-For t c =
-    let k : Context = context c.args.around.now c.args.declared.now in
-    let ss = statements_of c.args.statements.now in
-    subst (λ (x : LoopScheme). Refused (rule.statement k (source.repeat c.args.pos x ss)) c.mistyped.result) (sym c.in-For.is)
-    (law.for_later k c.args.pos ss c.in-For.field-0 c.in-For.field-1 c.in-For.field-2 c.in_ok-typed_statements-in-For.field-0.items
-    c.in_ok-typed_statements-in-For.ensures.form c.mistyped.ensures)
+    law.at_scheme k c.args.pos ss c.args.declared.now c.typed_statements-body-in-For.new.declared c.later_loop.result (sym c.in-For.is)
+    (law.for_built k c.args.pos ss c.in-For.field-0 c.in-For.field-1 c.in-For.field-2 c.args.declared.now c.typed_statements-body-in-For.new.declared
+    c.typed_statements-body-in-For.result c.later_loop.result c.later_loop.ensures c.typed_statements-body-in-For.ensures)
 
 -- bodies
 pub typed_body-returns-in_err-declarations : goal.typed_body-returns-in_err-declarations
@@ -329,17 +314,6 @@ typed_block-returns-in_err-block t c =
     let r = body.in_block k c.args.pos c.args.declarations.now c.args.handled.now one in
     search (rules, r)
 
-pub typed_block-returns-then-not-has_no_handlers : goal.typed_block-returns-then-not-has_no_handlers
-typed_block-returns-then-not-has_no_handlers t c =
-    let a = c.args.around.now in
-    let old = c.args.declared.now in
-    let k : Context = context a old in
-    let statements = ap (λ xs. statements_of xs) c.deref.ensures.value ∙ ap (λ h. statements_in h) c.handled.view_is in
-    let typed : typed_parts (of_block k) (declarations_in c.args.declarations.now) (statements_in c.args.handled.now) ≡ Some c.in_ok-block.block =
-    body.moved (λ j ds ss. typed_parts j ds ss ≡ Some c.in_ok-block.block) (opened_is a old) c.declarations_of-declarations.ensures statements c.in_ok-block.ensures.form in
-    body.handlers_later k c.args.pos c.args.declarations.now c.args.handled.now c.in_ok-block.block typed
-    (sym c.has_no_handlers.ensures ∙ c.if-not-has_no_handlers.true) c.mistyped.ensures
-
 pub typed_block-returns : goal.typed_block-returns
 typed_block-returns t c =
     let a = c.args.around.now in
@@ -347,13 +321,11 @@ typed_block-returns t c =
     let new = c.typed_body.new.declared in
     let k : Context = context a old in
     let h = c.args.handled.now in
+    let b = c.in_ok-block.block in
     let statements = ap (λ xs. statements_of xs) c.deref.ensures.value ∙ ap (λ h. statements_in h) c.handled.view_is in
-    let kept = body.moved (λ j ds ss. Kept (typed_parts j ds ss) c.in_ok-block.block (spec.declared_by_all ds + objects_in_all ss) old new) (opened_is a old)
+    let kept = body.moved (λ j ds ss. Kept (typed_parts j ds ss) b (spec.declared_by_all ds + objects_in_all ss) old new) (opened_is a old)
     c.declarations_of-declarations.ensures statements c.in_ok-block.ensures in
-    record {
-      form = body.a_block k c.args.pos c.args.declarations.now h c.in_ok-block.block kept.form (sym c.has_no_handlers.ensures ∙ c.if-not-has_no_handlers.false);
-      passed = subst (λ m. Passed (spec.declared_by_all (declarations_in c.args.declarations.now) + m) old new) (sym (body.handled_objects h)) kept.passed;
-    }
+    body.block_typed k c.args.pos c.args.declarations.now h b kept.form old new c.block_statement.result c.block_statement.ensures kept.passed
 
 -- a statement
 pub typed_statement-returns-in-Null : goal.typed_statement-returns-in-Null

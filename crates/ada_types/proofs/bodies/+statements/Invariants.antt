@@ -23,8 +23,11 @@ decreases-typed_branch l = 6 * statements_size (statements_of l.branch.now.state
 abbrev pub decreases-typed_branches : goal.decreases-typed_branches
 decreases-typed_branches l = 6 * branches_size (branches_of l.branches.now) + 3
 
+abbrev pub decreases-typed_ways : goal.decreases-typed_ways
+decreases-typed_ways l = 6 * (branches_size (branches_of l.others.now) + statements_size (statements_of l.otherwise.now)) + 4
+
 abbrev pub decreases-typed_if : goal.decreases-typed_if
-decreases-typed_if l = 6 * (statements_size (statements_of l.first.now.statements.items) + branches_size (branches_of l.others.now) + statements_size (statements_of l.otherwise.now)) + 4
+decreases-typed_if l = 6 * (statements_size (statements_of l.first.now.statements.items) + branches_size (branches_of l.others.now) + statements_size (statements_of l.otherwise.now)) + 5
 
 abbrev pub decreases-typed_loop : goal.decreases-typed_loop
 decreases-typed_loop l = 6 * statements_size (statements_of l.statements.now) + 4
