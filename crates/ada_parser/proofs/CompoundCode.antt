@@ -35,7 +35,7 @@ use Rattle.ada_parser.specs.StatementReading as read
 use Rattle.ada_parser.specs.StatementDepth as at
 use Rattle.ada_parser.proofs.ArmCode.{inner_then, inner_stuck, behind_fails}
 use Rattle.ada_parser.proofs.BeforeWords.{before_then, before_stuck}
-use Rattle.ada_parser.proofs.Steps.{both, first_fails, word_then, no_word, deeper, takes, takes_deeper, looks, leaves, refuses, turns, list_step, list_step_fail, list_end, closing_then, no_closing, ending_then, no_ending}
+use Rattle.ada_parser.proofs.Steps.{both, first_fails, word_then, no_word, deeper, takes, takes_deeper, looks, leaves, turns, list_step, list_step_fail, list_end, closing_then, no_closing, ending_then, no_ending}
 
 branches_push : (zs : List Branch) (a : Branch) → branches_of (zs ++ a ∷ []) ≡ with_branch (branches_of zs) (branch_parts a)
 branches_push [] a = refl
@@ -231,38 +231,20 @@ module _ (x : Extent) where
   abbrev compound_on : ℕ → Symbol → Token → Turn Statement
   compound_on m = read.compound_turn x (read.statements x m) m
 
-  pub no_compound : Reads (at.at_compound x) [] (Stuck [])
-  no_compound = record { by = λ m h. refl }
-
   pub an_if : (t : Token) (us : Tokens) (q : Reading Statement) → Is symbol.If t → opens x Decisions ≡ true → Reads (at.at_if x t.pos) us q → Reads (at.at_compound x) (t ∷ us) q
   an_if t us q i o f = takes Refuse compound_on t us (at.at_if x t.pos) (λ m. ap (λ s. compound_on m s t) i ∙ ap (λ b. provided b (Take (at.at_if x t.pos m))) o) f
-
-  pub if_closed : (t : Token) (us : Tokens) → Is symbol.If t → opens x Decisions ≡ false → Reads (at.at_compound x) (t ∷ us) (Stuck (t ∷ us))
-  if_closed t us i o = refuses Refuse compound_on t us (λ m. ap (λ s. compound_on m s t) i ∙ ap (λ b. provided b (Take (at.at_if x t.pos m))) o)
 
   pub a_case : (t : Token) (us : Tokens) (q : Reading Statement) → Is symbol.Case t → opens x Types ≡ true → Reads (at.at_case x t.pos) us q → Reads (at.at_compound x) (t ∷ us) q
   a_case t us q i o f = takes Refuse compound_on t us (at.at_case x t.pos) (λ m. ap (λ s. compound_on m s t) i ∙ ap (λ b. provided b (Take (at.at_case x t.pos m))) o) f
 
-  pub case_closed : (t : Token) (us : Tokens) → Is symbol.Case t → opens x Types ≡ false → Reads (at.at_compound x) (t ∷ us) (Stuck (t ∷ us))
-  case_closed t us i o = refuses Refuse compound_on t us (λ m. ap (λ s. compound_on m s t) i ∙ ap (λ b. provided b (Take (at.at_case x t.pos m))) o)
-
   pub a_loop : (t : Token) (us : Tokens) (q : Reading Statement) → Is symbol.Loop t → opens x Decisions ≡ true → Reads (at.at_loop x t.pos Forever) (t ∷ us) q → Reads (at.at_compound x) (t ∷ us) q
   a_loop t us q i o f = looks Refuse compound_on t us (at.at_loop x t.pos Forever) (λ m. ap (λ s. compound_on m s t) i ∙ ap (λ b. provided b (Look (at.at_loop x t.pos Forever m))) o) f
-
-  pub loop_closed : (t : Token) (us : Tokens) → Is symbol.Loop t → opens x Decisions ≡ false → Reads (at.at_compound x) (t ∷ us) (Stuck (t ∷ us))
-  loop_closed t us i o = refuses Refuse compound_on t us (λ m. ap (λ s. compound_on m s t) i ∙ ap (λ b. provided b (Look (at.at_loop x t.pos Forever m))) o)
 
   pub a_while : (t : Token) (us : Tokens) (q : Reading Statement) → Is symbol.While t → opens x Decisions ≡ true → Reads (at.at_while x t.pos) us q → Reads (at.at_compound x) (t ∷ us) q
   a_while t us q i o f = takes Refuse compound_on t us (at.at_while x t.pos) (λ m. ap (λ s. compound_on m s t) i ∙ ap (λ b. provided b (Take (at.at_while x t.pos m))) o) f
 
-  pub while_closed : (t : Token) (us : Tokens) → Is symbol.While t → opens x Decisions ≡ false → Reads (at.at_compound x) (t ∷ us) (Stuck (t ∷ us))
-  while_closed t us i o = refuses Refuse compound_on t us (λ m. ap (λ s. compound_on m s t) i ∙ ap (λ b. provided b (Take (at.at_while x t.pos m))) o)
-
   pub a_for : (t : Token) (us : Tokens) (q : Reading Statement) → Is symbol.For t → opens x Types ≡ true → Reads (at.at_for x t.pos) us q → Reads (at.at_compound x) (t ∷ us) q
   a_for t us q i o f = takes Refuse compound_on t us (at.at_for x t.pos) (λ m. ap (λ s. compound_on m s t) i ∙ ap (λ b. provided b (Take (at.at_for x t.pos m))) o) f
-
-  pub for_closed : (t : Token) (us : Tokens) → Is symbol.For t → opens x Types ≡ false → Reads (at.at_compound x) (t ∷ us) (Stuck (t ∷ us))
-  for_closed t us i o = refuses Refuse compound_on t us (λ m. ap (λ s. compound_on m s t) i ∙ ap (λ b. provided b (Take (at.at_for x t.pos m))) o)
 
   abbrev plain_block : Token → ℕ → Reader Statement
   plain_block t m = read.block_by x (read.statements x m) m t.pos None
@@ -270,29 +252,7 @@ module _ (x : Extent) where
   pub a_block : (t : Token) (us : Tokens) (q : Reading Statement) → Is symbol.Begin t → opens x Decisions ≡ true → Reads (at.at_block x t.pos None) us q → Reads (at.at_compound x) (t ∷ us) q
   a_block t us q i o f = takes_deeper Refuse compound_on t us (plain_block t) (λ m. ap (λ s. compound_on m s t) i ∙ ap (λ b. provided b (Take (plain_block t m))) o) f
 
-  pub block_closed : (t : Token) (us : Tokens) → Is symbol.Begin t → opens x Decisions ≡ false → Reads (at.at_compound x) (t ∷ us) (Stuck (t ∷ us))
-  block_closed t us i o = refuses Refuse compound_on t us (λ m. ap (λ s. compound_on m s t) i ∙ ap (λ b. provided b (Take (plain_block t m))) o)
-
   pub a_declaring : (t : Token) (us : Tokens) (q : Reading Statement) → Is symbol.Declare t → opens x Decisions ≡ true → Reads (at.at_declaring x t.pos) us q → Reads (at.at_compound x) (t ∷ us) q
   a_declaring t us q i o f = takes Refuse compound_on t us (at.at_declaring x t.pos) (λ m. ap (λ s. compound_on m s t) i ∙ ap (λ b. provided b (Take (at.at_declaring x t.pos m))) o) f
 
-  pub declaring_closed : (t : Token) (us : Tokens) → Is symbol.Declare t → opens x Decisions ≡ false → Reads (at.at_compound x) (t ∷ us) (Stuck (t ∷ us))
-  declaring_closed t us i o = refuses Refuse compound_on t us (λ m. ap (λ s. compound_on m s t) i ∙ ap (λ b. provided b (Take (at.at_declaring x t.pos m))) o)
-
-  not_compound : (m : ℕ) (s : Symbol) (t : Token) → (s ≡ symbol.If → ⊥) → (s ≡ symbol.Case → ⊥) → (s ≡ symbol.Loop → ⊥) → (s ≡ symbol.While → ⊥) → (s ≡ symbol.For → ⊥) → (s ≡ symbol.Begin → ⊥) → (s ≡ symbol.Declare → ⊥) → compound_on m s t ≡ Refuse
-  not_compound m symbol.If t a b c d e f g = absurd (a refl)
-  not_compound m symbol.Case t a b c d e f g = absurd (b refl)
-  not_compound m symbol.Loop t a b c d e f g = absurd (c refl)
-  not_compound m symbol.While t a b c d e f g = absurd (d refl)
-  not_compound m symbol.For t a b c d e f g = absurd (e refl)
-  not_compound m symbol.Begin t a b c d e f g = absurd (f refl)
-  not_compound m symbol.Declare t a b c d e f g = absurd (g refl)
-  not_compound m _ t a b c d e f g = refl
-
-  pub no_statement : (t : Token) (us : Tokens) → (symbol_of t.lexeme ≡ symbol.If → ⊥) → (symbol_of t.lexeme ≡ symbol.Case → ⊥) → (symbol_of t.lexeme ≡ symbol.Loop → ⊥) → (symbol_of t.lexeme ≡ symbol.While → ⊥) → (symbol_of t.lexeme ≡ symbol.For → ⊥)
-      → (symbol_of t.lexeme ≡ symbol.Begin → ⊥) → (symbol_of t.lexeme ≡ symbol.Declare → ⊥) → Reads (at.at_compound x) (t ∷ us) (Stuck (t ∷ us))
-  no_statement t us a b c d e f g = refuses Refuse compound_on t us (λ m. not_compound m (symbol_of t.lexeme) t a b c d e f g)
-
 pub ruleset branches_rules = (branches_begin, branches_step, branches_step_fail, branches_end)
-
-pub ruleset compound_rules = (no_compound, an_if, if_closed, a_case, case_closed, a_loop, loop_closed, a_while, while_closed, a_for, for_closed, a_block, block_closed, a_declaring, declaring_closed, no_statement)

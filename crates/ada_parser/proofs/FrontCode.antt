@@ -1,12 +1,9 @@
 -- How choices and optional parts are read of tokens that were split into the first one and the rest, answer by answer.
-use Rattle.std.proofs.Common.{◌≡◌, ℕ, ◌<◌, ◌≤◌, Bool, true, false, List, [], ◌∷◌, length, Option, Some, None, refl, sym, subst, ◌∙◌, arith}
-use Rattle.std.proofs.lemmas.Bool.{false≢true}
+use Rattle.std.proofs.Common.{◌≡◌, ◌<◌, true, false, ◌∷◌, length, Some, None, sym, subst}
 use Rattle.ada_lexer.specs.declared.token.Token.{Token}
 use Rattle.ada_syntax.specs.Tree.{Expr, Name}
-use Rattle.ada_syntax.specs.declared.statement.Choice.{Choice}
 use Rattle.ada_syntax.specs.declared.statement.Choice.TheVariants as choice
 use Rattle.ada_syntax.specs.declared.statement.ExceptionChoice.TheVariants as exception
-use Rattle.expression_parser.specs.declared.symbol.Symbol.{Symbol}
 use Rattle.expression_parser.specs.declared.symbol.Symbol.TheVariants as symbol
 use Rattle.expression_parser.specs.declared.extent.Extent.{Extent}
 use Rattle.expression_parser.specs.declared.extent.Extent.TheVariants.{Subprograms}

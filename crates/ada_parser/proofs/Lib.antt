@@ -13,6 +13,7 @@ pub mod FrontCode
 pub mod StatementNodes
 pub mod ArmCode
 pub mod CompoundCode
+pub mod BeginningCode
 pub mod StatementCode
 pub mod Suffixes
 pub mod UnitLocal

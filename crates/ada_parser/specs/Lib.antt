@@ -7,6 +7,7 @@ pub mod StatementDepth
 pub mod Endings
 pub mod Parts
 pub mod Bodies
+pub mod Beginnings
 pub mod Grammar
 pub mod UnitReading
 pub mod UnitDepth

@@ -1,10 +1,11 @@
 //! Statements with statements in them (Ada RM 2012, 5.3 to 5.6).
 
-ghost use Rattle.std.specs.Prelude.{◌<◌, ◌≤◌, length, Option, IfOk};
+ghost use Rattle.std.specs.Prelude.{◌≡◌, ◌<◌, ◌≤◌, length, Option, IfOk};
 ghost use Rattle.ada_syntax.specs.StatementView.{branches_of, alternatives_of};
 ghost use Rattle.expression_parser.specs.Shows.{Shows, ShowsAs, Reads};
 ghost use Rattle.ada_parser.specs.StatementDepth as at;
 ghost use Rattle.ada_parser.specs.Parts.{branch_parts};
+ghost use Rattle.ada_parser.specs.Beginnings.{extent_of, ShowsBeginning};
 ghost use Rattle.ada_parser.specs.Bodies.{ReadsIfRest, ReadsCaseArms, ReadsLoopBody};
 
 use crate::arms::alternatives;
@@ -214,46 +215,50 @@ fn declaring_block<'a>(
     block(parser, depth, pos, Some(Seq::from(declarations)), rest)
 }
 
-/// A statement with statements in it. `case` and `for` come with [`Extent::Types`], the others with
-/// [`Extent::Decisions`].
-#[cycle(statement)]
-#[tactic(auto, using(crate::proofs::CompoundCode::compound_rules))]
-pub fn compound<'a>(parser: Parser, depth: u32, tokens: &'a [Token]) -> Parsed<'a, Statement>
-    ensures reads { Shows (Reads (at.at_compound parser.extent) tokens.now) result }
-    ensures shorter { IfOk result (λ x. length x.1.now < length tokens.now) }
+/// The extent with which a statement with statements in it comes that begins with this word.
+fn extent_of(word: Symbol) -> Option<Extent>
+    ensures { result ≡ extent_of word }
+{
+    match word {
+        Symbol::Case | Symbol::For => Some(Extent::Types),
+        Symbol::If | Symbol::Loop | Symbol::While | Symbol::Begin | Symbol::Declare => {
+            Some(Extent::Decisions)
+        }
+        _ => None,
+    }
+}
+
+/// The word by which a statement with statements in it begins, and its place.
+fn beginning<'a>(parser: Parser, tokens: &'a [Token]) -> Parsed<'a, (Symbol, Pos)>
+    ensures { ShowsBeginning parser.extent tokens.now result }
 {
     let Some((token, rest)) = tokens.split_first() else {
         return Err(Fault::Syntax(tokens));
     };
-    match symbol_in(token.lexeme) {
-        Symbol::If => {
-            parser.needs(Extent::Decisions, tokens)?;
-            if_statement(parser, depth, token.pos, rest)
-        }
-        Symbol::Case => {
-            parser.needs(Extent::Types, tokens)?;
-            case_statement(parser, depth, token.pos, rest)
-        }
-        Symbol::Loop => {
-            parser.needs(Extent::Decisions, tokens)?;
-            loop_rest(parser, depth, token.pos, LoopScheme::Forever, tokens)
-        }
-        Symbol::While => {
-            parser.needs(Extent::Decisions, tokens)?;
-            while_loop(parser, depth, token.pos, rest)
-        }
-        Symbol::For => {
-            parser.needs(Extent::Types, tokens)?;
-            for_loop(parser, depth, token.pos, rest)
-        }
-        Symbol::Begin => {
-            parser.needs(Extent::Decisions, tokens)?;
-            block(parser, depth, token.pos, None, rest)
-        }
-        Symbol::Declare => {
-            parser.needs(Extent::Decisions, tokens)?;
-            declaring_block(parser, depth, token.pos, rest)
-        }
+    let word = symbol_in(token.lexeme);
+    let Some(needed) = extent_of(word) else {
+        return Err(Fault::Syntax(tokens));
+    };
+    parser.needs(needed, tokens)?;
+    Ok(((word, token.pos), rest))
+}
+
+/// A statement with statements in it. `case` and `for` come with [`Extent::Types`], the others with
+/// [`Extent::Decisions`].
+#[cycle(statement)]
+pub fn compound<'a>(parser: Parser, depth: u32, tokens: &'a [Token]) -> Parsed<'a, Statement>
+    ensures reads { Shows (Reads (at.at_compound parser.extent) tokens.now) result }
+    ensures shorter { IfOk result (λ x. length x.1.now < length tokens.now) }
+{
+    let ((word, pos), rest) = beginning(parser, tokens)?;
+    match word {
+        Symbol::If => if_statement(parser, depth, pos, rest),
+        Symbol::Case => case_statement(parser, depth, pos, rest),
+        Symbol::Loop => loop_rest(parser, depth, pos, LoopScheme::Forever, tokens),
+        Symbol::While => while_loop(parser, depth, pos, rest),
+        Symbol::For => for_loop(parser, depth, pos, rest),
+        Symbol::Begin => block(parser, depth, pos, None, rest),
+        Symbol::Declare => declaring_block(parser, depth, pos, rest),
         _ => Err(Fault::Syntax(tokens)),
     }
 }

@@ -1,11 +1,11 @@
-use Rattle.std.proofs.Common.{List, Some, length, ap, sym, subst, arith}
+use Rattle.std.proofs.Common.{List, Some, None, length, ap, sym, subst, arith}
 use Rattle.std.proofs.lemmas.Result.{err_from_is_err_and}
 use Rattle.ada_syntax.specs.StatementTree.{conditional, case_of}
 use Rattle.ada_syntax.specs.StatementView.{statements_of, branches_of, alternatives_of, handlers_of}
 use Rattle.ada_syntax.specs.declared.statement.Branch.{Branch}
 use Rattle.ada_syntax.specs.declared.statement.Alternative.{Alternative}
 use Rattle.ada_syntax.specs.declared.statement.Handler.{Handler}
-use Rattle.ada_syntax.specs.declared.statement.LoopScheme.TheVariants.{While, For}
+use Rattle.ada_syntax.specs.declared.statement.LoopScheme.TheVariants.{While, For, Forever}
 use Rattle.expression_parser.specs.declared.symbol.Symbol.TheVariants as symbol
 use Rattle.expression_parser.specs.Reading.{Got, Stuck}
 use Rattle.expression_parser.specs.Shows.{More, Reads}
@@ -16,13 +16,15 @@ use Rattle.declaration_parser.specs.SubtypeReading.{range_by}
 use Rattle.declaration_parser.specs.DeclarationReading.{declarations_by}
 use Rattle.declaration_parser.proofs.Closings.{within_below, below_behind}
 use Rattle.ada_parser.specs.Bodies.{at_if_rest, at_case_arms}
+use Rattle.ada_parser.specs.Beginnings.{Begins}
 use Rattle.ada_parser.specs.Lists.{before}
 use Rattle.ada_parser.specs.Parts.{branch_parts}
 use Rattle.ada_parser.specs.StatementReading as read
 use Rattle.ada_parser.proofs.StatementCode.{handled_read, handled_fail, handlers_fail, statement_rules, statements_rules}
 use Rattle.ada_parser.proofs.ArmCode.{alternative_turns, alternatives_step, alternatives_end, handler_turns, handler_list_step, handler_list_end, alternative_read, alternative_fail, alternative_empty, handler_read, handler_fail, handler_empty, alternatives_rules, handler_list_rules, handlers_rules}
-use Rattle.ada_parser.proofs.CompoundCode.{branch_turns, branches_step, branches_end, branch_read, branch_fail, branch_empty, if_rest_read, if_others_fail, if_else_fail, if_open, if_then, if_fail, arms_read, arms_fail, arms_open, case_then, case_fail, loop_read, loop_none, loop_empty, loop_open, while_read, while_fail, for_read, for_fail, for_no_in, for_range_fail, block_read, block_fail, block_open, block_at, declaring_read, declaring_fail, no_else, an_else, branches_rules, compound_rules}
+use Rattle.ada_parser.proofs.CompoundCode.{branch_turns, branches_step, branches_end, branch_read, branch_fail, branch_empty, if_rest_read, if_others_fail, if_else_fail, if_open, if_then, if_fail, arms_read, arms_fail, arms_open, case_then, case_fail, loop_read, loop_none, loop_empty, loop_open, while_read, while_fail, for_read, for_fail, for_no_in, for_range_fail, block_read, block_fail, block_open, block_at, declaring_read, declaring_fail, no_else, an_else, branches_rules}
 use Rattle.ada_parser.proofs.Parts.{part_fails, name_fails, closing_fails, end_fails, shown_so}
+use Rattle.ada_parser.proofs.BeginningCode.{begins_if, begins_case, begins_loop, begins_while, begins_for, begins_block, begins_declaring}
 use Rattle.ada_parser.specs.StatementDepth as at
 use Rattle.ada_parser.proofs.+statement.Goals as goal
 
@@ -428,21 +430,6 @@ compound::branches-loop-after-init t c = grind (arith, branches_rules)
 pub compound::branches-returns-in_err-branch-clause-reads : goal.compound::branches-returns-in_err-branch-clause-reads
 compound::branches-returns-in_err-branch-clause-reads t c = grind (arith, branches_rules)
 
-pub compound::compound-returns-in_ok-needs-in-Begin-clause-reads : goal.compound::compound-returns-in_ok-needs-in-Begin-clause-reads
-compound::compound-returns-in_ok-needs-in-Begin-clause-reads t c = grind (arith, compound_rules)
-
-pub compound::compound-returns-in_ok-needs-in-Case-clause-reads : goal.compound::compound-returns-in_ok-needs-in-Case-clause-reads
-compound::compound-returns-in_ok-needs-in-Case-clause-reads t c = grind (arith, compound_rules)
-
-pub compound::compound-returns-in_ok-needs-in-Declare-clause-reads : goal.compound::compound-returns-in_ok-needs-in-Declare-clause-reads
-compound::compound-returns-in_ok-needs-in-Declare-clause-reads t c = grind (arith, compound_rules)
-
-pub compound::compound-returns-in_ok-needs-in-Loop-clause-reads : goal.compound::compound-returns-in_ok-needs-in-Loop-clause-reads
-compound::compound-returns-in_ok-needs-in-Loop-clause-reads t c = grind (arith, compound_rules)
-
-pub compound::compound-returns-in_ok-needs-in-While-clause-reads : goal.compound::compound-returns-in_ok-needs-in-While-clause-reads
-compound::compound-returns-in_ok-needs-in-While-clause-reads t c = grind (arith, compound_rules)
-
 pub statements::statement-returns-in-Identifier-clause-reads : goal.statements::statement-returns-in-Identifier-clause-reads
 statements::statement-returns-in-Identifier-clause-reads t c = grind (arith, statement_rules)
 
@@ -478,3 +465,66 @@ statements::statements-returns-in_err-first-clause-reads t c = grind (arith, sta
 
 pub statements::statements-returns-in_err-statement-clause-reads : goal.statements::statements-returns-in_err-statement-clause-reads
 statements::statements-returns-in_err-statement-clause-reads t c = grind (arith, statements_rules)
+
+pub compound::compound-returns-in-If-clause-reads : goal.compound::compound-returns-in-If-clause-reads
+compound::compound-returns-in-If-clause-reads t c =
+    let x = c.args.parser.extent in
+    let ts = c.args.tokens.now in
+    let pos = c.in_ok-word.pos in
+    let rest = c.in_ok-word.rest.now in
+    let begins : Begins x ts symbol.If pos rest = subst (λ s. Begins x ts s pos rest) c.in-If.is c.in_ok-word.ensures in
+    shown_so (λ z. z) (Reads (at.at_if x pos) rest) (Reads (at.at_compound x) ts) c.if_statement.result c.if_statement.ensures.reads (λ q. begins_if x ts rest pos q begins)
+
+pub compound::compound-returns-in-Case-clause-reads : goal.compound::compound-returns-in-Case-clause-reads
+compound::compound-returns-in-Case-clause-reads t c =
+    let x = c.args.parser.extent in
+    let ts = c.args.tokens.now in
+    let pos = c.in_ok-word.pos in
+    let rest = c.in_ok-word.rest.now in
+    let begins : Begins x ts symbol.Case pos rest = subst (λ s. Begins x ts s pos rest) c.in-Case.is c.in_ok-word.ensures in
+    shown_so (λ z. z) (Reads (at.at_case x pos) rest) (Reads (at.at_compound x) ts) c.case_statement.result c.case_statement.ensures.reads (λ q. begins_case x ts rest pos q begins)
+
+pub compound::compound-returns-in-Loop-clause-reads : goal.compound::compound-returns-in-Loop-clause-reads
+compound::compound-returns-in-Loop-clause-reads t c =
+    let x = c.args.parser.extent in
+    let ts = c.args.tokens.now in
+    let pos = c.in_ok-word.pos in
+    let rest = c.in_ok-word.rest.now in
+    let begins : Begins x ts symbol.Loop pos rest = subst (λ s. Begins x ts s pos rest) c.in-Loop.is c.in_ok-word.ensures in
+    shown_so (λ z. z) (Reads (at.at_loop x pos Forever) ts) (Reads (at.at_compound x) ts) c.loop_rest.result c.loop_rest.ensures.reads (λ q. begins_loop x ts rest pos q begins)
+
+pub compound::compound-returns-in-While-clause-reads : goal.compound::compound-returns-in-While-clause-reads
+compound::compound-returns-in-While-clause-reads t c =
+    let x = c.args.parser.extent in
+    let ts = c.args.tokens.now in
+    let pos = c.in_ok-word.pos in
+    let rest = c.in_ok-word.rest.now in
+    let begins : Begins x ts symbol.While pos rest = subst (λ s. Begins x ts s pos rest) c.in-While.is c.in_ok-word.ensures in
+    shown_so (λ z. z) (Reads (at.at_while x pos) rest) (Reads (at.at_compound x) ts) c.while_loop.result c.while_loop.ensures.reads (λ q. begins_while x ts rest pos q begins)
+
+pub compound::compound-returns-in-For-clause-reads : goal.compound::compound-returns-in-For-clause-reads
+compound::compound-returns-in-For-clause-reads t c =
+    let x = c.args.parser.extent in
+    let ts = c.args.tokens.now in
+    let pos = c.in_ok-word.pos in
+    let rest = c.in_ok-word.rest.now in
+    let begins : Begins x ts symbol.For pos rest = subst (λ s. Begins x ts s pos rest) c.in-For.is c.in_ok-word.ensures in
+    shown_so (λ z. z) (Reads (at.at_for x pos) rest) (Reads (at.at_compound x) ts) c.for_loop.result c.for_loop.ensures.reads (λ q. begins_for x ts rest pos q begins)
+
+pub compound::compound-returns-in-Begin-clause-reads : goal.compound::compound-returns-in-Begin-clause-reads
+compound::compound-returns-in-Begin-clause-reads t c =
+    let x = c.args.parser.extent in
+    let ts = c.args.tokens.now in
+    let pos = c.in_ok-word.pos in
+    let rest = c.in_ok-word.rest.now in
+    let begins : Begins x ts symbol.Begin pos rest = subst (λ s. Begins x ts s pos rest) c.in-Begin.is c.in_ok-word.ensures in
+    shown_so (λ z. z) (Reads (at.at_block x pos None) rest) (Reads (at.at_compound x) ts) c.block.result c.block.ensures.reads (λ q. begins_block x ts rest pos q begins)
+
+pub compound::compound-returns-in-Declare-clause-reads : goal.compound::compound-returns-in-Declare-clause-reads
+compound::compound-returns-in-Declare-clause-reads t c =
+    let x = c.args.parser.extent in
+    let ts = c.args.tokens.now in
+    let pos = c.in_ok-word.pos in
+    let rest = c.in_ok-word.rest.now in
+    let begins : Begins x ts symbol.Declare pos rest = subst (λ s. Begins x ts s pos rest) c.in-Declare.is c.in_ok-word.ensures in
+    shown_so (λ z. z) (Reads (at.at_declaring x pos) rest) (Reads (at.at_compound x) ts) c.declaring_block.result c.declaring_block.ensures.reads (λ q. begins_declaring x ts rest pos q begins)
