@@ -1,12 +1,14 @@
-//! A program, its object and its trace in memory, and commands over them.
+//! A program, its object and its trace in memory, and commands over them; and the files and sinks
+//! below.
 
+mod faltering;
 mod faults;
+mod outside;
 mod runs;
 
 use commands::{FileRef, Status, gnatcov};
 use cov_io::{Entry, Files, MemFiles, MemSink};
 use std::alloc::{AllocError, Global};
-use std::test::Fail;
 
 /// A statement that puts, and one behind a return.
 const P1: &str = "with Test_IO;                      -- p1.adb
@@ -95,24 +97,59 @@ fn entry(alloc: Global, name: &str, bytes: &[u8]) -> Result<Entry, AllocError> {
     })
 }
 
+/// Adds a file.
+fn add_entry(
+    alloc: Global,
+    contents: &mut Vec<Entry>,
+    name: &str,
+    bytes: &[u8],
+) -> Result<(), AllocError> {
+    let entry = entry(alloc, name, bytes)?;
+    contents.push(entry)?;
+    Ok(())
+}
+
+/// Files with these names and bytes, which fail at these calls.
+fn files_of(
+    alloc: Global,
+    entries: &[(&str, &[u8])],
+    failing: &[u64],
+) -> Result<MemFiles, AllocError> {
+    let mut contents = Vec::new(alloc);
+    for (name, bytes) in entries {
+        add_entry(alloc, &mut contents, name, bytes)?;
+    }
+    Ok(MemFiles::new(contents, Vec::from_slice(alloc, failing)?))
+}
+
 /// A source `p1.adb` and an empty input.
 fn sources(alloc: Global, text: &str) -> Result<MemFiles, AllocError> {
-    let mut contents = Vec::new(alloc);
-    contents.push(entry(alloc, "p1.adb", text.as_bytes())?)?;
-    contents.push(entry(alloc, "empty", &[])?)?;
-    Ok(MemFiles::new(contents, Vec::new(alloc)))
+    files_of(
+        alloc,
+        &[("p1.adb", text.as_bytes()), ("empty", b"".as_slice())],
+        &[],
+    )
+}
+
+/// The commands that make the files that are no sources.
+const MAKING: [&str; 3] = [
+    "gnatcov compile --main=P1 -o p1.obj p1.adb",
+    "gnatcov run --input=empty -o p1.trace p1.obj",
+    "gnatcov run --input=empty -o copy.trace p1.obj",
+];
+
+/// Obeys commands, whatever they put.
+fn obey(alloc: Global, files: &mut MemFiles, lines: &[&str]) -> Result<(), AllocError> {
+    for line in lines {
+        let _ = told_by(alloc, line, files)?;
+    }
+    Ok(())
 }
 
 /// All files, as the commands make them.
-fn all_files(alloc: Global) -> Result<MemFiles, Fail> {
+fn all_files(alloc: Global) -> Result<MemFiles, AllocError> {
     let mut files = sources(alloc, P1)?;
-    for line in [
-        "gnatcov compile --main=P1 -o p1.obj p1.adb",
-        "gnatcov run --input=empty -o p1.trace p1.obj",
-        "gnatcov run --input=empty -o copy.trace p1.obj",
-    ] {
-        let _ = told_by(alloc, line, &mut files)?;
-    }
+    obey(alloc, &mut files, &MAKING)?;
     Ok(files)
 }
 
@@ -121,7 +158,7 @@ fn copied(alloc: Global, files: &MemFiles, failing: &[u64]) -> Result<MemFiles, 
     let mut contents = Vec::new(alloc);
     for name in NAMES {
         if let Some(bytes) = files.get(name) {
-            contents.push(entry(alloc, name, bytes)?)?;
+            add_entry(alloc, &mut contents, name, bytes)?;
         }
     }
     Ok(MemFiles::new(contents, Vec::from_slice(alloc, failing)?))
@@ -138,21 +175,34 @@ fn words_of(alloc: Global, line: &str) -> Result<Vec<String>, AllocError> {
     Ok(words)
 }
 
+/// The status of a command.
+fn status_of(
+    alloc: Global,
+    line: &str,
+    files: &mut MemFiles,
+    out: &mut MemSink,
+) -> Result<Status, AllocError> {
+    let words = words_of(alloc, line)?;
+    Ok(gnatcov(alloc, words.as_slice(), files, out))
+}
+
 /// What a command puts, whatever its status.
 fn told_by(alloc: Global, line: &str, files: &mut MemFiles) -> Result<String, AllocError> {
-    let words = words_of(alloc, line)?;
     let mut out = MemSink::new(alloc, ROOM, Vec::new(alloc))?;
-    let _ = gnatcov(alloc, words.as_slice(), files, &mut out);
+    let _ = status_of(alloc, line, files, &mut out)?;
     String::from_utf8_lossy(alloc, out.as_slice())
+}
+
+/// A sink that has room and fails as planned.
+fn sink_of(alloc: Global, plan: Plan) -> Result<MemSink, AllocError> {
+    MemSink::new(alloc, plan.room, Vec::from_slice(alloc, plan.puts)?)
 }
 
 /// Whether a command over a copy of the files comes to what it has to.
 fn holds(alloc: Global, before: &MemFiles, case: &Case<'_>) -> Result<bool, AllocError> {
-    let words = words_of(alloc, case.line)?;
     let mut files = copied(alloc, before, case.plan.calls)?;
-    let puts = Vec::from_slice(alloc, case.plan.puts)?;
-    let mut out = MemSink::new(alloc, case.plan.room, puts)?;
-    let status = gnatcov(alloc, words.as_slice(), &mut files, &mut out);
+    let mut out = sink_of(alloc, case.plan)?;
+    let status = status_of(alloc, case.line, &mut files, &mut out)?;
     let told = status == case.status && out.as_slice() == case.text.as_bytes();
     Ok(told && kept(before, &files, case))
 }
@@ -169,16 +219,12 @@ fn are_same(before: &MemFiles, after: &MemFiles) -> bool {
     NAMES.iter().all(|name| after.get(name) == before.get(name))
 }
 
-/// The place of the first case that comes to something else.
-fn broken(
-    alloc: Global,
-    before: &MemFiles,
-    cases: &[Case<'_>],
-) -> Result<Option<usize>, AllocError> {
-    for (place, case) in cases.iter().enumerate() {
+/// Whether all cases come to what they have to.
+fn hold(alloc: Global, before: &MemFiles, cases: &[Case<'_>]) -> Result<bool, AllocError> {
+    for case in cases {
         if !holds(alloc, before, case)? {
-            return Ok(Some(place));
+            return Ok(false);
         }
     }
-    Ok(None)
+    Ok(true)
 }

@@ -66,22 +66,3 @@ impl Sink for MemSink {
         self.faults
     }
 }
-
-#[cfg(test)]
-mod tests {
-    use super::*;
-    use std::test::Fail;
-
-    #[test]
-    fn takes_what_fits(rt: HostRuntime) -> Result<(), Fail> {
-        let alloc = rt.alloc();
-        let mut sink = MemSink::new(alloc, 5, vec![in alloc; 1]?)?;
-        assert_eq!(rt; sink.put(b"abc"), Ok(()));
-        assert_eq!(rt; sink.put(b"x"), Err(SinkFailed));
-        assert_eq!(rt; sink.put(b"defg"), Err(SinkFailed));
-        assert_eq!(rt; sink.put(b""), Ok(()));
-        assert_eq!(rt; sink.as_slice(), b"abcde".as_slice());
-        assert_eq!(rt; sink.faults(), 2);
-        Ok(())
-    }
-}

@@ -1,13 +1,12 @@
 //! Reads, writes and puts that fail, files that are not there, and words that are no command.
 
 use super::{
-    COMPILE, COVERAGE, Case, NO_FAULTS, P1_REPORT, Plan, RUN, all_files, broken, holds, quiet,
+    COMPILE, COVERAGE, Case, NO_FAULTS, P1_REPORT, Plan, RUN, all_files, hold, holds, quiet,
     unread_status,
 };
 use commands::Status;
 use cov_io::MemFiles;
 use std::alloc::{AllocError, Global};
-use std::test::Fail;
 
 /// A command whose read of the file in this place fails, which is this call.
 fn unread(
@@ -92,21 +91,14 @@ fn cut(case: Case<'_>) -> Case<'_> {
     }
 }
 
-/// The place of the first refusal that comes to something else where its line is put, is not put,
-/// or is put in part.
-fn broken_refusal(
-    alloc: Global,
-    before: &MemFiles,
-    cases: &[Case<'_>],
-) -> Result<Option<usize>, AllocError> {
-    for (place, case) in cases.iter().enumerate() {
-        for refusal in [*case, muted(*case), cut(*case)] {
-            if !holds(alloc, before, &refusal)? {
-                return Ok(Some(place));
-            }
+/// Whether refusals come to what they have to where their line is put, is not put, or is put in part.
+fn are_refused(alloc: Global, before: &MemFiles, cases: &[Case<'_>]) -> Result<bool, AllocError> {
+    for case in cases {
+        if !hold(alloc, before, &[*case, muted(*case), cut(*case)])? {
+            return Ok(false);
         }
     }
-    Ok(None)
+    Ok(true)
 }
 
 fn file_faults() -> [Case<'static>; 8] {
@@ -150,13 +142,17 @@ fn misuses() -> [Case<'static>; 5] {
     ]
 }
 
+/// Whether refusals over all files come to what they have to.
+fn are_refused_over_all(alloc: Global, cases: &[Case<'_>]) -> Result<bool, AllocError> {
+    let files = all_files(alloc)?;
+    are_refused(alloc, &files, cases)
+}
+
 #[test]
-fn refusals_change_nothing_and_put_one_line(rt: HostRuntime) -> Result<(), Fail> {
-    let files = all_files(rt.alloc())?;
-    assert_eq!(rt; broken_refusal(rt.alloc(), &files, &file_faults())?, None);
-    assert_eq!(rt; broken_refusal(rt.alloc(), &files, &absences())?, None);
-    assert_eq!(rt; broken_refusal(rt.alloc(), &files, &misuses())?, None);
-    Ok(())
+fn refusals_change_nothing_and_put_one_line(rt: HostRuntime) {
+    assert!(rt; are_refused_over_all(rt.alloc(), &file_faults()) == Ok(true));
+    assert!(rt; are_refused_over_all(rt.alloc(), &absences()) == Ok(true));
+    assert!(rt; are_refused_over_all(rt.alloc(), &misuses()) == Ok(true));
 }
 
 /// Nothing is put after a put that failed. The file that was written before stays.
@@ -170,16 +166,19 @@ fn put_faults() -> [Case<'static>; 5] {
     ]
 }
 
-#[test]
-fn nothing_is_put_after_a_put_that_failed(rt: HostRuntime) -> Result<(), Fail> {
-    let files = all_files(rt.alloc())?;
-    assert_eq!(rt; broken(rt.alloc(), &files, &put_faults())?, None);
-    Ok(())
+/// Whether cases over all files come to what they have to.
+fn hold_over_all(alloc: Global, cases: &[Case<'_>]) -> Result<bool, AllocError> {
+    let files = all_files(alloc)?;
+    hold(alloc, &files, cases)
 }
 
-/// Whether a first word of so many bytes is the name of a program that compiles.
-fn is_named(alloc: Global, files: &MemFiles, length: usize) -> Result<bool, AllocError> {
-    let name = "a".repeat(alloc, length)?;
+#[test]
+fn nothing_is_put_after_a_put_that_failed(rt: HostRuntime) {
+    assert!(rt; hold_over_all(rt.alloc(), &put_faults()) == Ok(true));
+}
+
+/// Whether a program of this name compiles.
+fn is_name(alloc: Global, files: &MemFiles, name: &str) -> Result<bool, AllocError> {
     let line = format!(in alloc; "{name} compile --main=P1 -o new none")?;
     let wanted = quiet(
         line.as_str(),
@@ -189,12 +188,25 @@ fn is_named(alloc: Global, files: &MemFiles, length: usize) -> Result<bool, Allo
     holds(alloc, files, &wanted)
 }
 
+/// Whether words of 0, 1 and 4,097 bytes are names of the program.
+fn are_names(alloc: Global, files: &MemFiles) -> Result<bool, AllocError> {
+    for length in [0, 1, 4097] {
+        let name = "a".repeat(alloc, length)?;
+        if !is_name(alloc, files, name.as_str())? {
+            return Ok(false);
+        }
+    }
+    Ok(true)
+}
+
+/// The same over all files.
+fn are_names_over_all(alloc: Global) -> Result<bool, AllocError> {
+    let files = all_files(alloc)?;
+    are_names(alloc, &files)
+}
+
 /// The bound on the other words, of 4,096 bytes, is none for the program's name.
 #[test]
-fn the_programs_name_is_any_word(rt: HostRuntime) -> Result<(), Fail> {
-    let files = all_files(rt.alloc())?;
-    for length in [0, 1, 4097] {
-        assert!(rt; is_named(rt.alloc(), &files, length)?);
-    }
-    Ok(())
+fn the_programs_name_is_any_word(rt: HostRuntime) {
+    assert!(rt; are_names_over_all(rt.alloc()) == Ok(true));
 }

@@ -1,12 +1,11 @@
 //! What takes the bytes of a file or a number that was put: budgets, histories and digests.
 
-use super::{Case, all_files, holds, quiet, sources, told_by};
+use super::{Case, all_files, holds, obey, quiet, sources, told_by};
 use commands::Status;
-use cov_io::{Files, MemFiles};
+use cov_io::{FileFault, Files, MemFiles};
 use line_table::RoleKind;
 use object_format::read_object;
 use std::alloc::{AllocError, Global};
-use std::test::Fail;
 use trace_format::TraceView;
 
 /// A decision whose graph is a tree.
@@ -47,59 +46,82 @@ fn instructions_in(text: &str) -> Option<u32> {
     number.parse::<u32>().ok()
 }
 
-/// A run of `P1` with a budget that is used up.
-fn over_budget<'a>(line: &'a str, count: u32, text: &'a str) -> Case<'a> {
-    quiet(line, Status::OverBudget { count }, text)
+/// Whether a run of `P1` with a budget that is used up is told so.
+fn is_over_budget(alloc: Global, files: &MemFiles, budget: u32) -> Result<bool, AllocError> {
+    let line = format!(in alloc; "gnatcov run --input=empty --budget={budget} -o new p1.obj")?;
+    let told = format!(in alloc; "gnatcov: over budget after {budget} instructions\n")?;
+    let status = Status::OverBudget { count: budget };
+    holds(alloc, files, &quiet(line.as_str(), status, told.as_str()))
 }
 
-/// A run of `P1` with a budget that is enough.
-fn within_budget<'a>(line: &'a str, text: &'a str) -> Case<'a> {
-    Case {
+/// Whether a run of `P1` with a budget that is enough puts this text.
+fn is_within_budget(
+    alloc: Global,
+    files: &MemFiles,
+    budget: u32,
+    text: &str,
+) -> Result<bool, AllocError> {
+    let line = format!(in alloc; "gnatcov run --input=empty --budget={budget} -o new p1.obj")?;
+    let case = Case {
         new_is: Some("p1.trace"),
-        ..quiet(line, Status::Done, text)
-    }
+        ..quiet(line.as_str(), Status::Done, text)
+    };
+    holds(alloc, files, &case)
 }
 
-/// Whether a run of so many instructions is done with just this budget, and with none less.
-fn is_just_enough(alloc: Global, files: &mut MemFiles) -> Result<bool, AllocError> {
-    let text = told_by(alloc, "gnatcov run --input=empty -o p1.trace p1.obj", files)?;
-    let Some(count) = instructions_in(text.as_str()) else {
+/// Whether the run that puts this text is done with just the budget of its instructions, and with none
+/// less.
+fn is_just_enough(alloc: Global, files: &MemFiles, text: &str) -> Result<bool, AllocError> {
+    let Some(count) = instructions_in(text) else {
         return Ok(false);
     };
-    let enough = format!(in alloc; "gnatcov run --input=empty --budget={count} -o new p1.obj")?;
-    let less = count.saturating_sub(1);
-    let short = format!(in alloc; "gnatcov run --input=empty --budget={less} -o new p1.obj")?;
-    let told = format!(in alloc; "gnatcov: over budget after {less} instructions\n")?;
     Ok(
-        holds(alloc, files, &within_budget(enough.as_str(), text.as_str()))?
-            && holds(
-                alloc,
-                files,
-                &over_budget(short.as_str(), less, told.as_str()),
-            )?,
+        is_within_budget(alloc, files, count, text)?
+            && is_over_budget(alloc, files, count.saturating_sub(1))?,
     )
 }
 
+/// The same of a run of `P1`.
+fn needs_its_instructions(alloc: Global) -> Result<bool, AllocError> {
+    let mut files = all_files(alloc)?;
+    let text = told_by(
+        alloc,
+        "gnatcov run --input=empty -o p1.trace p1.obj",
+        &mut files,
+    )?;
+    is_just_enough(alloc, &files, text.as_str())
+}
+
 #[test]
-fn a_run_needs_a_budget_of_its_instructions(rt: HostRuntime) -> Result<(), Fail> {
-    let mut files = all_files(rt.alloc())?;
-    assert!(rt; is_just_enough(rt.alloc(), &mut files)?);
+fn a_run_needs_a_budget_of_its_instructions(rt: HostRuntime) {
+    assert!(rt; needs_its_instructions(rt.alloc()) == Ok(true));
+}
+
+/// Runs the object on an input.
+fn trace(alloc: Global, files: &mut MemFiles, number: usize, input: &str) -> Result<(), FileFault> {
+    files.write("empty", input.as_bytes())?;
+    let line = format!(in alloc; "gnatcov run --input=empty -o t{number} p1.obj")?;
+    obey(alloc, files, &[line.as_str()])?;
     Ok(())
 }
 
-/// Compiles a source, and runs its object on the three inputs, whose traces are `t0` to `t2`.
-fn traced(alloc: Global, source: &str) -> Result<MemFiles, Fail> {
-    let mut files = sources(alloc, source)?;
-    let _ = told_by(
+/// Compiles the source, and runs its object on the three inputs, whose traces are `t0` to `t2`.
+fn trace_all(alloc: Global, files: &mut MemFiles) -> Result<(), FileFault> {
+    obey(
         alloc,
-        "gnatcov compile --main=P1 -o p1.obj p1.adb",
-        &mut files,
+        files,
+        &["gnatcov compile --main=P1 -o p1.obj p1.adb"],
     )?;
     for (number, input) in INPUTS.iter().enumerate() {
-        files.write("empty", input.as_bytes())?;
-        let line = format!(in alloc; "gnatcov run --input=empty -o t{number} p1.obj")?;
-        let _ = told_by(alloc, line.as_str(), &mut files)?;
+        trace(alloc, files, number, input)?;
     }
+    Ok(())
+}
+
+/// A source, its object, and the traces of its runs on the three inputs.
+fn traced(alloc: Global, source: &str) -> Result<MemFiles, FileFault> {
+    let mut files = sources(alloc, source)?;
+    trace_all(alloc, &mut files)?;
     Ok(files)
 }
 
@@ -118,13 +140,16 @@ fn histories(files: &MemFiles) -> [Option<u32>; 3] {
     ]
 }
 
+/// How many entries those of a source have.
+fn histories_of(alloc: Global, source: &str) -> Result<[Option<u32>; 3], FileFault> {
+    let files = traced(alloc, source)?;
+    Ok(histories(&files))
+}
+
 #[test]
-fn only_a_decision_that_is_no_tree_writes_a_history(rt: HostRuntime) -> Result<(), Fail> {
-    let tree = traced(rt.alloc(), TREE)?;
-    assert_eq!(rt; histories(&tree), [Some(0), Some(0), Some(0)]);
-    let shared = traced(rt.alloc(), SHARED)?;
-    assert_eq!(rt; histories(&shared), [Some(2), Some(3), Some(2)]);
-    Ok(())
+fn only_a_decision_that_is_no_tree_writes_a_history(rt: HostRuntime) {
+    assert!(rt; histories_of(rt.alloc(), TREE) == Ok([Some(0), Some(0), Some(0)]));
+    assert!(rt; histories_of(rt.alloc(), SHARED) == Ok([Some(2), Some(3), Some(2)]));
 }
 
 /// Which edges of the branch at an address the blocks of a trace show: 1 for the one that is taken, 2 for
@@ -164,12 +189,18 @@ fn show_all_edges(alloc: Global, files: &MemFiles, names: &[&str]) -> bool {
     true
 }
 
+/// Whether the three runs show them, and two of them do not.
+fn take_three_runs(alloc: Global) -> Result<bool, FileFault> {
+    let files = traced(alloc, SHARED)?;
+    Ok(
+        show_all_edges(alloc, &files, &["t0", "t1", "t2"])
+            && !show_all_edges(alloc, &files, &["t0", "t1"]),
+    )
+}
+
 #[test]
-fn three_runs_take_all_edges_of_three_conditions(rt: HostRuntime) -> Result<(), Fail> {
-    let files = traced(rt.alloc(), SHARED)?;
-    assert!(rt; show_all_edges(rt.alloc(), &files, &["t0", "t1", "t2"]));
-    assert!(rt; !show_all_edges(rt.alloc(), &files, &["t0", "t1"]));
-    Ok(())
+fn three_runs_take_all_edges_of_three_conditions(rt: HostRuntime) {
+    assert!(rt; take_three_runs(rt.alloc()) == Ok(true));
 }
 
 /// The last 32 bytes of a file in hexadecimal digits.
@@ -184,16 +215,33 @@ fn foreign(alloc: Global, kept: &[u8], object: &[u8]) -> Result<String, AllocErr
     format!(in alloc; "gnatcov: trace 1 refused: foreign: kept {kept}, object {object}\n")
 }
 
-#[test]
-fn a_trace_of_another_object_is_told_with_both_digests(rt: HostRuntime) -> Result<(), Fail> {
-    let alloc = rt.alloc();
-    let mut files = traced(alloc, TREE)?;
-    let own = all_files(alloc)?;
-    files.write("p1.trace", own.get("p1.trace").unwrap_or(&[]))?;
+/// Whether a trace of another object than that of the files is told to be one.
+fn is_foreign(
+    alloc: Global,
+    files: &mut MemFiles,
+    trace: &[u8],
+    object: &[u8],
+) -> Result<bool, FileFault> {
+    files.write("p1.trace", trace)?;
     let line = "gnatcov coverage --level=stmt --annotate=report --object=p1.obj p1.trace";
-    let told = told_by(alloc, line, &mut files)?;
-    let object = files.get("p1.obj").unwrap_or(&[]);
-    let wanted = foreign(alloc, own.get("p1.obj").unwrap_or(&[]), object)?;
-    assert_eq!(rt; told.as_str(), wanted.as_str());
-    Ok(())
+    let told = told_by(alloc, line, files)?;
+    let wanted = foreign(alloc, object, files.get("p1.obj").unwrap_or(&[]))?;
+    Ok(told.as_str() == wanted.as_str())
+}
+
+/// Whether the trace of one program is told to be no trace of another.
+fn is_told_apart(alloc: Global) -> Result<bool, FileFault> {
+    let own = all_files(alloc)?;
+    let mut files = traced(alloc, TREE)?;
+    is_foreign(
+        alloc,
+        &mut files,
+        own.get("p1.trace").unwrap_or(&[]),
+        own.get("p1.obj").unwrap_or(&[]),
+    )
+}
+
+#[test]
+fn a_trace_of_another_object_is_told_with_both_digests(rt: HostRuntime) {
+    assert!(rt; is_told_apart(rt.alloc()) == Ok(true));
 }
