@@ -2,14 +2,15 @@
 
 use super::kernels::{code, kernel};
 use super::left_by;
-use kernel_ir::{Operator, Relation, Simple};
+use crate::Shown;
+use kernel_ir::{Code, Operator, Relation, Simple};
 use std::alloc::{AllocError, Global};
 
 /// An operator, its operands, and the result; none where it raises Constraint_Error.
-pub(super) type Operated = (Operator, i32, i32, Option<i32>);
+type Operated = (Operator, i32, i32, Option<i32>);
 
 /// Quotients and remainders of all signs (Ada RM 2012, 4.5.5), and results at the ends of the range.
-pub(super) static OPERATED: [Operated; 28] = [
+static OPERATED: [Operated; 28] = [
     (Operator::Divide, 11, 5, Some(2)),
     (Operator::Remainder, 11, 5, Some(1)),
     (Operator::Modulo, 11, 5, Some(1)),
@@ -41,7 +42,7 @@ pub(super) static OPERATED: [Operated; 28] = [
 ];
 
 /// Whether an operator comes to its result.
-pub(super) fn operates(alloc: Global, due: &Operated) -> Result<bool, AllocError> {
+fn operates(alloc: Global, due: &Operated) -> Result<bool, AllocError> {
     let (operator, first, second, result) = *due;
     let operation = Simple::Arithmetic {
         operator,
@@ -56,7 +57,7 @@ pub(super) fn operates(alloc: Global, due: &Operated) -> Result<bool, AllocError
 }
 
 /// A relation, and whether it holds of 1 and 2, of 2 and 2, and of -1 and -2.
-pub(super) static RELATED: [(Relation, [i32; 3]); 6] = [
+static RELATED: [(Relation, [i32; 3]); 6] = [
     (Relation::Equal, [0, 1, 0]),
     (Relation::Unequal, [1, 0, 1]),
     (Relation::Less, [1, 0, 0]),
@@ -66,11 +67,7 @@ pub(super) static RELATED: [(Relation, [i32; 3]); 6] = [
 ];
 
 /// Whether a relation holds just of those pairs of which it has to.
-pub(super) fn relates(
-    alloc: Global,
-    relation: Relation,
-    due: [i32; 3],
-) -> Result<bool, AllocError> {
+fn relates(alloc: Global, relation: Relation, due: [i32; 3]) -> Result<bool, AllocError> {
     let operation = Simple::Compare {
         relation,
         to: 2,
@@ -86,10 +83,10 @@ pub(super) fn relates(
 
 /// An operation on the slot 0, its number, and what slot 2 has behind it; none where it raises
 /// Constraint_Error.
-pub(super) type Single = (Simple, i32, Option<i32>);
+type Single = (Simple, i32, Option<i32>);
 
 /// Operations on one slot. A range does not set slot 2.
-pub(super) static SINGLE: [Single; 14] = [
+static SINGLE: [Single; 14] = [
     (Simple::Negate { to: 2, from: 0 }, 5, Some(-5)),
     (Simple::Negate { to: 2, from: 0 }, -2147483648, None),
     (Simple::Absolute { to: 2, from: 0 }, -5, Some(5)),
@@ -159,12 +156,22 @@ pub(super) static SINGLE: [Single; 14] = [
 ];
 
 /// Whether an operation on one slot comes to what it has to.
-pub(super) fn sets(alloc: Global, due: &Single) -> Result<bool, AllocError> {
+fn sets(alloc: Global, due: &Single) -> Result<bool, AllocError> {
     let (operation, number, result) = *due;
     match result {
         Some(set) => comes_to(alloc, operation, number, 0, &[set], 0),
         None => comes_to(alloc, operation, number, 0, &[], 1),
     }
+}
+
+/// What a run of this code shows.
+fn left_by_code(
+    alloc: Global,
+    code: Result<Code, AllocError>,
+    input: &[i32],
+) -> Result<Option<Shown>, AllocError> {
+    let kernel = kernel(alloc, code)?;
+    left_by(alloc, &kernel, input)
 }
 
 /// Whether an operation on the slots 0 and 1, which are these numbers, leads to this output of slot 2
@@ -190,8 +197,7 @@ fn comes_to(
         operation,
         Simple::Put { from: 2 },
     ];
-    let kernel = kernel(alloc, code(alloc, &main)?)?;
-    match left_by(alloc, &kernel, &[])? {
+    match left_by_code(alloc, code(alloc, &main), &[])? {
         Some(left) => Ok(left.ending == Some(ending) && left.put.as_slice() == put),
         None => Ok(false),
     }
@@ -199,7 +205,7 @@ fn comes_to(
 
 /// Operations, and how many instructions they execute where no check fails: those of their code
 /// without the jump behind each branch that is taken.
-pub(super) static COUNTS: [(Simple, u32); 27] = [
+static COUNTS: [(Simple, u32); 27] = [
     (Simple::Number { to: 2, value: 5 }, 5),
     (Simple::Move { to: 2, from: 0 }, 6),
     (
@@ -341,7 +347,7 @@ pub(super) static COUNTS: [(Simple, u32); 27] = [
 const BESIDE: u32 = 35;
 
 /// Whether an operation executes so many instructions.
-pub(super) fn executes(alloc: Global, operation: Simple, count: u32) -> Result<bool, AllocError> {
+fn executes(alloc: Global, operation: Simple, count: u32) -> Result<bool, AllocError> {
     let main = [
         Simple::Number { to: 0, value: 6 },
         Simple::Number { to: 1, value: 3 },
@@ -349,9 +355,48 @@ pub(super) fn executes(alloc: Global, operation: Simple, count: u32) -> Result<b
         Simple::FrameAddress { to: 5, slot: 9 },
         operation,
     ];
-    let kernel = kernel(alloc, code(alloc, &main)?)?;
-    match left_by(alloc, &kernel, &[8])? {
+    match left_by_code(alloc, code(alloc, &main), &[8])? {
         Some(left) => Ok(left.ending == Some(0) && left.executed == BESIDE.saturating_add(count)),
         None => Ok(false),
     }
+}
+
+/// Whether each operator comes to its result.
+pub(super) fn operate(alloc: Global) -> Result<bool, AllocError> {
+    for due in &OPERATED {
+        if !operates(alloc, due)? {
+            return Ok(false);
+        }
+    }
+    Ok(true)
+}
+
+/// Whether each relation holds just of those pairs of which it has to.
+pub(super) fn relate(alloc: Global) -> Result<bool, AllocError> {
+    for (relation, due) in &RELATED {
+        if !relates(alloc, *relation, *due)? {
+            return Ok(false);
+        }
+    }
+    Ok(true)
+}
+
+/// Whether each operation on one slot comes to what it has to.
+pub(super) fn set(alloc: Global) -> Result<bool, AllocError> {
+    for due in &SINGLE {
+        if !sets(alloc, due)? {
+            return Ok(false);
+        }
+    }
+    Ok(true)
+}
+
+/// Whether each operation executes as many instructions as it has to.
+pub(super) fn execute(alloc: Global) -> Result<bool, AllocError> {
+    for (operation, count) in &COUNTS {
+        if !executes(alloc, *operation, *count)? {
+            return Ok(false);
+        }
+    }
+    Ok(true)
 }
