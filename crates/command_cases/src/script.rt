@@ -4,13 +4,12 @@ ghost use Rattle.std.specs.Prelude.{◌≡◌, ◌++◌, ◌∷◌, [], OnOk, st
 
 use crate::change::{closed, spliced};
 use crate::detail::put_without_details;
-use crate::line::{Line, Making, Opening, Shown, word_of};
+use crate::line::{Line, Making, Opening, Place, Shown, word_of};
 use anyhow::{Result, bail};
-use commands::gnatcov;
+use commands::{Status, gnatcov};
 use cov_io::{FileFault, Files, MemSink, Sink, SinkFailed};
 use sha2::{Digest, Sha256};
 use std::alloc::{AllocError, Global};
-use std::mem;
 
 /// How many bytes of output a call may put from which details are left out.
 const ROOM: usize = 65536;
@@ -42,14 +41,32 @@ impl OpenFile {
         last: usize,
     ) -> Result<Self, AllocError> {
         let mut file = OpenFile::new(alloc, name)?;
-        for line in text.lines().take(first.saturating_sub(1)) {
-            add_line(&mut file.text, line)?;
-        }
-        for line in text.lines().skip(last) {
-            add_line(&mut file.behind, line)?;
-        }
+        add_first_lines(&mut file.text, text, first.saturating_sub(1))?;
+        add_lines_behind(&mut file.behind, text, last)?;
         Ok(file)
     }
+
+    /// Writes the file, with what stands behind its lines.
+    fn close<F: Files>(&mut self, files: &mut F) -> Result<(), FileFault> {
+        self.text.push_str(self.behind.as_str())?;
+        files.write(self.name.as_str(), self.text.as_bytes())
+    }
+}
+
+/// Adds the first lines of a text.
+fn add_first_lines(text: &mut String, from: &str, count: usize) -> Result<(), AllocError> {
+    for line in from.lines().take(count) {
+        add_line(text, line)?;
+    }
+    Ok(())
+}
+
+/// Adds the lines of a text but for the first.
+fn add_lines_behind(text: &mut String, from: &str, count: usize) -> Result<(), AllocError> {
+    for line in from.lines().skip(count) {
+        add_line(text, line)?;
+    }
+    Ok(())
 }
 
 /// Adds a line, with its line feed.
@@ -80,40 +97,37 @@ impl Script {
         files: &mut F,
         out: &mut S,
     ) -> Result<()> {
-        match mem::replace(&mut self.open, None) {
-            Some(mut file) if line == "end" => {
-                file.text.push_str(file.behind.as_str())?;
-                files.write(file.name.as_str(), file.text.as_bytes())?;
-            }
-            Some(mut file) => {
-                add_line(&mut file.text, line)?;
-                self.open = Some(file);
-            }
-            None => self.begin(line, files, out)?,
+        match &mut self.open {
+            Some(file) if line == "end" => file.close(files)?,
+            Some(file) => return Ok(add_line(&mut file.text, line)?),
+            None => return self.begin(line, files, out),
         }
+        self.open = None;
         Ok(())
     }
 
     /// Plays a line that stands in no file.
     fn begin<F: Files, S: Sink>(&mut self, line: &str, files: &mut F, out: &mut S) -> Result<()> {
         let alloc = self.alloc;
-        let Some(asked) = Line::of(line) else {
-            bail!("no line of a script: {line}");
-        };
-        match asked {
-            Line::Remark => put_line(line, out)?,
-            Line::Open(opening) => self.open = Some(opened(alloc, opening, files)?),
-            Line::Make(making) => make(alloc, making, files)?,
-            Line::Call {
-                words,
-                are_details_left_out,
-            } => {
-                put_line(line, out)?;
-                call(alloc, words, are_details_left_out, files, out)?;
+        match Line::of(line) {
+            None => bail!("no line of a script: {line}"),
+            Some(Line::Remark) => Ok(put_line(line, out)?),
+            Some(Line::Open(opening)) => {
+                self.open = Some(opened(alloc, opening, files)?);
+                Ok(())
             }
-            Line::Show { what, name } => show(alloc, what, name, files, out)?,
+            Some(Line::Make(making)) => make(alloc, making, files),
+            Some(
+                Line::Call {
+                    words,
+                    are_details_left_out,
+                },
+            ) => {
+                put_line(line, out)?;
+                call(alloc, words, are_details_left_out, files, out)
+            }
+            Some(Line::Show { what, name }) => show(alloc, what, name, files, out),
         }
-        Ok(())
     }
 }
 
@@ -128,16 +142,27 @@ fn opened<F: Files>(alloc: Global, opening: Opening<'_>, files: &mut F) -> Resul
             last,
         } => {
             let bytes = read(alloc, old, files)?;
-            let text = String::from_utf8_lossy(alloc, bytes.as_slice())?;
-            Ok(OpenFile::round(alloc, new, text.as_str(), first, last)?)
+            Ok(changed(alloc, new, bytes.as_slice(), first, last)?)
         }
     }
+}
+
+/// A file like one of these bytes, without the lines between these.
+fn changed(
+    alloc: Global,
+    name: &str,
+    bytes: &[u8],
+    first: usize,
+    last: usize,
+) -> Result<OpenFile, AllocError> {
+    let text = String::from_utf8_lossy(alloc, bytes)?;
+    OpenFile::round(alloc, name, text.as_str(), first, last)
 }
 
 /// Writes a file.
 fn make<F: Files>(alloc: Global, making: Making<'_>, files: &mut F) -> Result<()> {
     match making {
-        Making::More { name, count, text } => add_lines(alloc, name, count, text, files)?,
+        Making::More { name, count, text } => add_turns(alloc, name, count, text, files),
         Making::Splice {
             new,
             old,
@@ -146,17 +171,41 @@ fn make<F: Files>(alloc: Global, making: Making<'_>, files: &mut F) -> Result<()
             hex,
         } => {
             let bytes = read(alloc, old, files)?;
-            let others = hex::decode(alloc, hex)?;
-            let at = place.within(bytes.len());
-            let changed = spliced(alloc, bytes.as_slice(), at, count, others.as_slice())?;
-            files.write(new, changed.as_slice())?;
+            splice(alloc, new, bytes.as_slice(), place, count, hex, files)
         }
         Making::Close { new, old } => {
             let bytes = read(alloc, old, files)?;
-            files.write(new, closed(alloc, bytes.as_slice())?.as_slice())?;
+            Ok(close(alloc, new, bytes.as_slice(), files)?)
         }
     }
+}
+
+/// Writes bytes of which some are replaced by others.
+fn splice<F: Files>(
+    alloc: Global,
+    name: &str,
+    bytes: &[u8],
+    place: Place,
+    count: usize,
+    hex: &str,
+    files: &mut F,
+) -> Result<()> {
+    let others = hex::decode(alloc, hex)?;
+    let at = place.within(bytes.len());
+    let spliced = spliced(alloc, bytes, at, count, others.as_slice())?;
+    files.write(name, spliced.as_slice())?;
     Ok(())
+}
+
+/// Writes bytes with the digest that they have to end with.
+fn close<F: Files>(
+    alloc: Global,
+    name: &str,
+    bytes: &[u8],
+    files: &mut F,
+) -> Result<(), FileFault> {
+    let closed = closed(alloc, bytes)?;
+    files.write(name, closed.as_slice())
 }
 
 /// The bytes of a file.
@@ -184,33 +233,67 @@ fn call<F: Files, S: Sink>(
 ) -> Result<()> {
     let words = words_of(alloc, words)?;
     let status = if are_details_left_out {
-        let mut kept = MemSink::new(alloc, ROOM, Vec::new(alloc))?;
-        let status = gnatcov(alloc, words.as_slice(), files, &mut kept);
-        let text = String::from_utf8_lossy(alloc, kept.as_slice())?;
-        put_without_details(text.as_str(), out)?;
-        status
+        call_without_details(alloc, words.as_slice(), files, out)?
     } else {
         gnatcov(alloc, words.as_slice(), files, out)
     };
+    put_status(alloc, status, out)
+}
+
+/// Calls gnatcov, and puts of its output what are no details.
+fn call_without_details<F: Files, S: Sink>(
+    alloc: Global,
+    words: &[String],
+    files: &mut F,
+    out: &mut S,
+) -> Result<Status> {
+    let mut kept = MemSink::new(alloc, ROOM, Vec::new(alloc))?;
+    let status = gnatcov(alloc, words, files, &mut kept);
+    put_kept(alloc, kept.as_slice(), out)?;
+    Ok(status)
+}
+
+/// Puts of an output what are no details.
+fn put_kept<S: Sink>(alloc: Global, kept: &[u8], out: &mut S) -> Result<()> {
+    let text = String::from_utf8_lossy(alloc, kept)?;
+    put_without_details(text.as_str(), out)?;
+    Ok(())
+}
+
+/// Puts a status.
+fn put_status<S: Sink>(alloc: Global, status: Status, out: &mut S) -> Result<()> {
     let number = status.number();
-    put_line(format!(in alloc; "status {number}")?.as_str(), out)?;
+    let line = format!(in alloc; "status {number}")?;
+    put_line(line.as_str(), out)?;
     Ok(())
 }
 
 /// The command words, the program's name first.
 fn words_of(alloc: Global, words: Option<&str>) -> Result<Vec<String>, AllocError> {
     let mut all = Vec::new(alloc);
-    all.push(String::from_str(alloc, "gnatcov")?)?;
+    add_word(alloc, &mut all, "gnatcov")?;
     if let Some(words) = words {
-        for word in words.split(' ') {
-            all.push(String::from_str(alloc, word_of(word))?)?;
-        }
+        add_words(alloc, &mut all, words)?;
     }
     Ok(all)
 }
 
+/// Adds words that blanks separate.
+fn add_words(alloc: Global, all: &mut Vec<String>, words: &str) -> Result<(), AllocError> {
+    for word in words.split(' ') {
+        add_word(alloc, all, word_of(word))?;
+    }
+    Ok(())
+}
+
+fn add_word(alloc: Global, all: &mut Vec<String>, word: &str) -> Result<(), AllocError> {
+    let word = String::from_str(alloc, word)?;
+    all.push(word)?;
+    Ok(())
+}
+
 /// Adds a line so many times at the end of a file, which is made if it is not there.
-fn add_lines<F: Files>(
+fn add_turns<F: Files>(
     alloc: Global,
     name: &str,
     count: u32,
@@ -220,19 +303,19 @@ fn add_lines<F: Files>(
     let mut bytes = Vec::new(alloc);
     let _ = files.read(name, &mut bytes);
     for turn in 0..count {
-        match text.split_once("{i}") {
-            Some((before, behind)) => {
-                let line = format!(in alloc; "{before}{turn}{behind}\n")?;
-                bytes.extend_from_slice(line.as_bytes())?;
-            }
-            None => {
-                bytes.extend_from_slice(text.as_bytes())?;
-                bytes.push(b'\n')?;
-            }
-        }
+        add_turn(alloc, &mut bytes, turn, text)?;
     }
     files.write(name, bytes.as_slice())?;
     Ok(())
+}
+
+/// Adds a line, with the turn in place of `{i}`.
+fn add_turn(alloc: Global, bytes: &mut Vec<u8>, turn: u32, text: &str) -> Result<(), AllocError> {
+    let line = match text.split_once("{i}") {
+        Some((before, behind)) => format!(in alloc; "{before}{turn}{behind}\n"),
+        None => format!(in alloc; "{text}\n"),
+    }?;
+    bytes.extend_from_slice(line.as_bytes())
 }
 
 /// Puts what is asked of a file.
@@ -244,24 +327,38 @@ fn show<F: Files, S: Sink>(
     out: &mut S,
 ) -> Result<()> {
     match what {
-        Shown::Digest => {
-            let digest = Sha256::digest(read(alloc, name, files)?.as_slice());
-            let digest = hex::encode(alloc, digest.as_slice())?;
-            put_line(format!(in alloc; "digest {name}: {digest}")?.as_str(), out)?;
-        }
-        Shown::Bytes => {
-            put_line(format!(in alloc; "bytes {name}:")?.as_str(), out)?;
-            for row in read(alloc, name, files)?.chunks(32) {
-                put_line(hex::encode(alloc, row)?.as_str(), out)?;
-            }
-        }
-        Shown::Presence => {
-            let answer = match read(alloc, name, files) {
-                Ok(_) => "no",
-                Err(_) => "yes",
-            };
-            put_line(format!(in alloc; "absent {name}: {answer}")?.as_str(), out)?;
-        }
+        Shown::Digest => show_digest(alloc, name, read(alloc, name, files)?.as_slice(), out),
+        Shown::Bytes => show_bytes(alloc, name, read(alloc, name, files)?.as_slice(), out),
+        Shown::Presence => show_absence(alloc, name, read(alloc, name, files).is_err(), out),
     }
+}
+
+fn show_digest<S: Sink>(alloc: Global, name: &str, bytes: &[u8], out: &mut S) -> Result<()> {
+    let digest = Sha256::digest(bytes);
+    let digest = hex::encode(alloc, digest.as_slice())?;
+    let line = format!(in alloc; "digest {name}: {digest}")?;
+    put_line(line.as_str(), out)?;
+    Ok(())
+}
+
+fn show_bytes<S: Sink>(alloc: Global, name: &str, bytes: &[u8], out: &mut S) -> Result<()> {
+    let head = format!(in alloc; "bytes {name}:")?;
+    put_line(head.as_str(), out)?;
+    for row in bytes.chunks(32) {
+        put_row(alloc, row, out)?;
+    }
+    Ok(())
+}
+
+fn put_row<S: Sink>(alloc: Global, row: &[u8], out: &mut S) -> Result<()> {
+    let row = hex::encode(alloc, row)?;
+    put_line(row.as_str(), out)?;
+    Ok(())
+}
+
+fn show_absence<S: Sink>(alloc: Global, name: &str, is_absent: bool, out: &mut S) -> Result<()> {
+    let answer = if is_absent { "yes" } else { "no" };
+    let line = format!(in alloc; "absent {name}: {answer}")?;
+    put_line(line.as_str(), out)?;
     Ok(())
 }
