@@ -71,7 +71,6 @@ impl Blobs {
         words: &str,
     ) -> Result<bool, Failure<CaseFault>> {
         let added = match command {
-            "blob" => self.begin(alloc, words),
             "|" => self.add_line(words),
             "+" => self.add(words.as_bytes()),
             "*" => self.add_repeated(words),

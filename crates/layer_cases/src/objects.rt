@@ -18,7 +18,7 @@ ghost use Rattle.transcript.specs.Pieces.{IsEnded};
 
 use crate::blobs::Blobs;
 use crate::fault::{Answer, CaseFault};
-use crate::words::{address, number, split_word};
+use crate::words::{address, number};
 use cov_base::Failure;
 use decision_map::{Condition, DecisionMap, checked_objects_have_maps};
 use object_format::{
@@ -231,13 +231,18 @@ fn add_run_on(alloc: Global, out: &mut String, object: &Object, input: &[u8], bu
     Ok(())
 }
 
-/// Answers a run of an object.
-pub(crate) fn run_object(alloc: Global, blobs: &Blobs, out: &mut String, words: &str) -> Answer {
-    let (name, budget) = split_word(words);
+/// Answers a run of an object on the latest blob.
+pub(crate) fn run_on_latest(
+    alloc: Global,
+    blobs: &Blobs,
+    out: &mut String,
+    object: &Object,
+    budget: &str,
+) -> Answer
+    requires { IsSound object.now }
+{
     let budget = u32::try_from(number(budget)?).unwrap_or(u32::MAX);
-    let input = blobs.latest()?;
-    let object = object_named(alloc, blobs, name)?;
-    add_run_on(alloc, out, &object, input, budget)
+    add_run_on(alloc, out, object, blobs.latest()?, budget)
 }
 
 /// Adds what the map of an object says of a word.
@@ -277,22 +282,10 @@ fn add_words(out: &mut String, map: &DecisionMap<'_>, addresses: &str) -> Answer
     Ok(())
 }
 
-/// Adds what the words of an object at addresses are.
-fn add_words_of(alloc: Global, out: &mut String, object: &Object, addresses: &str) -> Answer
+/// Answers what the words of an object at addresses are.
+pub(crate) fn words_at(alloc: Global, out: &mut String, object: &Object, addresses: &str) -> Answer
     requires { IsSound object.now }
 {
     let map = map_of(alloc, object)?;
     add_words(out, &map, addresses)
-}
-
-/// Answers what words of an object are.
-pub(crate) fn words_of_object(
-    alloc: Global,
-    blobs: &Blobs,
-    out: &mut String,
-    words: &str,
-) -> Answer {
-    let (name, addresses) = split_word(words);
-    let object = object_named(alloc, blobs, name)?;
-    add_words_of(alloc, out, &object, addresses)
 }

@@ -11,8 +11,7 @@ ghost use Rattle.object_format.specs.Checked.{IsSound};
 
 use crate::blobs::Blobs;
 use crate::fault::{Answer, CaseFault};
-use crate::objects::{map_of, object_named};
-use crate::words::split_word;
+use crate::objects::map_of;
 use cov_base::{Event, Failure};
 use coverage_set::Coverage;
 use decision_map::DecisionMap;
@@ -83,11 +82,11 @@ fn put_fit(
     }
 }
 
-/// Answers whether a trace can be one of an object.
-pub(crate) fn fit(alloc: Global, blobs: &Blobs, out: &mut String, name: &str) -> Answer {
-    let trace = blobs.latest()?;
-    let object = object_named(alloc, blobs, name)?;
-    add_fit(alloc, out, &object, trace)
+/// Answers whether the latest blob can be a trace of an object.
+pub(crate) fn fit_latest(alloc: Global, blobs: &Blobs, out: &mut String, object: &Object) -> Answer
+    requires { IsSound object.now }
+{
+    add_fit(alloc, out, object, blobs.latest()?)
 }
 
 /// Offers a trace to a coverage.
@@ -209,8 +208,8 @@ fn add_coverage(out: &mut String, coverage: &Coverage<'_>) -> Result<(), AllocEr
     add_runs(out, coverage.runs(), events.as_slice())
 }
 
-/// Adds what traces of an object cover.
-fn add_events(
+/// Answers the events of traces of an object.
+pub(crate) fn events(
     alloc: Global,
     blobs: &Blobs,
     out: &mut String,
@@ -222,11 +221,4 @@ fn add_events(
     let coverage = covered_by_all(alloc, blobs, object, names)?;
     add_coverage(out, &coverage)?;
     Ok(())
-}
-
-/// Answers the events of traces.
-pub(crate) fn events(alloc: Global, blobs: &Blobs, out: &mut String, words: &str) -> Answer {
-    let (name, names) = split_word(words);
-    let object = object_named(alloc, blobs, name)?;
-    add_events(alloc, blobs, out, &object, names)
 }
