@@ -1,4 +1,5 @@
 pub mod Fits
 pub mod Instances
 pub mod SizeLaws
+pub mod Totals
 pub mod Rows

@@ -1,4 +1,5 @@
 pub mod Known
+pub mod Library
 pub mod Signs
 pub mod Sizes
 pub mod Table

@@ -33,7 +33,7 @@ pub fn owner_in(instance: u32, owner: Owner) -> u32
 }
 
 /// The instance with this number; 0 is none.
-fn instance_at(instances: &[Instance], number: u32) -> Option<&Instance>
+pub fn instance_at(instances: &[Instance], number: u32) -> Option<&Instance>
     ensures { option_copied result ≡ instance_at instances.now number }
 {
     let index = number.checked_sub(1)?;

@@ -4,7 +4,8 @@
 //!
 //! The contract that the layers above use: [`number_in`] is `static_value`, [`bounds_in`] is
 //! `static_bounds`, and [`constants_in`] is `constant_values`, each value computed once and in order;
-//! [`TypeSizes`] has the sizes of types in words, which are those of the shapes that executions take.
+//! [`TypeSizes`] has the sizes of types in words, which are those of the shapes that executions take, and
+//! the words of the objects of the library level.
 #![tactic(auto)]
 
 mod arithmetic;

@@ -1,21 +1,22 @@
 //! The sizes of types in words, by instance (Ada RM 2012, 3.5, 3.6, 3.8).
 
-ghost use Rattle.std.specs.Prelude.{◌≡◌, ◌+◌, ◌*◌, ℕ, [], IfOk, IfSome, option_map, length};
+ghost use Rattle.std.specs.Prelude.{◌≡◌, ◌+◌, ◌*◌, ℕ, [], IfOk, IfSome, map, option_map, length};
 ghost use Rattle.std.specs.Option.{option_and_then};
 ghost use Rattle.ada_meaning.specs.Arithmetic.{count_between};
 ghost use Rattle.ada_meaning.specs.Program as meaning;
 ghost use Rattle.ada_meaning.specs.Resolved.{shape_in};
 ghost use Rattle.ada_meaning.specs.Statics.{values_of};
 ghost use Rattle.ada_meaning.specs.Types as type;
-ghost use Rattle.ada_tree.specs.Programs.{bounds_of, program_of, types_of, unfolded};
+ghost use Rattle.ada_tree.specs.Programs.{bounds_of, instance_of, library_object_of, program_of, types_of, unfolded};
 ghost use Rattle.ada_tree.specs.View.{subtype_of};
+ghost use Rattle.ada_resolved.specs.Library.{instance_size, program_size, stands_in, with_object};
 ghost use Rattle.ada_resolved.specs.Sizes as sizes;
 ghost use Rattle.ada_resolved.specs.Sizes.{type_size};
 ghost use Rattle.ada_resolved.specs.Table.{composite_size, entries_of, entry_of, numbered_size, rows_behind, subtype_size, sum_behind, table_of};
 
-use crate::known::owner_in;
+use crate::known::{instance_at, owner_in};
 use crate::values::bounds_in;
-use ada_tree::{CompositeType, Instance, Program, Range, Subtype};
+use ada_tree::{CompositeType, Instance, LibraryObject, Program, Range, Subtype};
 use cov_base::Seq;
 use std::alloc::{AllocError, Global};
 
@@ -176,12 +177,27 @@ fn table_of(alloc: Global, program: &Program) -> Result<Vec<Seq<Option<u32>>>, A
     Ok(rows)
 }
 
+/// Whether what stands in a generic's text, or in none, stands in the instance with this number.
+fn stands_in(instances: &[Instance], generic: Option<u32>, instance: u32) -> bool
+    ensures { result ≡ stands_in (map instance_of instances.now) generic instance }
+{
+    let Some(generic) = generic else {
+        return instance == 0;
+    };
+    match instance_at(instances, instance) {
+        Some(instance) => instance.generic == generic,
+        None => false,
+    }
+}
+
 /// The sizes of the types of a program: a row for each type, with an entry for each instance. Each is
 /// computed once, so types that double stay small.
 #[derive(Drop)]
 pub struct TypeSizes<'a> {
     program: &'a Program,
+    last_instance: u32,
     rows: Vec<Seq<Option<u32>>>,
+    ghost instances: { last_instance ≡ length program.now.instances },
     ghost exact: { rows.items ≡ table_of program.now (types_of program.now.types) },
 }
 
@@ -192,6 +208,7 @@ impl<'a> TypeSizes<'a> {
     {
         Ok(TypeSizes {
             program,
+            last_instance: instance_count(program.instances.as_slice())?,
             rows: table_of(alloc, program)?,
         })
     }
@@ -203,6 +220,41 @@ impl<'a> TypeSizes<'a> {
             (unfolded (types_of self.now.program.now.types) (subtype_of subtype)) }
     {
         subtype_size(self.program, self.rows.as_slice(), instance, subtype)
+    }
+
+    /// So many words, and those of an object of the library level where it stands in an instance.
+    fn with_object(&self, instance: u32, words: u32, object: &LibraryObject) -> Option<u32>
+        ensures { result ≡ with_object (program_of self.now.program.now) instance words
+            (library_object_of (types_of self.now.program.now.types) object.now) }
+    {
+        if !stands_in(self.program.instances.as_slice(), object.generic, instance) {
+            return Some(words);
+        }
+        with_component(words, self.size_in(instance, object.subtype))
+    }
+
+    /// How many words the objects of the library level take in the instance with this number, which is 0
+    /// in no generic (RM 7, 12.3): none where a type of them has no size, or beyond 262,144 words.
+    pub fn instance_size(&self, instance: u32) -> Option<u32>
+        ensures { result ≡ instance_size (program_of self.now.program.now) instance }
+    {
+        let mut words = 0;
+        for object in self.program.objects.as_slice() {
+            words = self.with_object(instance, words, object)?;
+        }
+        Some(words)
+    }
+
+    /// How many words all objects of the library level take: those in no generic, and those of each
+    /// instance. There is none where those of one have none, or beyond 262,144 words.
+    pub fn program_size(&self) -> Option<u32>
+        ensures { result ≡ program_size (program_of self.now.program.now) }
+    {
+        let mut words = 0;
+        for instance in 0..=self.last_instance {
+            words = with_component(words, self.instance_size(instance))?;
+        }
+        Some(words)
     }
 }
 
