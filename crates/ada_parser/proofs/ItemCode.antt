@@ -1,6 +1,7 @@
 -- How the items of packages and of their bodies are read, answer by answer.
-use Rattle.std.proofs.Common.{◌≡◌, ℕ, suc, ◌<◌, true, false, cond, List, [], ◌∷◌, ◌++◌, length, Some, None, refl, ap, ◌∙◌, subst, arith}
+use Rattle.std.proofs.Common.{◌≡◌, ℕ, suc, ◌<◌, Bool, true, false, cond, List, [], ◌∷◌, ◌++◌, length, Some, None, refl, ap, ◌∙◌, subst, arith}
 use Rattle.std.proofs.lemmas.Bool.{false≢true}
+use denote.Enum.Bare.{same_true}
 use Rattle.ada_lexer.specs.declared.token.Token.{Token}
 use Rattle.ada_syntax.specs.declared.declaration.Declaration.{Declaration}
 use Rattle.ada_syntax.specs.declared.unit.Specification.{Specification}
@@ -11,6 +12,7 @@ use Rattle.ada_syntax.specs.declared.unit.BodyItem.{BodyItem}
 use Rattle.ada_syntax.specs.declared.unit.BodyItem.TheVariants as body_item
 use Rattle.expression_parser.specs.declared.symbol.Symbol.{Symbol}
 use Rattle.expression_parser.specs.declared.symbol.Symbol.TheVariants as symbol
+use Rattle.expression_parser.specs.contracts.symbol.Symbol.{the_type}
 use Rattle.expression_parser.specs.declared.extent.Extent.{Extent}
 use Rattle.expression_parser.specs.Symbols.{symbol_of, same}
 use Rattle.expression_parser.specs.Reading.{Tokens, Reading, Reader, Got, Stuck, Turn, Refuse, Leave, Look, accept, got, goes_on, ◌>>=◌, turned, expect, skip}
@@ -19,6 +21,7 @@ use Rattle.expression_parser.proofs.Comes.{got_then}
 use Rattle.expression_parser.proofs.NameCode.{after_some, after_none}
 use Rattle.expression_parser.proofs.Loops.{more_end, more_leave, more_look, more_look_stuck}
 use Rattle.declaration_parser.specs.DeclarationReading.{specification_by, begins_declaration, declaration_by}
+use Rattle.ada_parser.proofs.NamedCode.{apart}
 use Rattle.ada_parser.proofs.Steps.{both, first_fails, word_then, no_word, done, takes, looks}
 use Rattle.ada_parser.specs.UnitReading as read
 use Rattle.ada_parser.specs.UnitDepth as at
@@ -79,14 +82,19 @@ module _ (x : Extent) where
         rw n.here (takes Refuse specified_on n.t us (λ m. got (body_item.Declared (package_item.Subprogram s))) (λ m. ap (λ z. specified_on m z n.t) n.is) (done (body_item.Declared (package_item.Subprogram s)) us))
 
     -- where no semicolon stands, only a body may
-    body_at : (m : ℕ) (z : Symbol) (t : Token) (us : Tokens) → same z symbol.Semicolon ≡ false → turned (specified_on m z t) t us ≡ goes_on (λ _. with_body m) (turned (accept (same z symbol.Is) t) t us)
-    body_at m symbol.Semicolon t us h = cc
-    body_at m symbol.Is t us h = refl
-    body_at m _ t us h = refl
+    not_specified_at : (m : ℕ) (z : Symbol) (t : Token) → (z ≡ symbol.Semicolon → ⊥) → (z ≡ symbol.Is → ⊥) → specified_on m z t ≡ Refuse
+    not_specified_at m symbol.Semicolon t f g = absurd (f refl)
+    not_specified_at m symbol.Is t f g = absurd (g refl)
+    not_specified_at m _ t f g = refl
+
+    body_at : (b : Bool) (m : ℕ) (t : Token) (us : Tokens) → same (symbol_of t.lexeme) symbol.Semicolon ≡ false → same (symbol_of t.lexeme) symbol.Is ≡ b
+        → turned (specified_on m (symbol_of t.lexeme) t) t us ≡ goes_on (λ _. with_body m) (turned (accept b t) t us)
+    body_at true m t us h k = ap (λ z. turned (specified_on m z t) t us) (same_true the_type tt (symbol_of t.lexeme) symbol.Is k)
+    body_at false m t us h k = ap (λ z. turned z t us) (not_specified_at m (symbol_of t.lexeme) t (apart (symbol_of t.lexeme) symbol.Semicolon h) (apart (symbol_of t.lexeme) symbol.Is k))
 
     only_body : (m : ℕ) (ts : Tokens) → after symbol.Semicolon ts ≡ None → read.specified_rest x m s ts ≡ skip symbol.Is (with_body m) ts
     only_body m [] e = refl
-    only_body m (t ∷ us) e = body_at m (symbol_of t.lexeme) t us (after_none symbol.Semicolon t us e).is_not
+    only_body m (t ∷ us) e = body_at (same (symbol_of t.lexeme) symbol.Is) m t us (after_none symbol.Semicolon t us e).is_not refl
 
     behind_is : (ts : Tokens) (q : Reading BodyItem) → after symbol.Semicolon ts ≡ None → Reads (λ m. skip symbol.Is (with_body m)) ts q → Reads (at.at_specified x s) ts q
     behind_is ts q e f = record { by = λ m h. only_body m ts e ∙ f.by m h }

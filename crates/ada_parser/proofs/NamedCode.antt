@@ -1,5 +1,7 @@
 -- How statements that begin with a name are read, answer by answer.
-use Rattle.std.proofs.Common.{◌≡◌, ℕ, ◌<◌, ◌≤◌, true, false, List, [], ◌∷◌, length, Some, None, refl, ap, ◌∙◌, arith}
+use Rattle.std.proofs.Common.{◌≡◌, ℕ, ◌<◌, ◌≤◌, Bool, true, false, List, [], ◌∷◌, length, Some, None, refl, ap, sym, ◌∙◌, arith}
+use Rattle.std.proofs.lemmas.Bool.{false≢true}
+use denote.Enum.Bare.{same_true, true_same}
 use Rattle.cov_base.specs.declared.position.Pos.{Pos}
 use Rattle.ada_lexer.specs.declared.token.Token.{Token}
 use Rattle.ada_syntax.specs.Tree.{Name}
@@ -8,6 +10,7 @@ use Rattle.ada_syntax.specs.StatementTree.{Statement}
 use Rattle.ada_syntax.specs.declared.declaration.Initial.{Initial}
 use Rattle.expression_parser.specs.declared.symbol.Symbol.{Symbol}
 use Rattle.expression_parser.specs.declared.symbol.Symbol.TheVariants as symbol
+use Rattle.expression_parser.specs.contracts.symbol.Symbol.{the_type}
 use Rattle.expression_parser.specs.declared.extent.Extent.{Extent}
 use Rattle.expression_parser.specs.declared.extent.Extent.TheVariants.{Objects}
 use Rattle.expression_parser.specs.Symbols.{symbol_of, same}
@@ -20,6 +23,10 @@ use Rattle.declaration_parser.specs.SubtypeReading.{initial_by}
 use Rattle.ada_parser.specs.StatementReading as read
 use Rattle.ada_parser.specs.StatementDepth as at
 use Rattle.ada_parser.proofs.Steps.{both, first_fails, word_then, no_word, done, takes, refuses}
+
+-- symbols that are not the same
+pub apart : (s w : Symbol) → same s w ≡ false → s ≡ w → ⊥
+apart s w h e = false≢true (sym h ∙ true_same the_type s w e)
 
 module _ (x : Extent) where
   -- := init ; | ; behind a name
@@ -53,14 +60,19 @@ module _ (x : Extent) where
     assigned_open ts us vs rest i e o r l k = becomes ts us _ e o (both closes r (omega arith) (no_word symbol.Semicolon (λ m. got (tree.assignment p n i)) k))
 
     -- where no value is assigned, only a semicolon may stand
-    call_at : (m : ℕ) (s : Symbol) (t : Token) (us : Tokens) → same s symbol.Becomes ≡ false → turned (name_on m s t) t us ≡ goes_on (λ _. got (tree.call p n)) (turned (accept (same s symbol.Semicolon) t) t us)
-    call_at m symbol.Becomes t us h = cc
-    call_at m symbol.Semicolon t us h = refl
-    call_at m _ t us h = refl
+    no_rest_at : (m : ℕ) (s : Symbol) (t : Token) → (s ≡ symbol.Becomes → ⊥) → (s ≡ symbol.Semicolon → ⊥) → name_on m s t ≡ Refuse
+    no_rest_at m symbol.Becomes t f g = absurd (f refl)
+    no_rest_at m symbol.Semicolon t f g = absurd (g refl)
+    no_rest_at m _ t f g = refl
+
+    call_at : (b : Bool) (m : ℕ) (t : Token) (us : Tokens) → same (symbol_of t.lexeme) symbol.Becomes ≡ false → same (symbol_of t.lexeme) symbol.Semicolon ≡ b
+        → turned (name_on m (symbol_of t.lexeme) t) t us ≡ goes_on (λ _. got (tree.call p n)) (turned (accept b t) t us)
+    call_at true m t us h k = ap (λ s. turned (name_on m s t) t us) (same_true the_type tt (symbol_of t.lexeme) symbol.Semicolon k)
+    call_at false m t us h k = ap (λ z. turned z t us) (no_rest_at m (symbol_of t.lexeme) t (apart (symbol_of t.lexeme) symbol.Becomes h) (apart (symbol_of t.lexeme) symbol.Semicolon k))
 
     call_alone : (m : ℕ) (ts : Tokens) → after symbol.Becomes ts ≡ None → read.name_rest x m p n ts ≡ skip symbol.Semicolon (got (tree.call p n)) ts
     call_alone m [] e = refl
-    call_alone m (t ∷ us) e = call_at m (symbol_of t.lexeme) t us (after_none symbol.Becomes t us e).is_not
+    call_alone m (t ∷ us) e = call_at (same (symbol_of t.lexeme) symbol.Semicolon) m t us (after_none symbol.Becomes t us e).is_not refl
 
     alone : (ts : Tokens) (q : Reading Statement) → after symbol.Becomes ts ≡ None → Reads (λ m. skip symbol.Semicolon (got (tree.call p n))) ts q → Reads (at.at_name_rest x p n) ts q
     alone ts q e f = record { by = λ m h. call_alone m ts e ∙ f.by m h }

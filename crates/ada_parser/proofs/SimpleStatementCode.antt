@@ -1,5 +1,5 @@
 -- How statements without statements in them are told from the others, and how they are read, answer by answer.
-use Rattle.std.proofs.Common.{◌≡◌, ℕ, true, false, [], ◌∷◌, refl, ap, ◌∙◌}
+use Rattle.std.proofs.Common.{◌≡◌, ℕ, true, false, [], ◌∷◌, refl, ap, sym, ◌∙◌}
 use Rattle.std.proofs.lemmas.Bool.{false≢true}
 use Rattle.ada_lexer.specs.declared.token.Token.{Token}
 use Rattle.ada_syntax.specs.StatementTree.{Statement}
@@ -78,24 +78,33 @@ module _ (x : Extent) where
   compound_is_read [] q b f = absurd (false≢true b)
   compound_is_read (t ∷ us) q b f = looks Refuse statement_on t us (at.at_compound x) (λ m. compound_at m (symbol_of t.lexeme) t b) f
 
-  simple_at : (m : ℕ) (s : Symbol) (t : Token) (us : Tokens) → symbol_of t.lexeme ≡ s → begins_compound s ≡ false → turned (statement_on m s t) t us ≡ turned (simple_turn x m s t) t us
-  simple_at m symbol.Null t us e b = refl
-  simple_at m symbol.Identifier t us e b = refl
-  simple_at m symbol.Pragma t us e b = refl
-  simple_at m symbol.Exit t us e b = refl
-  simple_at m symbol.Return t us e b = refl
-  simple_at m symbol.Raise t us e b = refl
-  simple_at m symbol.If t us e b = cc
-  simple_at m symbol.Case t us e b = cc
-  simple_at m symbol.Loop t us e b = cc
-  simple_at m symbol.While t us e b = cc
-  simple_at m symbol.For t us e b = cc
-  simple_at m symbol.Begin t us e b = cc
-  simple_at m symbol.Declare t us e b = cc
-  simple_at m _ t us e b = ap (λ z. turned (compound_on m z t) t us) e
+  -- what the two readers make of a symbol that begins no statement with statements in it
+  data Told (m : ℕ) (s : Symbol) (t : Token) : Type 0 where
+    Alike : statement_on m s t ≡ simple_turn x m s t → Told m s t
+    Refused : statement_on m s t ≡ Look (at.at_compound x m) → compound_on m s t ≡ Refuse → simple_turn x m s t ≡ Refuse → Told m s t
+
+  told : (m : ℕ) (s : Symbol) (t : Token) → begins_compound s ≡ false → Told m s t
+  told m symbol.Null t b = Alike refl
+  told m symbol.Identifier t b = Alike refl
+  told m symbol.Pragma t b = Alike refl
+  told m symbol.Exit t b = Alike refl
+  told m symbol.Return t b = Alike refl
+  told m symbol.Raise t b = Alike refl
+  told m symbol.If t b = absurd (false≢true (sym b))
+  told m symbol.Case t b = absurd (false≢true (sym b))
+  told m symbol.Loop t b = absurd (false≢true (sym b))
+  told m symbol.While t b = absurd (false≢true (sym b))
+  told m symbol.For t b = absurd (false≢true (sym b))
+  told m symbol.Begin t b = absurd (false≢true (sym b))
+  told m symbol.Declare t b = absurd (false≢true (sym b))
+  told m _ t b = Refused refl refl refl
+
+  same_turn : (m : ℕ) (t : Token) (us : Tokens) → Told m (symbol_of t.lexeme) t → turned (statement_on m (symbol_of t.lexeme) t) t us ≡ turned (simple_turn x m (symbol_of t.lexeme) t) t us
+  same_turn m t us (Alike e) = ap (λ z. turned z t us) e
+  same_turn m t us (Refused e r s) = ap (λ z. turned z t us) e ∙ (ap (λ z. turned z t us) r ∙ sym (ap (λ z. turned z t us) s))
 
   pub simple_is_read : (ts : Tokens) (q : Reading Statement) → next_is begins_compound ts ≡ false → Reads (at_simple x) ts q → Reads (at.at_statement x) ts q
   simple_is_read [] q b f = record { by = λ m h. f.by m h }
-  simple_is_read (t ∷ us) q b f = record { by = λ m h. simple_at m (symbol_of t.lexeme) t us refl b ∙ f.by m h }
+  simple_is_read (t ∷ us) q b f = record { by = λ m h. same_turn m t us (told m (symbol_of t.lexeme) t b) ∙ f.by m h }
 
 pub ruleset simple_rules = (nothing_left, a_null, a_name, a_pragma, an_exit, exit_closed, a_return, a_raise, raise_closed, not_simple)
