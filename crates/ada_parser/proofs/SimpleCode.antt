@@ -1,10 +1,9 @@
 -- How choices and statements without statements in them are read, answer by answer.
-use Rattle.std.proofs.Common.{◌≡◌, ℕ, suc, ◌<◌, ◌≤◌, true, false, List, [], ◌∷◌, ◌++◌, length, Option, Some, None, refl, ap, ◌∙◌, arith}
+use Rattle.std.proofs.Common.{◌≡◌, ℕ, suc, ◌<◌, ◌≤◌, true, false, List, [], ◌∷◌, ◌++◌, length, Option, Some, None, refl, ap, arith}
 use Rattle.cov_base.specs.declared.position.Pos.{Pos}
 use Rattle.ada_lexer.specs.declared.token.Token.{Token}
 use Rattle.ada_syntax.specs.Tree.{Expr, Name}
 use Rattle.ada_syntax.specs.StatementTree as tree
-use Rattle.ada_syntax.specs.StatementTree.{Statement}
 use Rattle.ada_syntax.specs.declared.declaration.Pragma.{Pragma}
 use Rattle.ada_syntax.specs.declared.statement.Choice.{Choice}
 use Rattle.ada_syntax.specs.declared.statement.Choice.TheVariants as choice
@@ -17,7 +16,7 @@ use Rattle.expression_parser.specs.declared.extent.Extent.{Extent}
 use Rattle.expression_parser.specs.declared.extent.Extent.TheVariants.{Subprograms}
 use Rattle.expression_parser.specs.Symbols.{symbol_of, same, Is}
 use Rattle.expression_parser.specs.Extents.{opens}
-use Rattle.expression_parser.specs.Reading.{Tokens, Reading, Reader, Got, Stuck, Refuse, Leave, Take, Look, got, ◌>>=◌, turned, provided, expect, skip, repeat}
+use Rattle.expression_parser.specs.Reading.{Tokens, Reading, Reader, Got, Stuck, Refuse, Leave, Look, got, ◌>>=◌, turned, provided, expect, skip, repeat}
 use Rattle.expression_parser.specs.Depth as at
 use Rattle.expression_parser.specs.Shows.{Reads, More, Skipped, after}
 use Rattle.expression_parser.proofs.NameCode.{after_some, after_none}
