@@ -54,9 +54,9 @@ module _ (x : Extent) where
     in_parts ds m (Got h us) = ended ds h (read.end_by us)
     in_parts ds m (Stuck us) = refl
 
-    pub body_rest_read : (ts us vs rest : Tokens) (ds : List Declaration) (h : Handled) (n : Option Identifier) → Reads (declarations_by x) ts (Got ds us) → length us ≤ length ts → Skipped symbol.Begin us vs
-        → Reads (at.at_statements_to_end x) vs (Got (h, n) rest) → Reads (at.at_body_rest x s) ts (Got (bodied s ds h n) rest)
-    body_rest_read ts us vs rest ds h n d l w r = both after_declarations d l (word_then (after_begin ds) w (record { by = λ m k. in_parts ds m (at_handled x m vs) ∙ ap (goes_on (of_parts ds)) (r.by m k) }))
+    pub body_rest_read : (ts us vs rest : Tokens) (ds : List Declaration) (y : Handled × Option Identifier) → Reads (declarations_by x) ts (Got ds us) → length us ≤ length ts → Skipped symbol.Begin us vs
+        → Reads (at.at_statements_to_end x) vs (Got y rest) → Reads (at.at_body_rest x s) ts (Got (bodied s ds y.0 y.1) rest)
+    body_rest_read ts us vs rest ds y d l w r = both after_declarations d l (word_then (after_begin ds) w (record { by = λ m k. in_parts ds m (at_handled x m vs) ∙ ap (goes_on (of_parts ds)) (r.by m k) }))
 
     pub body_declarations_fail : (ts rest : Tokens) → Reads (declarations_by x) ts (Stuck rest) → Reads (at.at_body_rest x s) ts (Stuck rest)
     body_declarations_fail ts rest d = first_fails after_declarations d
@@ -85,5 +85,3 @@ module _ (x : Extent) where
 
   pub body_no_is : (ts us rest : Tokens) (s : Specification) → Reads (specification_by x) ts (Got s us) → length us < length ts → expect symbol.Is us ≡ Stuck rest → Reads (read.body_by x) ts (Stuck rest)
   body_no_is ts us rest s p l e = both after_specification p (omega arith) (no_word symbol.Is (at.at_body_rest x s) e)
-
-pub ruleset to_end_rules = (to_end_read, to_end_fails_first, to_end_fails_second)

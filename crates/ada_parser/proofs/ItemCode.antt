@@ -1,6 +1,7 @@
 -- How the items of packages and of their bodies are read, answer by answer.
-use Rattle.std.proofs.Common.{◌≡◌, ℕ, suc, ◌<◌, true, false, cond, List, [], ◌∷◌, ◌++◌, length, refl, ap, arith}
+use Rattle.std.proofs.Common.{◌≡◌, ℕ, suc, ◌<◌, Bool, true, false, cond, List, [], ◌∷◌, ◌++◌, length, Some, None, refl, ap, ◌∙◌, subst, arith}
 use Rattle.std.proofs.lemmas.Bool.{false≢true}
+use denote.Enum.Bare.{same_true}
 use Rattle.ada_lexer.specs.declared.token.Token.{Token}
 use Rattle.ada_syntax.specs.declared.declaration.Declaration.{Declaration}
 use Rattle.ada_syntax.specs.declared.unit.Specification.{Specification}
@@ -11,14 +12,17 @@ use Rattle.ada_syntax.specs.declared.unit.BodyItem.{BodyItem}
 use Rattle.ada_syntax.specs.declared.unit.BodyItem.TheVariants as body_item
 use Rattle.expression_parser.specs.declared.symbol.Symbol.{Symbol}
 use Rattle.expression_parser.specs.declared.symbol.Symbol.TheVariants as symbol
+use Rattle.expression_parser.specs.contracts.symbol.Symbol.{the_type}
 use Rattle.expression_parser.specs.declared.extent.Extent.{Extent}
-use Rattle.expression_parser.specs.Symbols.{symbol_of, Is}
-use Rattle.expression_parser.specs.Reading.{Tokens, Reading, Reader, Got, Stuck, Turn, Refuse, Leave, Look, got, goes_on, ◌>>=◌, expect, skip}
-use Rattle.expression_parser.specs.Shows.{Reads, More, Skipped, next_is}
+use Rattle.expression_parser.specs.Symbols.{symbol_of, same}
+use Rattle.expression_parser.specs.Reading.{Tokens, Reading, Reader, Got, Stuck, Turn, Refuse, Leave, Look, accept, got, goes_on, ◌>>=◌, turned, expect, skip}
+use Rattle.expression_parser.specs.Shows.{Reads, More, Skipped, after, next_is}
 use Rattle.expression_parser.proofs.Comes.{got_then}
+use Rattle.expression_parser.proofs.NameCode.{after_some, after_none}
 use Rattle.expression_parser.proofs.Loops.{more_end, more_leave, more_look, more_look_stuck}
 use Rattle.declaration_parser.specs.DeclarationReading.{specification_by, begins_declaration, declaration_by}
-use Rattle.ada_parser.proofs.Steps.{both, first_fails, word_then, no_word, done, takes, looks, refuses}
+use Rattle.ada_parser.proofs.NamedCode.{apart}
+use Rattle.ada_parser.proofs.Steps.{both, first_fails, word_then, no_word, done, takes, looks}
 use Rattle.ada_parser.specs.UnitReading as read
 use Rattle.ada_parser.specs.UnitDepth as at
 
@@ -72,25 +76,39 @@ module _ (x : Extent) where
     abbrev with_body : ℕ → Reader BodyItem
     with_body m = read.body_rest x m s >>= as_body m
 
-    pub nothing_specified : Reads (at.at_specified x s) [] (Stuck [])
-    nothing_specified = record { by = λ m h. refl }
+    pub specified_alone : (ts us : Tokens) → after symbol.Semicolon ts ≡ Some us → Reads (at.at_specified x s) ts (Got (body_item.Declared (package_item.Subprogram s)) us)
+    specified_alone ts us e =
+        let n = after_some symbol.Semicolon ts us e in
+        rw n.here (takes Refuse specified_on n.t us (λ m. got (body_item.Declared (package_item.Subprogram s))) (λ m. ap (λ z. specified_on m z n.t) n.is) (done (body_item.Declared (package_item.Subprogram s)) us))
 
-    pub specified_alone : (t : Token) (us : Tokens) → Is symbol.Semicolon t → Reads (at.at_specified x s) (t ∷ us) (Got (body_item.Declared (package_item.Subprogram s)) us)
-    specified_alone t us i = takes Refuse specified_on t us (λ m. got (body_item.Declared (package_item.Subprogram s))) (λ m. ap (λ z. specified_on m z t) i) (done _ us)
-
-    pub specified_body : (t : Token) (us rest : Tokens) (b : SubprogramBody) → Is symbol.Is t → Reads (at.at_body_rest x s) us (Got b rest) → length rest < length us → Reads (at.at_specified x s) (t ∷ us) (Got (body_item.Body b) rest)
-    specified_body t us rest b i r l = takes Refuse specified_on t us with_body (λ m. ap (λ z. specified_on m z t) i) (both as_body r (omega arith) (done (body_item.Body b) rest))
-
-    pub specified_body_fail : (t : Token) (us rest : Tokens) → Is symbol.Is t → Reads (at.at_body_rest x s) us (Stuck rest) → Reads (at.at_specified x s) (t ∷ us) (Stuck rest)
-    specified_body_fail t us rest i r = takes Refuse specified_on t us with_body (λ m. ap (λ z. specified_on m z t) i) (first_fails as_body r)
-
+    -- where no semicolon stands, only a body may
     not_specified_at : (m : ℕ) (z : Symbol) (t : Token) → (z ≡ symbol.Semicolon → ⊥) → (z ≡ symbol.Is → ⊥) → specified_on m z t ≡ Refuse
-    not_specified_at m symbol.Semicolon t a b = absurd (a refl)
-    not_specified_at m symbol.Is t a b = absurd (b refl)
-    not_specified_at m _ t a b = refl
+    not_specified_at m symbol.Semicolon t f g = absurd (f refl)
+    not_specified_at m symbol.Is t f g = absurd (g refl)
+    not_specified_at m _ t f g = refl
 
-    pub not_specified : (t : Token) (us : Tokens) → (symbol_of t.lexeme ≡ symbol.Semicolon → ⊥) → (symbol_of t.lexeme ≡ symbol.Is → ⊥) → Reads (at.at_specified x s) (t ∷ us) (Stuck (t ∷ us))
-    not_specified t us a b = refuses Refuse specified_on t us (λ m. not_specified_at m (symbol_of t.lexeme) t a b)
+    body_at : (b : Bool) (m : ℕ) (t : Token) (us : Tokens) → same (symbol_of t.lexeme) symbol.Semicolon ≡ false → same (symbol_of t.lexeme) symbol.Is ≡ b
+        → turned (specified_on m (symbol_of t.lexeme) t) t us ≡ goes_on (λ _. with_body m) (turned (accept b t) t us)
+    body_at true m t us h k = ap (λ z. turned (specified_on m z t) t us) (same_true the_type tt (symbol_of t.lexeme) symbol.Is k)
+    body_at false m t us h k = ap (λ z. turned z t us) (not_specified_at m (symbol_of t.lexeme) t (apart (symbol_of t.lexeme) symbol.Semicolon h) (apart (symbol_of t.lexeme) symbol.Is k))
+
+    only_body : (m : ℕ) (ts : Tokens) → after symbol.Semicolon ts ≡ None → read.specified_rest x m s ts ≡ skip symbol.Is (with_body m) ts
+    only_body m [] e = refl
+    only_body m (t ∷ us) e = body_at (same (symbol_of t.lexeme) symbol.Is) m t us (after_none symbol.Semicolon t us e).is_not refl
+
+    behind_is : (ts : Tokens) (q : Reading BodyItem) → after symbol.Semicolon ts ≡ None → Reads (λ m. skip symbol.Is (with_body m)) ts q → Reads (at.at_specified x s) ts q
+    behind_is ts q e f = record { by = λ m h. only_body m ts e ∙ f.by m h }
+
+    pub not_specified : (ts rest : Tokens) → after symbol.Semicolon ts ≡ None → expect symbol.Is ts ≡ Stuck rest → Reads (at.at_specified x s) ts (Stuck rest)
+    not_specified ts rest e w = behind_is ts _ e (no_word symbol.Is with_body w)
+
+    -- the specification is the one that was taken past the word
+    module _ (z : Specification) (taken : z ≡ s) where
+      pub specified_body : (ts us rest : Tokens) (b : SubprogramBody) → after symbol.Semicolon ts ≡ None → Skipped symbol.Is ts us → Reads (at.at_body_rest x z) us (Got b rest) → length rest < length us → Reads (at.at_specified x s) ts (Got (body_item.Body b) rest)
+      specified_body ts us rest b e w r l = behind_is ts _ e (word_then with_body w (both as_body (subst (λ y. Reads (at.at_body_rest x y) us (Got b rest)) taken r) (omega arith) (done (body_item.Body b) rest)))
+
+      pub specified_body_fail : (ts us rest : Tokens) → after symbol.Semicolon ts ≡ None → Skipped symbol.Is ts us → Reads (at.at_body_rest x z) us (Stuck rest) → Reads (at.at_specified x s) ts (Stuck rest)
+      specified_body_fail ts us rest e w r = behind_is ts _ e (word_then with_body w (first_fails as_body (subst (λ y. Reads (at.at_body_rest x y) us (Stuck rest)) taken r)))
 
   -- decl | body
   abbrev declares_in_body : ℕ → Declaration → Reader BodyItem
@@ -163,8 +181,6 @@ module _ (x : Extent) where
 pub ruleset begin_rules = (begins_with_declaration, begins_with_specification)
 
 pub ruleset package_item_rules = (item_declaration, item_declaration_fail, item_specification, item_specification_fail, item_specification_open)
-
-pub ruleset specified_rules = (nothing_specified, specified_alone, specified_body, specified_body_fail, not_specified)
 
 pub ruleset body_item_rules = (in_body_declaration, in_body_declaration_fail, in_body_specified, in_body_specified_fail)
 

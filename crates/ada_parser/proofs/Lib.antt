@@ -9,11 +9,13 @@ pub mod Steps
 pub mod BeforeWords
 pub mod Parts
 pub mod SimpleCode
+pub mod NamedCode
 pub mod FrontCode
 pub mod StatementNodes
 pub mod ArmCode
 pub mod CompoundCode
 pub mod BeginningCode
+pub mod SimpleStatementCode
 pub mod StatementCode
 pub mod Suffixes
 pub mod UnitLocal

@@ -11,7 +11,7 @@ use Rattle.expression_parser.specs.declared.symbol.Symbol.{Symbol}
 use Rattle.expression_parser.specs.declared.symbol.Symbol.TheVariants as symbol
 use Rattle.expression_parser.specs.declared.extent.Extent.{Extent}
 use Rattle.expression_parser.specs.declared.extent.Extent.TheVariants.{Generics}
-use Rattle.expression_parser.specs.Symbols.{symbol_of, same, Is, identifier_of}
+use Rattle.expression_parser.specs.Symbols.{symbol_of, same, identifier_of}
 use Rattle.expression_parser.specs.Extents.{opens}
 use Rattle.expression_parser.specs.Reading.{Tokens, Reading, Reader, Got, Stuck, Turn, Refuse, Leave, Take, Look, got, ◌>>=◌, provided, expect, skip}
 use Rattle.expression_parser.specs.Depth.{at_exprs}
@@ -96,21 +96,23 @@ module _ (x : Extent) where
     abbrev new_on : ℕ → Symbol → Token → Turn LibraryItem
     new_on m = read.new_turn x m i
 
-    no_new : (m : ℕ) (s : Symbol) (t : Token) → (s ≡ symbol.New → ⊥) → new_on m s t ≡ Look (at.at_package x None i m)
-    no_new m symbol.New t h = absurd (h refl)
+    no_new : (m : ℕ) (s : Symbol) (t : Token) → same s symbol.New ≡ false → new_on m s t ≡ Look (at.at_package x None i m)
+    no_new m symbol.New t h = cc
     no_new m _ t h = refl
 
-    pub nothing_packaged : Reads (at.at_package_or_instance x i) [] (Stuck [])
-    nothing_packaged = record { by = λ m h. refl }
+    pub is_package : (ts : Tokens) (q : Reading LibraryItem) → after symbol.New ts ≡ None → Reads (at.at_package x None i) ts q → Reads (at.at_package_or_instance x i) ts q
+    is_package [] q e f = record { by = λ m h. f.by m h }
+    is_package (t ∷ us) q e f = looks Refuse new_on t us (at.at_package x None i) (λ m. no_new m (symbol_of t.lexeme) t (after_none symbol.New t us e).is_not) f
 
-    pub is_package : (t : Token) (us : Tokens) (q : Reading LibraryItem) → (symbol_of t.lexeme ≡ symbol.New → ⊥) → Reads (at.at_package x None i) (t ∷ us) q → Reads (at.at_package_or_instance x i) (t ∷ us) q
-    is_package t us q h f = looks Refuse new_on t us (at.at_package x None i) (λ m. no_new m (symbol_of t.lexeme) t h) f
+    pub is_instance : (ts us : Tokens) (q : Reading LibraryItem) → after symbol.New ts ≡ Some us → opens x Generics ≡ true → Reads (at.at_instance x i) us q → Reads (at.at_package_or_instance x i) ts q
+    is_instance ts us q e o f =
+        let n = after_some symbol.New ts us e in
+        rw n.here (takes Refuse new_on n.t us (at.at_instance x i) (λ m. ap (λ s. new_on m s n.t) n.is ∙ ap (λ b. provided b (Take (at.at_instance x i m))) o) f)
 
-    pub is_instance : (t : Token) (us : Tokens) (q : Reading LibraryItem) → Is symbol.New t → opens x Generics ≡ true → Reads (at.at_instance x i) us q → Reads (at.at_package_or_instance x i) (t ∷ us) q
-    is_instance t us q k o f = takes Refuse new_on t us (at.at_instance x i) (λ m. ap (λ s. new_on m s t) k ∙ ap (λ b. provided b (Take (at.at_instance x i m))) o) f
-
-    pub instance_closed : (t : Token) (us : Tokens) → Is symbol.New t → opens x Generics ≡ false → Reads (at.at_package_or_instance x i) (t ∷ us) (Stuck (t ∷ us))
-    instance_closed t us k o = refuses Refuse new_on t us (λ m. ap (λ s. new_on m s t) k ∙ ap (λ b. provided b (Take (at.at_instance x i m))) o)
+    pub instance_closed : (ts us : Tokens) → after symbol.New ts ≡ Some us → opens x Generics ≡ false → Reads (at.at_package_or_instance x i) ts (Stuck ts)
+    instance_closed ts us e o =
+        let n = after_some symbol.New ts us e in
+        rw n.here (refuses Refuse new_on n.t us (λ m. ap (λ s. new_on m s n.t) n.is ∙ ap (λ b. provided b (Take (at.at_instance x i m))) o))
 
   -- behind BODY
   abbrev body_named : Identifier → List BodyItem → ℕ → Option Identifier → Reader LibraryItem
@@ -196,5 +198,3 @@ module _ (x : Extent) where
 
   pub generic_no_is : (ts us vs ws rest : Tokens) (fs : List Formal) (i : Identifier) → Reads (formals_by x) ts (Got fs us) → length us ≤ length ts → Skipped symbol.Package us vs → Identified vs ws i → expect symbol.Is ws ≡ Stuck rest → Reads (read.generic_by x) ts (Stuck rest)
   generic_no_is ts us vs ws rest fs i r l p k e = both generic_after_formals r l (word_then (generic_after_package fs) p (identified (generic_after_name fs) k (no_word symbol.Is (at.at_package x (Some fs) i) e)))
-
-pub ruleset package_or_instance_rules = (nothing_packaged, is_package, is_instance, instance_closed)

@@ -1,11 +1,9 @@
 -- How choices and statements without statements in them are read, answer by answer.
-use Rattle.std.proofs.Common.{◌≡◌, ℕ, suc, ◌<◌, ◌≤◌, true, false, List, [], ◌∷◌, ◌++◌, length, Option, Some, None, refl, ap, ◌∙◌, arith}
+use Rattle.std.proofs.Common.{◌≡◌, ℕ, suc, ◌<◌, ◌≤◌, true, false, List, [], ◌∷◌, ◌++◌, length, Option, Some, None, refl, ap, arith}
 use Rattle.cov_base.specs.declared.position.Pos.{Pos}
 use Rattle.ada_lexer.specs.declared.token.Token.{Token}
 use Rattle.ada_syntax.specs.Tree.{Expr, Name}
 use Rattle.ada_syntax.specs.StatementTree as tree
-use Rattle.ada_syntax.specs.StatementTree.{Statement}
-use Rattle.ada_syntax.specs.declared.declaration.Initial.{Initial}
 use Rattle.ada_syntax.specs.declared.declaration.Pragma.{Pragma}
 use Rattle.ada_syntax.specs.declared.statement.Choice.{Choice}
 use Rattle.ada_syntax.specs.declared.statement.Choice.TheVariants as choice
@@ -15,14 +13,13 @@ use Rattle.ada_syntax.specs.declared.statement.Direction.TheVariants.{Forward, R
 use Rattle.expression_parser.specs.declared.symbol.Symbol.{Symbol}
 use Rattle.expression_parser.specs.declared.symbol.Symbol.TheVariants as symbol
 use Rattle.expression_parser.specs.declared.extent.Extent.{Extent}
-use Rattle.expression_parser.specs.declared.extent.Extent.TheVariants.{Objects, Subprograms}
+use Rattle.expression_parser.specs.declared.extent.Extent.TheVariants.{Subprograms}
 use Rattle.expression_parser.specs.Symbols.{symbol_of, same, Is}
 use Rattle.expression_parser.specs.Extents.{opens}
-use Rattle.expression_parser.specs.Reading.{Tokens, Reading, Reader, Got, Stuck, Refuse, Leave, Take, Look, got, ◌>>=◌, turned, provided, expect, skip, repeat}
+use Rattle.expression_parser.specs.Reading.{Tokens, Reading, Reader, Got, Stuck, Refuse, Leave, Look, got, ◌>>=◌, turned, provided, expect, skip, repeat}
 use Rattle.expression_parser.specs.Depth as at
 use Rattle.expression_parser.specs.Shows.{Reads, More, Skipped, after}
 use Rattle.expression_parser.proofs.NameCode.{after_some, after_none}
-use Rattle.declaration_parser.specs.SubtypeReading.{initial_by}
 use Rattle.declaration_parser.specs.DeclarationReading.{pragma_by}
 use Rattle.ada_parser.specs.StatementReading as read
 use Rattle.ada_parser.specs.StatementDepth as depth
@@ -147,46 +144,6 @@ module _ (x : Extent) where
   pub pragma_fail : (p : Pos) (ts rest : Tokens) → Reads (pragma_by x) ts (Stuck rest) → Reads (depth.at_exemption x p) ts (Stuck rest)
   pragma_fail p ts rest r = first_fails (λ m z. got (tree.exemption p z)) r
 
-  -- := init ; | ; behind a name
-  module _ (p : Pos) (n : Name) where
-    abbrev assigns : ℕ → Reader Statement
-    assigns m = initial_by x m >>= λ i. skip symbol.Semicolon (got (tree.assignment p n i))
-
-    pub no_name_rest : Reads (depth.at_name_rest x p n) [] (Stuck [])
-    no_name_rest = record { by = λ m h. refl }
-
-    becomes : (t : Token) (us : Tokens) (q : Reading Statement) → Is symbol.Becomes t → opens x Objects ≡ true → Reads assigns us q → Reads (depth.at_name_rest x p n) (t ∷ us) q
-    becomes t us q i o f = takes Refuse (λ m. read.name_turn x m p n) t us assigns (λ m. ap (λ s. read.name_turn x m p n s t) i ∙ ap (λ b. provided b (Take (assigns m))) o) f
-
-    pub becomes_closed : (t : Token) (us : Tokens) → Is symbol.Becomes t → opens x Objects ≡ false → Reads (depth.at_name_rest x p n) (t ∷ us) (Stuck (t ∷ us))
-    becomes_closed t us i o = refuses Refuse (λ m. read.name_turn x m p n) t us (λ m. ap (λ s. read.name_turn x m p n s t) i ∙ ap (λ b. provided b (Take (assigns m))) o)
-
-    pub assigned : (t : Token) (us vs rest : Tokens) (i : Initial) → Is symbol.Becomes t → opens x Objects ≡ true → Reads (initial_by x) us (Got i vs) → length vs < length us → Skipped symbol.Semicolon vs rest → Reads (depth.at_name_rest x p n) (t ∷ us) (Got (tree.assignment p n i) rest)
-    assigned t us vs rest v i o r l k = becomes t us _ i o (both (λ m z. skip symbol.Semicolon (got (tree.assignment p n z))) r (omega arith) (word_then (λ m. got (tree.assignment p n v)) k (done _ rest)))
-
-    pub assigned_fail : (t : Token) (us rest : Tokens) → Is symbol.Becomes t → opens x Objects ≡ true → Reads (initial_by x) us (Stuck rest) → Reads (depth.at_name_rest x p n) (t ∷ us) (Stuck rest)
-    assigned_fail t us rest i o r = becomes t us _ i o (first_fails (λ m z. skip symbol.Semicolon (got (tree.assignment p n z))) r)
-
-    pub assigned_open : (t : Token) (us vs rest : Tokens) (i : Initial) → Is symbol.Becomes t → opens x Objects ≡ true → Reads (initial_by x) us (Got i vs) → length vs < length us → expect symbol.Semicolon vs ≡ Stuck rest → Reads (depth.at_name_rest x p n) (t ∷ us) (Stuck rest)
-    assigned_open t us vs rest v i o r l e = becomes t us _ i o (both (λ m z. skip symbol.Semicolon (got (tree.assignment p n z))) r (omega arith) (no_word symbol.Semicolon (λ m. got (tree.assignment p n v)) e))
-
-    pub called : (t : Token) (us : Tokens) → Is symbol.Semicolon t → Reads (depth.at_name_rest x p n) (t ∷ us) (Got (tree.call p n) us)
-    called t us i = takes Refuse (λ m. read.name_turn x m p n) t us (λ m. got (tree.call p n)) (λ m. ap (λ s. read.name_turn x m p n s t) i) (done (tree.call p n) us)
-
-    no_rest_at : (m : ℕ) (s : Symbol) (t : Token) → (s ≡ symbol.Becomes → ⊥) → (s ≡ symbol.Semicolon → ⊥) → read.name_turn x m p n s t ≡ Refuse
-    no_rest_at m symbol.Becomes t a b = absurd (a refl)
-    no_rest_at m symbol.Semicolon t a b = absurd (b refl)
-    no_rest_at m _ t a b = refl
-
-    pub no_rest : (t : Token) (us : Tokens) → (symbol_of t.lexeme ≡ symbol.Becomes → ⊥) → (symbol_of t.lexeme ≡ symbol.Semicolon → ⊥) → Reads (depth.at_name_rest x p n) (t ∷ us) (Stuck (t ∷ us))
-    no_rest t us a b = refuses Refuse (λ m. read.name_turn x m p n) t us (λ m. no_rest_at m (symbol_of t.lexeme) t a b)
-
-  pub named_then : (p : Pos) (ts us : Tokens) (n : Name) (q : Reading Statement) → Reads (at.at_name x) ts (Got n us) → length us < length ts → Reads (depth.at_name_rest x p n) us q → Reads (depth.at_named x p) ts q
-  named_then p ts us n q r l f = both (λ m. read.name_rest x m p) r (omega arith) f
-
-  pub named_fail : (p : Pos) (ts rest : Tokens) → Reads (at.at_name x) ts (Stuck rest) → Reads (depth.at_named x p) ts (Stuck rest)
-  named_fail p ts rest r = first_fails (λ m. read.name_rest x m p) r
-
   -- [WHEN expr]
   condition_at : (m : ℕ) (s : Symbol) (t : Token) → same s symbol.When ≡ false → read.condition_turn x m s t ≡ Leave None
   condition_at m symbol.When t h = cc
@@ -288,10 +245,6 @@ pub ruleset exception_rules = (no_exception, other_exception, exception_name, ex
 pub ruleset exceptions_rules = (exceptions_begin, exceptions_fail, exceptions_step, exceptions_step_fail, exceptions_end)
 
 pub ruleset pragma_rules = (pragma_read, pragma_fail)
-
-pub ruleset name_rest_rules = (no_name_rest, becomes_closed, assigned, assigned_fail, assigned_open, called, no_rest)
-
-pub ruleset named_rules = (named_then, named_fail)
 
 pub ruleset condition_rules = (no_condition, a_condition, condition_fail)
 

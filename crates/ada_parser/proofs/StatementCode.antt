@@ -1,68 +1,21 @@
 -- How statements and sequences of them are read, answer by answer.
-use Rattle.std.proofs.Common.{◌≡◌, ℕ, suc, ◌<◌, ◌≤◌, true, false, cond, List, [], ◌∷◌, ◌++◌, length, refl, ap, ◌∙◌, arith}
+use Rattle.std.proofs.Common.{◌≡◌, ℕ, suc, ◌<◌, ◌≤◌, true, false, cond, List, [], ◌∷◌, ◌++◌, length, ap, arith}
 use Rattle.std.proofs.lemmas.Bool.{false≢true}
 use Rattle.ada_lexer.specs.declared.token.Token.{Token}
 use Rattle.ada_syntax.specs.StatementTree as tree
-use Rattle.ada_syntax.specs.StatementTree.{Statement, Branches, Alternatives, Handlers, Handled}
+use Rattle.ada_syntax.specs.StatementTree.{Statement, Handlers, Handled}
 use Rattle.ada_syntax.specs.StatementView.{statements_of}
 use Rattle.expression_parser.specs.declared.symbol.Symbol.{Symbol}
-use Rattle.expression_parser.specs.declared.symbol.Symbol.TheVariants as symbol
 use Rattle.expression_parser.specs.declared.extent.Extent.{Extent}
-use Rattle.expression_parser.specs.declared.extent.Extent.TheVariants.{Decisions, Exceptions}
-use Rattle.expression_parser.specs.Symbols.{symbol_of, Is}
-use Rattle.expression_parser.specs.Extents.{opens}
-use Rattle.expression_parser.specs.Reading.{Tokens, Reading, Reader, Got, Stuck, Turn, Refuse, Leave, Take, Look, got, goes_on, ◌>>=◌, provided, repeat}
+use Rattle.expression_parser.specs.Reading.{Tokens, Reading, Reader, Got, Stuck, Turn, Leave, Look, got, goes_on, ◌>>=◌, repeat}
 use Rattle.expression_parser.specs.Shows.{Reads, More, next_is}
 use Rattle.expression_parser.proofs.Comes.{got_bind, got_then}
 use Rattle.expression_parser.proofs.Loops.{more_end, more_leave, more_look, more_look_stuck}
 use Rattle.ada_parser.specs.StatementReading as read
 use Rattle.ada_parser.specs.StatementDepth as at
-use Rattle.ada_parser.proofs.Steps.{both, first_fails, done, takes, looks, refuses}
+use Rattle.ada_parser.proofs.Steps.{both, first_fails, done}
 
 module _ (x : Extent) where
-  abbrev statement_on : ℕ → Symbol → Token → Turn Statement
-  statement_on m = read.statement_turn x (read.statements x m) m
-
-  pub nothing_left : Reads (at.at_statement x) [] (Stuck [])
-  nothing_left = record { by = λ m h. refl }
-
-  pub a_null : (t : Token) (us : Tokens) (q : Reading Statement) → Is symbol.Null t → Reads (at.at_null t.pos) us q → Reads (at.at_statement x) (t ∷ us) q
-  a_null t us q i f = takes Refuse statement_on t us (at.at_null t.pos) (λ m. ap (λ s. statement_on m s t) i) f
-
-  pub a_name : (t : Token) (us : Tokens) (q : Reading Statement) → Is symbol.Identifier t → Reads (at.at_named x t.pos) (t ∷ us) q → Reads (at.at_statement x) (t ∷ us) q
-  a_name t us q i f = looks Refuse statement_on t us (at.at_named x t.pos) (λ m. ap (λ s. statement_on m s t) i) f
-
-  pub a_pragma : (t : Token) (us : Tokens) (q : Reading Statement) → Is symbol.Pragma t → Reads (at.at_exemption x t.pos) (t ∷ us) q → Reads (at.at_statement x) (t ∷ us) q
-  a_pragma t us q i f = looks Refuse statement_on t us (at.at_exemption x t.pos) (λ m. ap (λ s. statement_on m s t) i) f
-
-  pub an_exit : (t : Token) (us : Tokens) (q : Reading Statement) → Is symbol.Exit t → opens x Decisions ≡ true → Reads (at.at_exit x t.pos) us q → Reads (at.at_statement x) (t ∷ us) q
-  an_exit t us q i o f = takes Refuse statement_on t us (at.at_exit x t.pos) (λ m. ap (λ s. statement_on m s t) i ∙ ap (λ b. provided b (Take (at.at_exit x t.pos m))) o) f
-
-  pub exit_closed : (t : Token) (us : Tokens) → Is symbol.Exit t → opens x Decisions ≡ false → Reads (at.at_statement x) (t ∷ us) (Stuck (t ∷ us))
-  exit_closed t us i o = refuses Refuse statement_on t us (λ m. ap (λ s. statement_on m s t) i ∙ ap (λ b. provided b (Take (at.at_exit x t.pos m))) o)
-
-  pub a_return : (t : Token) (us : Tokens) (q : Reading Statement) → Is symbol.Return t → Reads (at.at_return x t.pos) us q → Reads (at.at_statement x) (t ∷ us) q
-  a_return t us q i f = takes Refuse statement_on t us (at.at_return x t.pos) (λ m. ap (λ s. statement_on m s t) i) f
-
-  pub a_raise : (t : Token) (us : Tokens) (q : Reading Statement) → Is symbol.Raise t → opens x Exceptions ≡ true → Reads (at.at_raise x t.pos) us q → Reads (at.at_statement x) (t ∷ us) q
-  a_raise t us q i o f = takes Refuse statement_on t us (at.at_raise x t.pos) (λ m. ap (λ s. statement_on m s t) i ∙ ap (λ b. provided b (Take (at.at_raise x t.pos m))) o) f
-
-  pub raise_closed : (t : Token) (us : Tokens) → Is symbol.Raise t → opens x Exceptions ≡ false → Reads (at.at_statement x) (t ∷ us) (Stuck (t ∷ us))
-  raise_closed t us i o = refuses Refuse statement_on t us (λ m. ap (λ s. statement_on m s t) i ∙ ap (λ b. provided b (Take (at.at_raise x t.pos m))) o)
-
-  other_at : (m : ℕ) (s : Symbol) (t : Token) → (s ≡ symbol.Null → ⊥) → (s ≡ symbol.Identifier → ⊥) → (s ≡ symbol.Pragma → ⊥) → (s ≡ symbol.Exit → ⊥) → (s ≡ symbol.Return → ⊥) → (s ≡ symbol.Raise → ⊥) → statement_on m s t ≡ Look (at.at_compound x m)
-  other_at m symbol.Null t a b c d e f = absurd (a refl)
-  other_at m symbol.Identifier t a b c d e f = absurd (b refl)
-  other_at m symbol.Pragma t a b c d e f = absurd (c refl)
-  other_at m symbol.Exit t a b c d e f = absurd (d refl)
-  other_at m symbol.Return t a b c d e f = absurd (e refl)
-  other_at m symbol.Raise t a b c d e f = absurd (f refl)
-  other_at m _ t a b c d e f = refl
-
-  pub other : (t : Token) (us : Tokens) (q : Reading Statement) → (symbol_of t.lexeme ≡ symbol.Null → ⊥) → (symbol_of t.lexeme ≡ symbol.Identifier → ⊥) → (symbol_of t.lexeme ≡ symbol.Pragma → ⊥) → (symbol_of t.lexeme ≡ symbol.Exit → ⊥)
-      → (symbol_of t.lexeme ≡ symbol.Return → ⊥) → (symbol_of t.lexeme ≡ symbol.Raise → ⊥) → Reads (at.at_compound x) (t ∷ us) q → Reads (at.at_statement x) (t ∷ us) q
-  other t us q a b c d e f r = looks Refuse statement_on t us (at.at_compound x) (λ m. other_at m (symbol_of t.lexeme) t a b c d e f) r
-
   -- stmt {stmt}
   abbrev pub statement_turns : ℕ → Symbol → Token → List Statement → Turn (List Statement)
   statement_turns m = read.statements_turn x (read.statements x m) m
@@ -104,7 +57,5 @@ module _ (x : Extent) where
 
   pub handlers_fail : (ts us rest : Tokens) (ss : List Statement) → Reads (at.at_statements x) ts (Got ss us) → length us < length ts → Reads (at.at_handlers x) us (Stuck rest) → Reads (at.at_handled x) ts (Stuck rest)
   handlers_fail ts us rest ss r l s = handled_then r l (first_fails (λ m zs. got (tree.handled (statements_of ss) zs)) s)
-
-pub ruleset statement_rules = (nothing_left, a_null, a_name, a_pragma, an_exit, exit_closed, a_return, a_raise, raise_closed, other)
 
 pub ruleset statements_rules = (statements_begin, statements_fail, statements_step, statements_step_fail, statements_end)

@@ -4,6 +4,7 @@ pub mod Trees
 pub mod Statements
 pub mod StatementReading
 pub mod StatementDepth
+pub mod SimpleReading
 pub mod Endings
 pub mod Parts
 pub mod Bodies
@@ -11,5 +12,6 @@ pub mod Beginnings
 pub mod Grammar
 pub mod UnitReading
 pub mod UnitDepth
+pub mod BodyParts
 pub mod Refusal
 pub mod Opening

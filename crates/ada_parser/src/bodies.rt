@@ -4,17 +4,17 @@ ghost use Rattle.std.specs.Prelude.{◌<◌, length, IfOk};
 ghost use Rattle.expression_parser.specs.Shows.{Shows, Reads};
 ghost use Rattle.ada_parser.specs.UnitReading as read;
 ghost use Rattle.ada_parser.specs.UnitDepth as at;
+ghost use Rattle.ada_parser.specs.BodyParts.{ReadsBodyParts};
 
 use crate::contexts::end;
 use crate::statements::handled_statements;
 use ada_lexer::Token;
-use ada_syntax::{HandledStatements, Identifier, Specification, SubprogramBody};
+use ada_syntax::{Declaration, HandledStatements, Identifier, Specification, SubprogramBody};
 use cov_base::Seq;
-use declaration_parser::{closed_by, local_declarations, specification};
+use declaration_parser::{closed_by, local_declarations, paired, specification};
 use expression_parser::{Parsed, Parser, Symbol};
 
 /// `stmts [handlers] END [id] ;` behind `BEGIN`
-#[tactic(auto, using(crate::proofs::BodyCode::to_end_rules))]
 fn statements_to_end<'a>(
     parser: Parser,
     tokens: &'a [Token],
@@ -23,8 +23,19 @@ fn statements_to_end<'a>(
     ensures shorter { IfOk result (λ x. length x.1.now < length tokens.now) }
 {
     let (statements, rest) = handled_statements(parser, tokens)?;
-    let (end_name, rest) = end(parser, rest)?;
-    Ok(((statements, end_name), rest))
+    paired(statements, end(parser, rest))
+}
+
+/// `{ldecl} BEGIN stmts [handlers] END [id] ;` behind any specification and `IS`
+fn body_parts<'a>(
+    parser: Parser,
+    tokens: &'a [Token],
+) -> Parsed<'a, (Vec<Declaration>, (HandledStatements, Option<Identifier>))>
+    ensures reads { ReadsBodyParts parser.extent tokens.now result }
+    ensures shorter { IfOk result (λ x. length x.1.now < length tokens.now) }
+{
+    let (declarations, rest) = closed_by(Symbol::Begin, local_declarations(parser, tokens))?;
+    paired(declarations, statements_to_end(parser, rest))
 }
 
 /// `{ldecl} BEGIN stmts [handlers] END [id] ;` behind a specification and `IS`
@@ -36,8 +47,10 @@ pub fn body_rest<'a>(
     ensures reads { Shows (Reads (at.at_body_rest parser.extent specification) tokens.now) result }
     ensures shorter { IfOk result (λ x. length x.1.now < length tokens.now) }
 {
-    let (declarations, rest) = closed_by(Symbol::Begin, local_declarations(parser, tokens))?;
-    let ((statements, end_name), rest) = statements_to_end(parser, rest)?;
+    let ((specification, (declarations, (statements, end_name))), rest) = paired(
+        specification,
+        body_parts(parser, tokens),
+    )?;
     let body = SubprogramBody {
         specification,
         declarations: Seq::from(declarations),

@@ -6,6 +6,7 @@ ghost use Rattle.ada_parser.specs.StatementReading as read;
 
 use ada_lexer::Token;
 use ada_syntax::{Bounds, Choice, ExceptionChoice};
+use declaration_parser::paired;
 use expression_parser::{Fault, Parsed, Parser, Symbol, behind, symbol_in};
 
 /// `simple [.. simple] | OTHERS`
@@ -20,11 +21,11 @@ fn choice<'a>(parser: Parser, tokens: &'a [Token]) -> Parsed<'a, Choice>
     if symbol_in(token.lexeme) == Symbol::Others {
         return Ok((Choice::Others(token.pos), rest));
     }
-    let (low, rest) = parser.simple(tokens)?;
+    let (first, rest) = parser.simple(tokens)?;
     let Some(after) = behind(Symbol::DoubleDot, rest) else {
-        return Ok((Choice::Value(low), rest));
+        return Ok((Choice::Value(first), rest));
     };
-    let (high, rest) = parser.simple(after)?;
+    let ((low, high), rest) = paired(first, parser.simple(after))?;
     Ok((Choice::Range(Bounds { low, high }), rest))
 }
 

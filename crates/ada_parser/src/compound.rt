@@ -2,8 +2,9 @@
 
 ghost use Rattle.std.specs.Prelude.{◌≡◌, ◌<◌, ◌≤◌, length, Option, IfOk};
 ghost use Rattle.ada_syntax.specs.StatementView.{branches_of, alternatives_of};
-ghost use Rattle.expression_parser.specs.Shows.{Shows, ShowsAs, Reads};
+ghost use Rattle.expression_parser.specs.Shows.{Shows, ShowsAs, Reads, next_is};
 ghost use Rattle.ada_parser.specs.StatementDepth as at;
+ghost use Rattle.ada_parser.specs.SimpleReading as read;
 ghost use Rattle.ada_parser.specs.Parts.{branch_parts};
 ghost use Rattle.ada_parser.specs.Beginnings.{extent_of, ShowsBeginning};
 ghost use Rattle.ada_parser.specs.Bodies.{ReadsIfRest, ReadsCaseArms, ReadsLoopBody};
@@ -16,7 +17,7 @@ use crate::words::{closing, end};
 use ada_lexer::Token;
 use ada_syntax::{Alternative, Branch, Declaration, LoopScheme, Statement, StatementKind};
 use cov_base::{Pos, Seq};
-use declaration_parser::range;
+use declaration_parser::{paired, range};
 use expression_parser::{Extent, Fault, Parsed, Parser, Symbol, behind, symbol_in, word};
 
 /// `expr THEN stmts`
@@ -25,8 +26,8 @@ fn branch<'a>(parser: Parser, depth: u32, tokens: &'a [Token]) -> Parsed<'a, Bra
     ensures reads { ShowsAs branch_parts (Reads (at.at_branch parser.extent) tokens.now) result }
     ensures shorter { IfOk result (λ x. length x.1.now < length tokens.now) }
 {
-    let (condition, rest) = expr_before(parser, Symbol::Then, tokens)?;
-    let (statements, rest) = nested(parser, depth, rest)?;
+    let (expr, rest) = expr_before(parser, Symbol::Then, tokens)?;
+    let ((condition, statements), rest) = paired(expr, nested(parser, depth, rest))?;
     let branch = Branch {
         condition,
         statements,
@@ -90,8 +91,8 @@ fn if_statement<'a>(
     ensures reads { Shows (Reads (at.at_if parser.extent pos) tokens.now) result }
     ensures shorter { IfOk result (λ x. length x.1.now < length tokens.now) }
 {
-    let (first, rest) = branch(parser, depth, tokens)?;
-    let ((others, otherwise), rest) = if_rest(parser, depth, rest)?;
+    let (start, rest) = branch(parser, depth, tokens)?;
+    let ((first, (others, otherwise)), rest) = paired(start, if_rest(parser, depth, rest))?;
     let kind = StatementKind::If(first, others, otherwise);
     Ok((Statement { pos, kind }, rest))
 }
@@ -118,8 +119,8 @@ fn case_statement<'a>(
     ensures reads { Shows (Reads (at.at_case parser.extent pos) tokens.now) result }
     ensures shorter { IfOk result (λ x. length x.1.now < length tokens.now) }
 {
-    let (selector, rest) = expr_before(parser, Symbol::Is, tokens)?;
-    let (alternatives, rest) = case_arms(parser, depth, rest)?;
+    let (expr, rest) = expr_before(parser, Symbol::Is, tokens)?;
+    let ((selector, alternatives), rest) = paired(expr, case_arms(parser, depth, rest))?;
     let kind = StatementKind::Case(selector, alternatives);
     Ok((Statement { pos, kind }, rest))
 }
@@ -148,7 +149,7 @@ fn loop_rest<'a>(
     ensures reads { Shows (Reads (at.at_loop parser.extent pos scheme) tokens.now) result }
     ensures shorter { IfOk result (λ x. length x.1.now < length tokens.now) }
 {
-    let (statements, rest) = loop_body(parser, depth, tokens)?;
+    let ((scheme, statements), rest) = paired(scheme, loop_body(parser, depth, tokens))?;
     let kind = StatementKind::Loop(scheme, statements);
     Ok((Statement { pos, kind }, rest))
 }
@@ -241,6 +242,25 @@ fn beginning<'a>(parser: Parser, tokens: &'a [Token]) -> Parsed<'a, (Symbol, Pos
     };
     parser.needs(needed, tokens)?;
     Ok(((word, token.pos), rest))
+}
+
+/// Whether the next token begins a statement with statements in it.
+pub fn begins_compound(tokens: &[Token]) -> bool
+    ensures { result ≡ next_is read.begins_compound tokens.now }
+{
+    let Some((token, _)) = tokens.split_first() else {
+        return false;
+    };
+    matches!(
+        symbol_in(token.lexeme),
+        Symbol::If
+            | Symbol::Case
+            | Symbol::Loop
+            | Symbol::While
+            | Symbol::For
+            | Symbol::Begin
+            | Symbol::Declare
+    )
 }
 
 /// A statement with statements in it. `case` and `for` come with [`Extent::Types`], the others with

@@ -9,7 +9,7 @@ use crate::bodies::body_rest;
 use ada_lexer::Token;
 use ada_syntax::{BodyItem, PackageItem, Specification};
 use declaration_parser::{begins_declaration, closed_by, declaration, specification};
-use expression_parser::{Fault, Parsed, Parser, Symbol, symbol_in};
+use expression_parser::{Parsed, Parser, Symbol, behind, symbol_in};
 
 /// Whether the next token begins a specification.
 fn begins_specification(tokens: &[Token]) -> bool
@@ -67,7 +67,6 @@ pub fn package_items<'a>(parser: Parser, tokens: &'a [Token]) -> Parsed<'a, Vec<
 }
 
 /// `; | IS {ldecl} BEGIN stmts [handlers] END [id] ;` behind a specification
-#[tactic(auto, using(crate::proofs::ItemCode::specified_rules))]
 fn specified<'a>(
     parser: Parser,
     specification: Specification,
@@ -76,20 +75,13 @@ fn specified<'a>(
     ensures reads { Shows (Reads (at.at_specified parser.extent specification) tokens.now) result }
     ensures shorter { IfOk result (λ x. length x.1.now < length tokens.now) }
 {
-    let Some((token, rest)) = tokens.split_first() else {
-        return Err(Fault::Syntax(tokens));
-    };
-    match symbol_in(token.lexeme) {
-        Symbol::Semicolon => {
-            let item = PackageItem::Subprogram(specification);
-            Ok((BodyItem::Declared(item), rest))
-        }
-        Symbol::Is => {
-            let (body, rest) = body_rest(parser, specification, rest)?;
-            Ok((BodyItem::Body(body), rest))
-        }
-        _ => Err(Fault::Syntax(tokens)),
+    if let Some(rest) = behind(Symbol::Semicolon, tokens) {
+        let item = PackageItem::Subprogram(specification);
+        return Ok((BodyItem::Declared(item), rest));
     }
+    let (specification, rest) = closed_by(Symbol::Is, Ok((specification, tokens)))?;
+    let (body, rest) = body_rest(parser, specification, rest)?;
+    Ok((BodyItem::Body(body), rest))
 }
 
 /// `decl | body`

@@ -13,7 +13,7 @@ use ada_syntax::{
 };
 use cov_base::Seq;
 use declaration_parser::{closed_by, formals};
-use expression_parser::{Extent, Fault, Parsed, Parser, Symbol, behind, symbol_in};
+use expression_parser::{Extent, Parsed, Parser, Symbol, behind};
 
 /// `[( expr {, expr} )]`
 fn actuals<'a>(parser: Parser, tokens: &'a [Token]) -> Parsed<'a, Vec<Expr>>
@@ -64,7 +64,6 @@ fn package_rest<'a>(
 
 /// `NEW id [( expr {, expr} )] ; | {decl} END [id] ;` of this name. Instances come with
 /// [`Extent::Generics`].
-#[tactic(auto, using(crate::proofs::PackageCode::package_or_instance_rules))]
 fn package_or_instance<'a>(
     parser: Parser,
     name: Identifier,
@@ -73,14 +72,11 @@ fn package_or_instance<'a>(
     ensures reads { Shows (Reads (at.at_package_or_instance parser.extent name) tokens.now) result }
     ensures shorter { IfOk result (λ x. length x.1.now < length tokens.now) }
 {
-    let Some((token, rest)) = tokens.split_first() else {
-        return Err(Fault::Syntax(tokens));
-    };
-    if symbol_in(token.lexeme) != Symbol::New {
+    let Some(after) = behind(Symbol::New, tokens) else {
         return package_rest(parser, None, name, tokens);
-    }
+    };
     parser.needs(Extent::Generics, tokens)?;
-    instance(parser, name, rest)
+    instance(parser, name, after)
 }
 
 /// `id IS {decl | body} END [id] ;` behind `BODY`

@@ -5,51 +5,51 @@ ghost use Rattle.expression_parser.specs.Reading.{Got};
 ghost use Rattle.expression_parser.specs.Shows.{Shows, Reads};
 ghost use Rattle.ada_parser.specs.StatementReading as read;
 ghost use Rattle.ada_parser.specs.StatementDepth as at;
+ghost use Rattle.ada_parser.specs.SimpleReading.{at_simple, ReadsNameRest};
 
 use ada_lexer::Token;
-use ada_syntax::{Direction, Expr, Name, Statement, StatementKind};
+use ada_syntax::{Direction, Expr, Initial, Name, Statement, StatementKind};
 use cov_base::Pos;
-use declaration_parser::{closed_by, exemption_pragma, initial};
+use declaration_parser::{closed_by, exemption_pragma, initial, paired};
 use expression_parser::{Extent, Fault, Parsed, Parser, Symbol, behind, symbol_in, word};
 
-/// `:= init ; | ;` behind a name, which stands at this place. Assignments come with
+/// `:= init ; | ;` behind a name: what is assigned to it, if it is no call. Assignments come with
 /// [`Extent::Objects`].
-#[tactic(auto, using(crate::proofs::SimpleCode::name_rest_rules))]
-fn name_rest<'a>(parser: Parser, pos: Pos, name: Name, tokens: &'a [Token]) -> Parsed<'a, Statement>
-    ensures reads { Shows (Reads (at.at_name_rest parser.extent pos name) tokens.now) result }
+fn name_rest<'a>(parser: Parser, tokens: &'a [Token]) -> Parsed<'a, Option<Initial>>
+    ensures reads { ReadsNameRest parser.extent tokens.now result }
     ensures shorter { IfOk result (λ x. length x.1.now < length tokens.now) }
 {
-    let Some((token, rest)) = tokens.split_first() else {
-        return Err(Fault::Syntax(tokens));
-    };
-    match symbol_in(token.lexeme) {
-        Symbol::Becomes => {
-            parser.needs(Extent::Objects, tokens)?;
-            let (value, rest) = closed_by(Symbol::Semicolon, initial(parser, rest))?;
-            let kind = StatementKind::Assignment(name, value);
-            Ok((Statement { pos, kind }, rest))
-        }
-        Symbol::Semicolon => {
-            let kind = StatementKind::Call(name);
-            Ok((Statement { pos, kind }, rest))
-        }
-        _ => Err(Fault::Syntax(tokens)),
+    if let Some(after) = behind(Symbol::Becomes, tokens) {
+        parser.needs(Extent::Objects, tokens)?;
+        let (value, rest) = closed_by(Symbol::Semicolon, initial(parser, after))?;
+        return Ok((Some(value), rest));
     }
+    let rest = word(Symbol::Semicolon, tokens)?;
+    Ok((None, rest))
 }
 
 /// `name := init ; | name ;`
-#[tactic(auto, using(crate::proofs::SimpleCode::named_rules))]
-pub fn named<'a>(parser: Parser, pos: Pos, tokens: &'a [Token]) -> Parsed<'a, Statement>
+fn named<'a>(parser: Parser, pos: Pos, tokens: &'a [Token]) -> Parsed<'a, Statement>
     ensures reads { Shows (Reads (at.at_named parser.extent pos) tokens.now) result }
     ensures shorter { IfOk result (λ x. length x.1.now < length tokens.now) }
 {
-    let (name, rest) = parser.name(tokens)?;
-    name_rest(parser, pos, name, rest)
+    let (first, rest) = parser.name(tokens)?;
+    let ((name, value), rest) = paired(first, name_rest(parser, rest))?;
+    match value {
+        Some(value) => {
+            let kind = StatementKind::Assignment(name, value);
+            Ok((Statement { pos, kind }, rest))
+        }
+        None => {
+            let kind = StatementKind::Call(name);
+            Ok((Statement { pos, kind }, rest))
+        }
+    }
 }
 
 /// `NULL ;`, behind `NULL`
 #[tactic(auto, using(crate::proofs::SimpleCode::null_rules))]
-pub fn null<'a>(pos: Pos, tokens: &'a [Token]) -> Parsed<'a, Statement>
+fn null<'a>(pos: Pos, tokens: &'a [Token]) -> Parsed<'a, Statement>
     ensures reads { Shows (Reads (at.at_null pos) tokens.now) result }
     ensures shorter { IfOk result (λ x. length x.1.now < length tokens.now) }
 {
@@ -60,7 +60,7 @@ pub fn null<'a>(pos: Pos, tokens: &'a [Token]) -> Parsed<'a, Statement>
 
 /// A pragma.
 #[tactic(auto, using(crate::proofs::SimpleCode::pragma_rules))]
-pub fn exemption<'a>(parser: Parser, pos: Pos, tokens: &'a [Token]) -> Parsed<'a, Statement>
+fn exemption<'a>(parser: Parser, pos: Pos, tokens: &'a [Token]) -> Parsed<'a, Statement>
     ensures reads { Shows (Reads (at.at_exemption parser.extent pos) tokens.now) result }
     ensures shorter { IfOk result (λ x. length x.1.now < length tokens.now) }
 {
@@ -83,7 +83,7 @@ fn condition<'a>(parser: Parser, tokens: &'a [Token]) -> Parsed<'a, Option<Expr>
 }
 
 /// `[WHEN expr] ;` behind `EXIT`
-pub fn exit<'a>(parser: Parser, pos: Pos, tokens: &'a [Token]) -> Parsed<'a, Statement>
+fn exit<'a>(parser: Parser, pos: Pos, tokens: &'a [Token]) -> Parsed<'a, Statement>
     ensures reads { Shows (Reads (at.at_exit parser.extent pos) tokens.now) result }
     ensures shorter { IfOk result (λ x. length x.1.now < length tokens.now) }
 {
@@ -110,7 +110,7 @@ fn result_value<'a>(parser: Parser, tokens: &'a [Token]) -> Parsed<'a, Option<Ex
 }
 
 /// `[expr] ;` behind `RETURN`
-pub fn returns<'a>(parser: Parser, pos: Pos, tokens: &'a [Token]) -> Parsed<'a, Statement>
+fn returns<'a>(parser: Parser, pos: Pos, tokens: &'a [Token]) -> Parsed<'a, Statement>
     ensures reads { Shows (Reads (at.at_return parser.extent pos) tokens.now) result }
     ensures shorter { IfOk result (λ x. length x.1.now < length tokens.now) }
 {
@@ -136,13 +136,41 @@ fn raised<'a>(parser: Parser, tokens: &'a [Token]) -> Parsed<'a, Option<Name>>
 }
 
 /// `[name] ;` behind `RAISE`
-pub fn raise<'a>(parser: Parser, pos: Pos, tokens: &'a [Token]) -> Parsed<'a, Statement>
+fn raise<'a>(parser: Parser, pos: Pos, tokens: &'a [Token]) -> Parsed<'a, Statement>
     ensures reads { Shows (Reads (at.at_raise parser.extent pos) tokens.now) result }
     ensures shorter { IfOk result (λ x. length x.1.now < length tokens.now) }
 {
     let (name, rest) = closed_by(Symbol::Semicolon, raised(parser, tokens))?;
     let kind = StatementKind::Raise(name);
     Ok((Statement { pos, kind }, rest))
+}
+
+/// A statement without statements in it. `exit` comes with [`Extent::Decisions`], `raise` with
+/// [`Extent::Exceptions`].
+#[tactic(auto, using(crate::proofs::SimpleStatementCode::simple_rules))]
+pub fn simple<'a>(parser: Parser, tokens: &'a [Token]) -> Parsed<'a, Statement>
+    ensures reads { Shows (Reads (at_simple parser.extent) tokens.now) result }
+    ensures shorter { IfOk result (λ x. length x.1.now < length tokens.now) }
+{
+    let Some((token, rest)) = tokens.split_first() else {
+        return Err(Fault::Syntax(tokens));
+    };
+    let pos = token.pos;
+    match symbol_in(token.lexeme) {
+        Symbol::Null => null(pos, rest),
+        Symbol::Identifier => named(parser, pos, tokens),
+        Symbol::Pragma => exemption(parser, pos, tokens),
+        Symbol::Exit => {
+            parser.needs(Extent::Decisions, tokens)?;
+            exit(parser, pos, rest)
+        }
+        Symbol::Return => returns(parser, pos, rest),
+        Symbol::Raise => {
+            parser.needs(Extent::Exceptions, tokens)?;
+            raise(parser, pos, rest)
+        }
+        _ => Err(Fault::Syntax(tokens)),
+    }
 }
 
 /// `[REVERSE]`

@@ -6,11 +6,11 @@ ghost use Rattle.ada_parser.specs.StatementReading as read;
 ghost use Rattle.ada_parser.specs.StatementDepth as at;
 
 use crate::arms::handlers;
-use crate::compound::compound;
-use crate::simple::{exemption, exit, named, null, raise, returns};
+use crate::compound::{begins_compound, compound};
+use crate::simple::simple;
 use ada_lexer::Token;
 use ada_syntax::{HandledStatements, Statement};
-use expression_parser::{Extent, Fault, Parsed, Parser, Symbol, symbol_in};
+use expression_parser::{Fault, Parsed, Parser, Symbol, symbol_in};
 
 /// How deep statements may stand in one another: each level takes stack.
 const DEPTH: u32 = 128;
@@ -40,32 +40,16 @@ fn begins_statement(tokens: &[Token]) -> bool
     )
 }
 
-/// A statement. `exit` comes with [`Extent::Decisions`], `raise` with [`Extent::Exceptions`].
+/// A statement.
 #[cycle(statement)]
-#[tactic(auto, using(crate::proofs::StatementCode::statement_rules))]
 fn statement<'a>(parser: Parser, depth: u32, tokens: &'a [Token]) -> Parsed<'a, Statement>
     ensures reads { Shows (Reads (at.at_statement parser.extent) tokens.now) result }
     ensures shorter { IfOk result (λ x. length x.1.now < length tokens.now) }
 {
-    let Some((token, rest)) = tokens.split_first() else {
-        return Err(Fault::Syntax(tokens));
-    };
-    let pos = token.pos;
-    match symbol_in(token.lexeme) {
-        Symbol::Null => null(pos, rest),
-        Symbol::Identifier => named(parser, pos, tokens),
-        Symbol::Pragma => exemption(parser, pos, tokens),
-        Symbol::Exit => {
-            parser.needs(Extent::Decisions, tokens)?;
-            exit(parser, pos, rest)
-        }
-        Symbol::Return => returns(parser, pos, rest),
-        Symbol::Raise => {
-            parser.needs(Extent::Exceptions, tokens)?;
-            raise(parser, pos, rest)
-        }
-        _ => compound(parser, depth, tokens),
+    if begins_compound(tokens) {
+        return compound(parser, depth, tokens);
     }
+    simple(parser, tokens)
 }
 
 /// `stmt {stmt}`

@@ -11,6 +11,7 @@ pub mod ExpressionNodes
 pub mod NodeLaws
 pub mod Steps
 pub mod Closings
+pub mod Pairs
 pub mod SubtypeCode
 pub mod WordCode
 pub mod ValueCode

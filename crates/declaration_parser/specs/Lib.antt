@@ -8,5 +8,6 @@ pub mod SubtypeReading
 pub mod DeclarationReading
 pub mod FormalReading
 pub mod Closing
+pub mod Pairs
 pub mod Answers
 pub mod NodeTokens

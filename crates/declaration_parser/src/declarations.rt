@@ -4,6 +4,7 @@ ghost use Rattle.std.specs.Prelude.{◌≡◌, ◌<◌, ◌≤◌, length, IfOk}
 ghost use Rattle.expression_parser.specs.Shows.{Shows, ShowsAs, Reads, next_is};
 ghost use Rattle.declaration_parser.specs.DeclarationReading as read;
 
+use crate::parts::paired;
 use crate::pragmas::exemption_pragma;
 use crate::subtypes::{definition, indication};
 use crate::values::initial;
@@ -35,8 +36,8 @@ fn object_type<'a>(
     ensures shorter { IfOk result (λ x. length x.1.now < length tokens.now) }
 {
     let (indication, rest) = indication(parser, tokens)?;
-    let (value, rest) = closed_by(Symbol::Semicolon, initial_part(parser, rest))?;
-    Ok(((indication, value), rest))
+    let value = closed_by(Symbol::Semicolon, initial_part(parser, rest));
+    paired(indication, value)
 }
 
 /// `sub [:= init] ;` of objects with these names

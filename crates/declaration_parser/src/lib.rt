@@ -8,11 +8,12 @@
 //!
 //! The contract that the layers above use: [`initial`], [`range`], [`indication`], [`specification`],
 //! [`exemption_pragma`], [`declaration`], [`local_declarations`] and [`formals`] answer what is read;
-//! [`closed_by`] takes a word behind it.
+//! [`closed_by`] takes a word behind it, and [`paired`] a part.
 #![tactic(auto)]
 
 mod declarations;
 mod generics;
+mod parts;
 mod pragmas;
 mod profiles;
 mod subtypes;
@@ -21,6 +22,7 @@ mod words;
 
 pub use crate::declarations::{begins_declaration, declaration, local_declarations};
 pub use crate::generics::formals;
+pub use crate::parts::paired;
 pub use crate::pragmas::exemption_pragma;
 pub use crate::profiles::specification;
 pub use crate::subtypes::{bounds, indication, range};

@@ -6,6 +6,7 @@ ghost use Rattle.expression_parser.specs.Symbols.{same};
 ghost use Rattle.expression_parser.specs.Shows.{Shows, ShowsAs, Reads, next_is};
 ghost use Rattle.declaration_parser.specs.SubtypeReading as read;
 
+use crate::parts::paired;
 use crate::words::{closed_by, identifiers};
 use ada_lexer::Token;
 use ada_syntax::{
@@ -19,8 +20,8 @@ pub fn bounds<'a>(parser: Parser, tokens: &'a [Token]) -> Parsed<'a, Bounds>
     ensures reads { Shows (Reads (read.bounds_by parser.extent) tokens.now) result }
     ensures shorter { IfOk result (λ x. length x.1.now < length tokens.now) }
 {
-    let (low, rest) = closed_by(Symbol::DoubleDot, parser.simple(tokens))?;
-    let (high, rest) = parser.simple(rest)?;
+    let (first, rest) = closed_by(Symbol::DoubleDot, parser.simple(tokens))?;
+    let ((low, high), rest) = paired(first, parser.simple(rest))?;
     Ok((Bounds { low, high }, rest))
 }
 
@@ -41,11 +42,11 @@ pub fn range<'a>(parser: Parser, tokens: &'a [Token]) -> Parsed<'a, DiscreteRang
     ensures shorter { IfOk result (λ x. length x.1.now < length tokens.now) }
 {
     parser.needs(Extent::Types, tokens)?;
-    let (low, rest) = parser.simple(tokens)?;
+    let (first, rest) = parser.simple(tokens)?;
     let Some(after) = behind(Symbol::DoubleDot, rest) else {
-        return mark(low, rest);
+        return mark(first, rest);
     };
-    let (high, rest) = parser.simple(after)?;
+    let ((low, high), rest) = paired(first, parser.simple(after))?;
     Ok((DiscreteRange::Bounds(Bounds { low, high }), rest))
 }
 
@@ -127,8 +128,8 @@ fn array<'a>(parser: Parser, tokens: &'a [Token]) -> Parsed<'a, TypeDefinition>
     ensures reads { Shows (Reads (read.array_by parser.extent) tokens.now) result }
     ensures shorter { IfOk result (λ x. length x.1.now < length tokens.now) }
 {
-    let (index, rest) = index(parser, tokens)?;
-    let (element, rest) = indication(parser, rest)?;
+    let (values, rest) = index(parser, tokens)?;
+    let ((index, element), rest) = paired(values, indication(parser, rest))?;
     Ok((TypeDefinition::Array(index, element), rest))
 }
 

@@ -1,28 +1,33 @@
-use Rattle.std.proofs.Common.{List, Some, None, length, ap, sym, subst, arith}
+use Rattle.std.proofs.Common.{◌≡◌, true, false, List, Some, None, length, ap, sym, subst, rules, arith}
 use Rattle.std.proofs.lemmas.Result.{err_from_is_err_and}
-use Rattle.ada_syntax.specs.StatementTree.{conditional, case_of}
+use Rattle.ada_syntax.specs.StatementTree.{Statement, conditional, case_of, repeat}
 use Rattle.ada_syntax.specs.StatementView.{statements_of, branches_of, alternatives_of, handlers_of}
 use Rattle.ada_syntax.specs.declared.statement.Branch.{Branch}
 use Rattle.ada_syntax.specs.declared.statement.Alternative.{Alternative}
 use Rattle.ada_syntax.specs.declared.statement.Handler.{Handler}
 use Rattle.ada_syntax.specs.declared.statement.LoopScheme.TheVariants.{While, For, Forever}
 use Rattle.expression_parser.specs.declared.symbol.Symbol.TheVariants as symbol
+use Rattle.expression_parser.specs.declared.extent.Extent.TheVariants.{Exceptions}
 use Rattle.expression_parser.specs.Reading.{Got, Stuck}
-use Rattle.expression_parser.specs.Shows.{More, Reads}
+use Rattle.expression_parser.specs.Shows.{ShowsAs, More, Reads, next_is}
 use Rattle.expression_parser.specs.Depth.{at_expr}
 use Rattle.expression_parser.proofs.Faults.{word_handed_on}
 use Rattle.expression_parser.proofs.NameCode.{after_some}
 use Rattle.declaration_parser.specs.SubtypeReading.{range_by}
 use Rattle.declaration_parser.specs.DeclarationReading.{declarations_by}
-use Rattle.declaration_parser.proofs.Closings.{within_below, below_behind}
-use Rattle.ada_parser.specs.Bodies.{at_if_rest, at_case_arms}
+use Rattle.declaration_parser.proofs.Closings.{read_so, within_below, below_behind}
+use Rattle.declaration_parser.proofs.Pairs.{pair_below, pair_done, pair_fault}
+use Rattle.ada_parser.specs.Bodies.{at_if_rest, at_case_arms, ReadsIfRest, ReadsCaseArms, ReadsLoopBody}
 use Rattle.ada_parser.specs.Beginnings.{Begins}
+use Rattle.ada_parser.specs.SimpleReading.{begins_compound, at_simple}
 use Rattle.ada_parser.specs.Lists.{before}
 use Rattle.ada_parser.specs.Parts.{branch_parts}
 use Rattle.ada_parser.specs.StatementReading as read
-use Rattle.ada_parser.proofs.StatementCode.{handled_read, handled_fail, handlers_fail, statement_rules, statements_rules}
-use Rattle.ada_parser.proofs.ArmCode.{alternative_turns, alternatives_step, alternatives_end, handler_turns, handler_list_step, handler_list_end, alternative_read, alternative_fail, alternative_empty, handler_read, handler_fail, handler_empty, alternatives_rules, handler_list_rules, handlers_rules}
-use Rattle.ada_parser.proofs.CompoundCode.{branch_turns, branches_step, branches_end, branch_read, branch_fail, branch_empty, if_rest_read, if_others_fail, if_else_fail, if_open, if_then, if_fail, arms_read, arms_fail, arms_open, case_then, case_fail, loop_read, loop_none, loop_empty, loop_open, while_read, while_fail, for_read, for_fail, for_no_in, for_range_fail, block_read, block_fail, block_open, block_at, declaring_read, declaring_fail, no_else, an_else, branches_rules}
+use Rattle.ada_parser.proofs.StatementCode.{handled_read, handled_fail, handlers_fail, statement_turns, statements_step, statements_step_fail, statements_rules}
+use Rattle.ada_parser.proofs.SimpleStatementCode.{compound_is_read, simple_is_read}
+use Rattle.ada_parser.proofs.ArmCode.{alternative_turns, alternatives_step, alternatives_step_fail, alternatives_end, handler_turns, handler_list_step, handler_list_step_fail, handler_list_end, alternative_read, alternative_fail, alternative_empty, handler_read, handler_fail, handler_empty, some_handlers, closed_handlers, alternatives_rules, handler_list_rules}
+use Rattle.ada_parser.proofs.CompoundCode.{branch_turns, branches_step, branches_step_fail, branches_end, branch_read, branch_fail, branch_empty, if_rest_read, if_others_fail, if_else_fail, if_open, if_then, if_fail, arms_read, arms_fail, arms_open, case_then, case_fail, loop_read, loop_none, loop_empty, loop_open, while_read, while_fail, for_read, for_fail, for_no_in, for_range_fail, block_read, block_fail, block_open, block_at, declaring_read, declaring_fail, no_else, an_else, branches_rules}
+use Rattle.ada_parser.proofs.FrontCode.{closed_on}
 use Rattle.ada_parser.proofs.Parts.{part_fails, name_fails, closing_fails, end_fails, shown_so}
 use Rattle.ada_parser.proofs.BeginningCode.{begins_if, begins_case, begins_loop, begins_while, begins_for, begins_block, begins_declaring}
 use Rattle.ada_parser.specs.StatementDepth as at
@@ -109,29 +114,6 @@ compound::if_rest-returns-clause-reads t c = λ p b. if_rest_read c.args.parser.
 pub compound::if_rest-returns-clause-shorter : goal.compound::if_rest-returns-clause-shorter
 compound::if_rest-returns-clause-shorter t c = omega (arith, c.in_ok-others.ensures.no_longer, c.in_ok-otherwise.ensures.no_longer, c.in_ok-rest.ensures.shorter)
 
-pub compound::if_statement-returns-in_err-first-clause-reads : goal.compound::if_statement-returns-in_err-first-clause-reads
-compound::if_statement-returns-in_err-first-clause-reads t c =
-    let p = err_from_is_err_and c.from_residual.result c.from_residual.ensures.1 in
-    rw (p.1, p.2) (part_fails (Reads (at.at_branch c.args.parser.extent) c.args.tokens.now) (Reads (at.at_if c.args.parser.extent c.args.pos) c.args.tokens.now) c.in_err-first.field-0.0 c.in_err-first.ensures.reads (λ rest h. if_fail c.args.parser.extent c.args.pos c.args.tokens.now rest h))
-
-pub compound::if_statement-returns-in_err-first-clause-shorter : goal.compound::if_statement-returns-in_err-first-clause-shorter
-compound::if_statement-returns-in_err-first-clause-shorter t c = rw ((err_from_is_err_and c.from_residual.result c.from_residual.ensures.1).1) tt
-
-pub compound::if_statement-returns-in_err-others-clause-reads : goal.compound::if_statement-returns-in_err-others-clause-reads
-compound::if_statement-returns-in_err-others-clause-reads t c =
-    let p = err_from_is_err_and c.from_residual-in_err-others.result c.from_residual-in_err-others.ensures.1 in
-    rw (p.1, p.2) (part_fails (Reads (at_if_rest c.args.parser.extent c.args.pos (branch_parts c.in_ok-first.first)) c.in_ok-first.rest.now) (Reads (at.at_if c.args.parser.extent c.args.pos) c.args.tokens.now) c.in_err-others.field-0.0 (c.in_err-others.ensures.reads c.args.pos (branch_parts c.in_ok-first.first)) (λ rest h. if_then c.args.parser.extent c.args.pos c.args.tokens.now c.in_ok-first.rest.now c.in_ok-first.first (Stuck rest) c.in_ok-first.ensures.reads c.in_ok-first.ensures.shorter h))
-
-pub compound::if_statement-returns-in_err-others-clause-shorter : goal.compound::if_statement-returns-in_err-others-clause-shorter
-compound::if_statement-returns-in_err-others-clause-shorter t c = rw ((err_from_is_err_and c.from_residual-in_err-others.result c.from_residual-in_err-others.ensures.1).1) tt
-
-pub compound::if_statement-returns-clause-reads : goal.compound::if_statement-returns-clause-reads
-compound::if_statement-returns-clause-reads t c =
-    if_then c.args.parser.extent c.args.pos c.args.tokens.now c.in_ok-first.rest.now c.in_ok-first.first (Got (conditional c.args.pos c.in_ok-first.first.condition (statements_of c.in_ok-first.first.statements.items) (branches_of c.in_ok-others.others.items) (statements_of c.in_ok-others.otherwise.items)) c.in_ok-others.rest.now) c.in_ok-first.ensures.reads c.in_ok-first.ensures.shorter (c.in_ok-others.ensures.reads c.args.pos (branch_parts c.in_ok-first.first))
-
-pub compound::if_statement-returns-clause-shorter : goal.compound::if_statement-returns-clause-shorter
-compound::if_statement-returns-clause-shorter t c = omega (arith, c.in_ok-first.ensures.shorter, c.in_ok-others.ensures.shorter)
-
 pub compound::loop_body-returns-in_err-rest-clause-reads : goal.compound::loop_body-returns-in_err-rest-clause-reads
 compound::loop_body-returns-in_err-rest-clause-reads t c =
     let p = err_from_is_err_and c.from_residual.result c.from_residual.ensures.1 in
@@ -184,64 +166,152 @@ compound::case_arms-returns-clause-reads t c = λ p e. arms_read c.args.parser.e
 pub compound::case_arms-returns-clause-shorter : goal.compound::case_arms-returns-clause-shorter
 compound::case_arms-returns-clause-shorter t c = omega (arith, c.in_ok-alternatives.ensures.shorter, c.in_ok-rest.ensures.shorter)
 
-pub compound::case_statement-returns-in_err-selector-clause-reads : goal.compound::case_statement-returns-in_err-selector-clause-reads
-compound::case_statement-returns-in_err-selector-clause-reads t c =
+pub compound::branch-returns-in_err-expr-clause-reads : goal.compound::branch-returns-in_err-expr-clause-reads
+compound::branch-returns-in_err-expr-clause-reads t c =
+    let x = c.args.parser.extent in
+    let ts = c.args.tokens.now in
     let p = err_from_is_err_and c.from_residual.result c.from_residual.ensures.1 in
-    rw (p.1, p.2) (part_fails (Reads (before symbol.Is (at_expr c.args.parser.extent)) c.args.tokens.now) (Reads (at.at_case c.args.parser.extent c.args.pos) c.args.tokens.now) c.in_err-selector.field-0.0 c.in_err-selector.ensures.reads (λ rest h. case_fail c.args.parser.extent c.args.pos c.args.tokens.now rest h))
+    rw (p.1, p.2) (part_fails (Reads (before symbol.Then (at_expr x)) ts) (Reads (at.at_branch x) ts) c.in_err-expr.field-0.0 c.in_err-expr.ensures.reads (λ rest h. branch_fail x ts rest h))
 
-pub compound::case_statement-returns-in_err-selector-clause-shorter : goal.compound::case_statement-returns-in_err-selector-clause-shorter
-compound::case_statement-returns-in_err-selector-clause-shorter t c = rw ((err_from_is_err_and c.from_residual.result c.from_residual.ensures.1).1) tt
-
-pub compound::case_statement-returns-in_err-alternatives-clause-reads : goal.compound::case_statement-returns-in_err-alternatives-clause-reads
-compound::case_statement-returns-in_err-alternatives-clause-reads t c =
-    let p = err_from_is_err_and c.from_residual-in_err-alternatives.result c.from_residual-in_err-alternatives.ensures.1 in
-    rw (p.1, p.2) (part_fails (Reads (at_case_arms c.args.parser.extent c.args.pos c.in_ok-selector.selector) c.in_ok-selector.rest.now) (Reads (at.at_case c.args.parser.extent c.args.pos) c.args.tokens.now) c.in_err-alternatives.field-0.0 (c.in_err-alternatives.ensures.reads c.args.pos c.in_ok-selector.selector) (λ rest h. case_then c.args.parser.extent c.args.pos c.args.tokens.now c.in_ok-selector.rest.now c.in_ok-selector.selector (Stuck rest) c.in_ok-selector.ensures.reads c.in_ok-selector.ensures.shorter h))
-
-pub compound::case_statement-returns-in_err-alternatives-clause-shorter : goal.compound::case_statement-returns-in_err-alternatives-clause-shorter
-compound::case_statement-returns-in_err-alternatives-clause-shorter t c = rw ((err_from_is_err_and c.from_residual-in_err-alternatives.result c.from_residual-in_err-alternatives.ensures.1).1) tt
-
-pub compound::case_statement-returns-clause-reads : goal.compound::case_statement-returns-clause-reads
-compound::case_statement-returns-clause-reads t c =
-    case_then c.args.parser.extent c.args.pos c.args.tokens.now c.in_ok-selector.rest.now c.in_ok-selector.selector (Got (case_of c.args.pos c.in_ok-selector.selector (alternatives_of c.in_ok-alternatives.alternatives.items)) c.in_ok-alternatives.rest.now) c.in_ok-selector.ensures.reads c.in_ok-selector.ensures.shorter (c.in_ok-alternatives.ensures.reads c.args.pos c.in_ok-selector.selector)
-
-pub compound::case_statement-returns-clause-shorter : goal.compound::case_statement-returns-clause-shorter
-compound::case_statement-returns-clause-shorter t c = omega (arith, c.in_ok-selector.ensures.shorter, c.in_ok-alternatives.ensures.shorter)
+pub compound::branch-returns-in_err-expr-clause-shorter : goal.compound::branch-returns-in_err-expr-clause-shorter
+compound::branch-returns-in_err-expr-clause-shorter t c = rw ((err_from_is_err_and c.from_residual.result c.from_residual.ensures.1).1) tt
 
 pub compound::branch-returns-in_err-condition-clause-reads : goal.compound::branch-returns-in_err-condition-clause-reads
 compound::branch-returns-in_err-condition-clause-reads t c =
-    let p = err_from_is_err_and c.from_residual.result c.from_residual.ensures.1 in
-    rw (p.1, p.2) (part_fails (Reads (before symbol.Then (at_expr c.args.parser.extent)) c.args.tokens.now) (Reads (at.at_branch c.args.parser.extent) c.args.tokens.now) c.in_err-condition.field-0.0 c.in_err-condition.ensures.reads (λ rest h. branch_fail c.args.parser.extent c.args.tokens.now rest h))
+    let x = c.args.parser.extent in
+    let ts = c.args.tokens.now in
+    let e = c.in_ok-expr in
+    let p = err_from_is_err_and c.from_residual-in_err-condition.result c.from_residual-in_err-condition.ensures.1 in
+    rw (p.1, p.2) (pair_fault (λ r. ShowsAs (λ v. v.items) (Reads (at.at_statements x) e.rest.now) r) e.expr (Reads (at.at_branch x) ts)
+    (λ f k. part_fails (Reads (at.at_statements x) e.rest.now) (Reads (at.at_branch x) ts) f k (λ rest h. branch_empty x ts e.rest.now rest e.expr e.ensures.reads e.ensures.shorter h))
+    c.nested.result c.in_err-condition.field-0.0 c.nested.ensures.reads c.in_err-condition.ensures)
 
 pub compound::branch-returns-in_err-condition-clause-shorter : goal.compound::branch-returns-in_err-condition-clause-shorter
-compound::branch-returns-in_err-condition-clause-shorter t c = rw ((err_from_is_err_and c.from_residual.result c.from_residual.ensures.1).1) tt
-
-pub compound::branch-returns-in_err-statements-clause-reads : goal.compound::branch-returns-in_err-statements-clause-reads
-compound::branch-returns-in_err-statements-clause-reads t c =
-    let p = err_from_is_err_and c.from_residual-in_err-statements.result c.from_residual-in_err-statements.ensures.1 in
-    rw (p.1, p.2) (part_fails (Reads (at.at_statements c.args.parser.extent) c.in_ok-condition.rest.now) (Reads (at.at_branch c.args.parser.extent) c.args.tokens.now) c.in_err-statements.field-0.0 c.in_err-statements.ensures.reads (λ rest h. branch_empty c.args.parser.extent c.args.tokens.now c.in_ok-condition.rest.now rest c.in_ok-condition.condition c.in_ok-condition.ensures.reads c.in_ok-condition.ensures.shorter h))
-
-pub compound::branch-returns-in_err-statements-clause-shorter : goal.compound::branch-returns-in_err-statements-clause-shorter
-compound::branch-returns-in_err-statements-clause-shorter t c = rw ((err_from_is_err_and c.from_residual-in_err-statements.result c.from_residual-in_err-statements.ensures.1).1) tt
+compound::branch-returns-in_err-condition-clause-shorter t c = rw ((err_from_is_err_and c.from_residual-in_err-condition.result c.from_residual-in_err-condition.ensures.1).1) tt
 
 pub compound::branch-returns-clause-reads : goal.compound::branch-returns-clause-reads
-compound::branch-returns-clause-reads t c = branch_read c.args.parser.extent c.args.tokens.now c.in_ok-condition.rest.now c.in_ok-statements.rest.now c.in_ok-condition.condition c.in_ok-statements.statements.items c.in_ok-condition.ensures.reads c.in_ok-condition.ensures.shorter c.in_ok-statements.ensures.reads
+compound::branch-returns-clause-reads t c =
+    let x = c.args.parser.extent in
+    let ts = c.args.tokens.now in
+    let e = c.in_ok-expr in
+    let k = c.in_ok-condition in
+    pair_done (λ r. ShowsAs (λ v. v.items) (Reads (at.at_statements x) e.rest.now) r) e.expr (λ z v vs. Reads (at.at_branch x) ts (Got (z, v.items) vs))
+    (λ v vs h. branch_read x ts e.rest.now vs.now e.expr v.items e.ensures.reads e.ensures.shorter h) c.nested.result k.condition k.statements k.rest c.nested.ensures.reads k.ensures
 
 pub compound::branch-returns-clause-shorter : goal.compound::branch-returns-clause-shorter
-compound::branch-returns-clause-shorter t c = omega (arith, c.in_ok-condition.ensures.shorter, c.in_ok-statements.ensures.shorter)
+compound::branch-returns-clause-shorter t c =
+    let e = c.in_ok-expr in
+    let k = c.in_ok-condition in
+    pair_below (length e.rest.now) (length c.args.tokens.now) (omega (arith, e.ensures.shorter)) e.expr c.nested.result (read_so (k.condition, k.statements) k.rest) c.nested.ensures.shorter k.ensures
 
-pub compound::loop_rest-returns-in_err-statements-clause-reads : goal.compound::loop_rest-returns-in_err-statements-clause-reads
-compound::loop_rest-returns-in_err-statements-clause-reads t c =
+pub compound::if_statement-returns-in_err-start-clause-reads : goal.compound::if_statement-returns-in_err-start-clause-reads
+compound::if_statement-returns-in_err-start-clause-reads t c =
+    let x = c.args.parser.extent in
+    let ts = c.args.tokens.now in
     let p = err_from_is_err_and c.from_residual.result c.from_residual.ensures.1 in
-    rw (p.1, p.2) (c.in_err-statements.ensures.reads c.args.pos c.args.scheme)
+    rw (p.1, p.2) (part_fails (Reads (at.at_branch x) ts) (Reads (at.at_if x c.args.pos) ts) c.in_err-start.field-0.0 c.in_err-start.ensures.reads (λ rest h. if_fail x c.args.pos ts rest h))
 
-pub compound::loop_rest-returns-in_err-statements-clause-shorter : goal.compound::loop_rest-returns-in_err-statements-clause-shorter
-compound::loop_rest-returns-in_err-statements-clause-shorter t c = rw ((err_from_is_err_and c.from_residual.result c.from_residual.ensures.1).1) tt
+pub compound::if_statement-returns-in_err-start-clause-shorter : goal.compound::if_statement-returns-in_err-start-clause-shorter
+compound::if_statement-returns-in_err-start-clause-shorter t c = rw ((err_from_is_err_and c.from_residual.result c.from_residual.ensures.1).1) tt
+
+pub compound::if_statement-returns-in_err-first-clause-reads : goal.compound::if_statement-returns-in_err-first-clause-reads
+compound::if_statement-returns-in_err-first-clause-reads t c =
+    let x = c.args.parser.extent in
+    let ts = c.args.tokens.now in
+    let pos = c.args.pos in
+    let b = c.in_ok-start in
+    let p = err_from_is_err_and c.from_residual-in_err-first.result c.from_residual-in_err-first.ensures.1 in
+    rw (p.1, p.2) (pair_fault (λ r. ReadsIfRest (λ v. (branches_of v.0.items, v.1.items)) x b.rest.now r) b.start (Reads (at.at_if x pos) ts)
+    (λ f k. part_fails (Reads (at_if_rest x pos (branch_parts b.start)) b.rest.now) (Reads (at.at_if x pos) ts) f (k pos (branch_parts b.start)) (λ rest h. if_then x pos ts b.rest.now b.start (Stuck rest) b.ensures.reads b.ensures.shorter h))
+    c.if_rest.result c.in_err-first.field-0.0 c.if_rest.ensures.reads c.in_err-first.ensures)
+
+pub compound::if_statement-returns-in_err-first-clause-shorter : goal.compound::if_statement-returns-in_err-first-clause-shorter
+compound::if_statement-returns-in_err-first-clause-shorter t c = rw ((err_from_is_err_and c.from_residual-in_err-first.result c.from_residual-in_err-first.ensures.1).1) tt
+
+pub compound::if_statement-returns-clause-reads : goal.compound::if_statement-returns-clause-reads
+compound::if_statement-returns-clause-reads t c =
+    let x = c.args.parser.extent in
+    let ts = c.args.tokens.now in
+    let pos = c.args.pos in
+    let b = c.in_ok-start in
+    let k = c.in_ok-first in
+    pair_done (λ r. ReadsIfRest (λ v. (branches_of v.0.items, v.1.items)) x b.rest.now r) b.start
+    (λ z v vs. Reads (at.at_if x pos) ts (Got (conditional pos z.condition (statements_of z.statements.items) (branches_of v.0.items) (statements_of v.1.items)) vs))
+    (λ v vs h. if_then x pos ts b.rest.now b.start (Got (conditional pos b.start.condition (statements_of b.start.statements.items) (branches_of v.0.items) (statements_of v.1.items)) vs.now) b.ensures.reads b.ensures.shorter (h pos (branch_parts b.start)))
+    c.if_rest.result k.first (k.others, k.otherwise) k.rest c.if_rest.ensures.reads k.ensures
+
+pub compound::if_statement-returns-clause-shorter : goal.compound::if_statement-returns-clause-shorter
+compound::if_statement-returns-clause-shorter t c =
+    let b = c.in_ok-start in
+    let k = c.in_ok-first in
+    pair_below (length b.rest.now) (length c.args.tokens.now) (omega (arith, b.ensures.shorter)) b.start c.if_rest.result (read_so (k.first, (k.others, k.otherwise)) k.rest) c.if_rest.ensures.shorter k.ensures
+
+pub compound::case_statement-returns-in_err-expr-clause-reads : goal.compound::case_statement-returns-in_err-expr-clause-reads
+compound::case_statement-returns-in_err-expr-clause-reads t c =
+    let x = c.args.parser.extent in
+    let ts = c.args.tokens.now in
+    let p = err_from_is_err_and c.from_residual.result c.from_residual.ensures.1 in
+    rw (p.1, p.2) (part_fails (Reads (before symbol.Is (at_expr x)) ts) (Reads (at.at_case x c.args.pos) ts) c.in_err-expr.field-0.0 c.in_err-expr.ensures.reads (λ rest h. case_fail x c.args.pos ts rest h))
+
+pub compound::case_statement-returns-in_err-expr-clause-shorter : goal.compound::case_statement-returns-in_err-expr-clause-shorter
+compound::case_statement-returns-in_err-expr-clause-shorter t c = rw ((err_from_is_err_and c.from_residual.result c.from_residual.ensures.1).1) tt
+
+pub compound::case_statement-returns-in_err-selector-clause-reads : goal.compound::case_statement-returns-in_err-selector-clause-reads
+compound::case_statement-returns-in_err-selector-clause-reads t c =
+    let x = c.args.parser.extent in
+    let ts = c.args.tokens.now in
+    let pos = c.args.pos in
+    let e = c.in_ok-expr in
+    let p = err_from_is_err_and c.from_residual-in_err-selector.result c.from_residual-in_err-selector.ensures.1 in
+    rw (p.1, p.2) (pair_fault (λ r. ReadsCaseArms (λ v. alternatives_of v.items) x e.rest.now r) e.expr (Reads (at.at_case x pos) ts)
+    (λ f k. part_fails (Reads (at_case_arms x pos e.expr) e.rest.now) (Reads (at.at_case x pos) ts) f (k pos e.expr) (λ rest h. case_then x pos ts e.rest.now e.expr (Stuck rest) e.ensures.reads e.ensures.shorter h))
+    c.case_arms.result c.in_err-selector.field-0.0 c.case_arms.ensures.reads c.in_err-selector.ensures)
+
+pub compound::case_statement-returns-in_err-selector-clause-shorter : goal.compound::case_statement-returns-in_err-selector-clause-shorter
+compound::case_statement-returns-in_err-selector-clause-shorter t c = rw ((err_from_is_err_and c.from_residual-in_err-selector.result c.from_residual-in_err-selector.ensures.1).1) tt
+
+pub compound::case_statement-returns-clause-reads : goal.compound::case_statement-returns-clause-reads
+compound::case_statement-returns-clause-reads t c =
+    let x = c.args.parser.extent in
+    let ts = c.args.tokens.now in
+    let pos = c.args.pos in
+    let e = c.in_ok-expr in
+    let k = c.in_ok-selector in
+    pair_done (λ r. ReadsCaseArms (λ v. alternatives_of v.items) x e.rest.now r) e.expr (λ z v vs. Reads (at.at_case x pos) ts (Got (case_of pos z (alternatives_of v.items)) vs))
+    (λ v vs h. case_then x pos ts e.rest.now e.expr (Got (case_of pos e.expr (alternatives_of v.items)) vs.now) e.ensures.reads e.ensures.shorter (h pos e.expr)) c.case_arms.result k.selector k.alternatives k.rest c.case_arms.ensures.reads k.ensures
+
+pub compound::case_statement-returns-clause-shorter : goal.compound::case_statement-returns-clause-shorter
+compound::case_statement-returns-clause-shorter t c =
+    let e = c.in_ok-expr in
+    let k = c.in_ok-selector in
+    pair_below (length e.rest.now) (length c.args.tokens.now) (omega (arith, e.ensures.shorter)) e.expr c.case_arms.result (read_so (k.selector, k.alternatives) k.rest) c.case_arms.ensures.shorter k.ensures
+
+pub compound::loop_rest-returns-in_err-scheme-clause-reads : goal.compound::loop_rest-returns-in_err-scheme-clause-reads
+compound::loop_rest-returns-in_err-scheme-clause-reads t c =
+    let x = c.args.parser.extent in
+    let ts = c.args.tokens.now in
+    let pos = c.args.pos in
+    let s = c.args.scheme in
+    let p = err_from_is_err_and c.from_residual.result c.from_residual.ensures.1 in
+    rw (p.1, p.2) (pair_fault (λ r. ReadsLoopBody (λ v. v.items) x ts r) s (Reads (at.at_loop x pos s) ts) (λ f k. k pos s) c.loop_body.result c.in_err-scheme.field-0.0 c.loop_body.ensures.reads c.in_err-scheme.ensures)
+
+pub compound::loop_rest-returns-in_err-scheme-clause-shorter : goal.compound::loop_rest-returns-in_err-scheme-clause-shorter
+compound::loop_rest-returns-in_err-scheme-clause-shorter t c = rw ((err_from_is_err_and c.from_residual.result c.from_residual.ensures.1).1) tt
 
 pub compound::loop_rest-returns-clause-reads : goal.compound::loop_rest-returns-clause-reads
-compound::loop_rest-returns-clause-reads t c = c.in_ok-statements.ensures.reads c.args.pos c.args.scheme
+compound::loop_rest-returns-clause-reads t c =
+    let x = c.args.parser.extent in
+    let ts = c.args.tokens.now in
+    let pos = c.args.pos in
+    let s = c.args.scheme in
+    let k = c.in_ok-scheme in
+    pair_done (λ r. ReadsLoopBody (λ v. v.items) x ts r) s (λ z v vs. Reads (at.at_loop x pos s) ts (Got (repeat pos z (statements_of v.items)) vs)) (λ v vs h. h pos s) c.loop_body.result k.scheme k.statements k.rest c.loop_body.ensures.reads k.ensures
 
 pub compound::loop_rest-returns-clause-shorter : goal.compound::loop_rest-returns-clause-shorter
-compound::loop_rest-returns-clause-shorter t c = c.in_ok-statements.ensures.shorter
+compound::loop_rest-returns-clause-shorter t c =
+    let n = length c.args.tokens.now in
+    let k = c.in_ok-scheme in
+    pair_below n n (omega arith) c.args.scheme c.loop_body.result (read_so (k.scheme, k.statements) k.rest) c.loop_body.ensures.shorter k.ensures
 
 pub compound::while_loop-returns-in_err-condition-clause-reads : goal.compound::while_loop-returns-in_err-condition-clause-reads
 compound::while_loop-returns-in_err-condition-clause-reads t c =
@@ -407,7 +477,13 @@ pub arms::alternatives-loop-after-init : goal.arms::alternatives-loop-after-init
 arms::alternatives-loop-after-init t c = grind (arith, alternatives_rules)
 
 pub arms::alternatives-returns-in_err-alternative-clause-reads : goal.arms::alternatives-returns-in_err-alternative-clause-reads
-arms::alternatives-returns-in_err-alternative-clause-reads t c = grind (arith, alternatives_rules)
+arms::alternatives-returns-in_err-alternative-clause-reads t c =
+    let x = c.args.parser.extent in
+    let ts = c.args.tokens.now in
+    let us = c.in-Some.after.now in
+    let p = err_from_is_err_and c.from_residual-in_err-alternative.result c.from_residual-in_err-alternative.ensures.1 in
+    rw (p.1, p.2) (part_fails (Reads (at.at_alternative x) us) (Reads (at.at_alternatives x) ts) c.in_err-alternative.field-0.0 c.in_err-alternative.ensures.reads
+    (λ rest h. c.loop-after.invariant.reads (Stuck rest) (alternatives_step_fail x c.loop-after.rest.now us rest c.loop-after.alternatives.items (sym c.in-Some.ensures) h)))
 
 pub arms::alternatives-returns-in_err-first-clause-reads : goal.arms::alternatives-returns-in_err-first-clause-reads
 arms::alternatives-returns-in_err-first-clause-reads t c = grind (arith, alternatives_rules)
@@ -419,43 +495,67 @@ pub arms::handler_list-returns-in_err-first-clause-reads : goal.arms::handler_li
 arms::handler_list-returns-in_err-first-clause-reads t c = grind (arith, handler_list_rules)
 
 pub arms::handler_list-returns-in_err-handler-clause-reads : goal.arms::handler_list-returns-in_err-handler-clause-reads
-arms::handler_list-returns-in_err-handler-clause-reads t c = grind (arith, handler_list_rules)
+arms::handler_list-returns-in_err-handler-clause-reads t c =
+    let x = c.args.parser.extent in
+    let ts = c.args.tokens.now in
+    let us = c.in-Some.after.now in
+    let p = err_from_is_err_and c.from_residual-in_err-handler.result c.from_residual-in_err-handler.ensures.1 in
+    rw (p.1, p.2) (part_fails (Reads (at.at_handler x) us) (Reads (at.at_handler_list x) ts) c.in_err-handler.field-0.0 c.in_err-handler.ensures.reads
+    (λ rest h. c.loop-after.invariant.reads (Stuck rest) (handler_list_step_fail x c.loop-after.rest.now us rest c.loop-after.handlers.items (sym c.in-Some.ensures) h)))
 
 pub arms::handlers-returns-clause-reads : goal.arms::handlers-returns-clause-reads
-arms::handlers-returns-clause-reads t c = grind (arith, handlers_rules)
+arms::handlers-returns-clause-reads t c =
+    let x = c.args.parser.extent in
+    let ts = c.args.tokens.now in
+    let us = c.in-Some.after.now in
+    shown_so (λ v. handlers_of v.items) (Reads (at.at_handler_list x) us) (Reads (at.at_handlers x) ts) c.handler_list.result c.handler_list.ensures.reads (λ q. some_handlers x ts us q (sym c.in-Some.ensures) c.in_ok-needs.ensures)
 
 pub compound::branches-loop-after-init : goal.compound::branches-loop-after-init
 compound::branches-loop-after-init t c = grind (arith, branches_rules)
 
 pub compound::branches-returns-in_err-branch-clause-reads : goal.compound::branches-returns-in_err-branch-clause-reads
-compound::branches-returns-in_err-branch-clause-reads t c = grind (arith, branches_rules)
+compound::branches-returns-in_err-branch-clause-reads t c =
+    let x = c.args.parser.extent in
+    let ts = c.args.tokens.now in
+    let us = c.in-Some.after.now in
+    let p = err_from_is_err_and c.from_residual.result c.from_residual.ensures.1 in
+    rw (p.1, p.2) (part_fails (Reads (at.at_branch x) us) (Reads (at.at_branches x) ts) c.in_err-branch.field-0.0 c.in_err-branch.ensures.reads
+    (λ rest h. c.loop-after.invariant.reads (Stuck rest) (branches_step_fail x c.loop-after.rest.now us rest c.loop-after.branches.items (sym c.in-Some.ensures) h)))
 
-pub statements::statement-returns-in-Identifier-clause-reads : goal.statements::statement-returns-in-Identifier-clause-reads
-statements::statement-returns-in-Identifier-clause-reads t c = grind (arith, statement_rules)
+pub statements::statement-returns-then-begins_compound-clause-reads : goal.statements::statement-returns-then-begins_compound-clause-reads
+statements::statement-returns-then-begins_compound-clause-reads t c =
+    let x = c.args.parser.extent in
+    let ts = c.args.tokens.now in
+    let b : next_is begins_compound ts ≡ true = search rules in
+    shown_so (λ z. z) (Reads (at.at_compound x) ts) (Reads (at.at_statement x) ts) c.compound.result c.compound.ensures.reads (λ q. compound_is_read x ts q b)
 
-pub statements::statement-returns-in-Null-clause-reads : goal.statements::statement-returns-in-Null-clause-reads
-statements::statement-returns-in-Null-clause-reads t c = grind (arith, statement_rules)
+pub statements::statement-returns-then-begins_compound-clause-shorter : goal.statements::statement-returns-then-begins_compound-clause-shorter
+statements::statement-returns-then-begins_compound-clause-shorter t c = c.compound.ensures.shorter
 
-pub statements::statement-returns-in-Pragma-clause-reads : goal.statements::statement-returns-in-Pragma-clause-reads
-statements::statement-returns-in-Pragma-clause-reads t c = grind (arith, statement_rules)
+pub statements::statement-returns-clause-reads : goal.statements::statement-returns-clause-reads
+statements::statement-returns-clause-reads t c =
+    let x = c.args.parser.extent in
+    let ts = c.args.tokens.now in
+    let b : next_is begins_compound ts ≡ false = search rules in
+    shown_so (λ z. z) (Reads (at_simple x) ts) (Reads (at.at_statement x) ts) c.simple.result c.simple.ensures.reads (λ q. simple_is_read x ts q b)
 
-pub statements::statement-returns-in-Return-clause-reads : goal.statements::statement-returns-in-Return-clause-reads
-statements::statement-returns-in-Return-clause-reads t c = grind (arith, statement_rules)
-
-pub statements::statement-returns-in_default-symbol_in : goal.statements::statement-returns-in_default-symbol_in
-statements::statement-returns-in_default-symbol_in t c = grind (arith, statement_rules)
-
-pub statements::statement-returns-in_ok-needs-in-Exit-clause-reads : goal.statements::statement-returns-in_ok-needs-in-Exit-clause-reads
-statements::statement-returns-in_ok-needs-in-Exit-clause-reads t c = grind (arith, statement_rules)
-
-pub statements::statement-returns-in_ok-needs-in-Raise-clause-reads : goal.statements::statement-returns-in_ok-needs-in-Raise-clause-reads
-statements::statement-returns-in_ok-needs-in-Raise-clause-reads t c = grind (arith, statement_rules)
+pub statements::statement-returns-clause-shorter : goal.statements::statement-returns-clause-shorter
+statements::statement-returns-clause-shorter t c = c.simple.ensures.shorter
 
 pub statements::statements-rest-init : goal.statements::statements-rest-init
 statements::statements-rest-init t c = grind (arith, statements_rules)
 
 pub statements::statements-rest-preserved : goal.statements::statements-rest-preserved
-statements::statements-rest-preserved t c = grind (arith, statements_rules)
+statements::statements-rest-preserved t c =
+    let x = c.args.parser.extent in
+    let b : next_is read.begins_statement c.rest.rest.now ≡ true = search rules in
+    record {
+      reads = λ q f.
+          c.rest.invariant.reads q
+          (statements_step x c.rest.rest.now c.in_ok-statement.next.now c.rest.statements.items c.in_ok-statement.statement b c.in_ok-statement.ensures.reads c.in_ok-statement.ensures.shorter q
+          (subst (λ (z : List Statement). More (statement_turns x) c.in_ok-statement.next.now z q) c.in_ok-push-2.ensures.items f));
+      shorter = omega (arith, c.rest.invariant.shorter, c.in_ok-statement.ensures.shorter);
+    }
 
 pub statements::statements-returns-clause-reads : goal.statements::statements-returns-clause-reads
 statements::statements-returns-clause-reads t c = grind (arith, statements_rules)
@@ -464,7 +564,13 @@ pub statements::statements-returns-in_err-first-clause-reads : goal.statements::
 statements::statements-returns-in_err-first-clause-reads t c = grind (arith, statements_rules)
 
 pub statements::statements-returns-in_err-statement-clause-reads : goal.statements::statements-returns-in_err-statement-clause-reads
-statements::statements-returns-in_err-statement-clause-reads t c = grind (arith, statements_rules)
+statements::statements-returns-in_err-statement-clause-reads t c =
+    let x = c.args.parser.extent in
+    let ts = c.args.tokens.now in
+    let b : next_is read.begins_statement c.rest.rest.now ≡ true = search rules in
+    let p = err_from_is_err_and c.from_residual-in_err-statement.result c.from_residual-in_err-statement.ensures.1 in
+    rw (p.1, p.2) (part_fails (Reads (at.at_statement x) c.rest.rest.now) (Reads (at.at_statements x) ts) c.in_err-statement.field-0.0 c.in_err-statement.ensures.reads
+    (λ rest h. c.rest.invariant.reads (Stuck rest) (statements_step_fail x c.rest.rest.now rest c.rest.statements.items b h)))
 
 pub compound::compound-returns-in-If-clause-reads : goal.compound::compound-returns-in-If-clause-reads
 compound::compound-returns-in-If-clause-reads t c =
@@ -528,3 +634,59 @@ compound::compound-returns-in-Declare-clause-reads t c =
     let rest = c.in_ok-word.rest.now in
     let begins : Begins x ts symbol.Declare pos rest = subst (λ s. Begins x ts s pos rest) c.in-Declare.is c.in_ok-word.ensures in
     shown_so (λ z. z) (Reads (at.at_declaring x pos) rest) (Reads (at.at_compound x) ts) c.declaring_block.result c.declaring_block.ensures.reads (λ q. begins_declaring x ts rest pos q begins)
+
+pub arms::alternatives-loop-after-smaller : goal.arms::alternatives-loop-after-smaller
+arms::alternatives-loop-after-smaller t c = omega (arith, c.in_ok-alternative.ensures.shorter, ap length (after_some symbol.When c.loop-after.rest.now c.in-Some.after.now (sym c.in-Some.ensures)).here)
+
+pub arms::handler_list-loop-after-smaller : goal.arms::handler_list-loop-after-smaller
+arms::handler_list-loop-after-smaller t c = omega (arith, c.in_ok-handler.ensures.shorter, ap length (after_some symbol.When c.loop-after.rest.now c.in-Some.after.now (sym c.in-Some.ensures)).here)
+
+pub compound::branches-loop-after-smaller : goal.compound::branches-loop-after-smaller
+compound::branches-loop-after-smaller t c = omega (arith, c.in_ok-branch.ensures.shorter, ap length (after_some symbol.Elsif c.loop-after.rest.now c.in-Some.after.now (sym c.in-Some.ensures)).here)
+
+pub statements::statements-rest-smaller : goal.statements::statements-rest-smaller
+statements::statements-rest-smaller t c = omega (arith, c.in_ok-statement.ensures.shorter)
+
+pub arms::handlers-returns-in_err-needs-clause-reads : goal.arms::handlers-returns-in_err-needs-clause-reads
+arms::handlers-returns-in_err-needs-clause-reads t c =
+    let x = c.args.parser.extent in
+    let ts = c.args.tokens.now in
+    let p = err_from_is_err_and c.from_residual.result c.from_residual.ensures.1 in
+    rw (p.1, p.2) (closed_on (Reads (at.at_handlers x) ts) x Exceptions ts c.in_err-needs.field-0.0 c.in_err-needs.ensures (λ o. closed_handlers x ts c.in-Some.after.now (sym c.in-Some.ensures) o))
+
+pub arms::handlers-returns-clause-no_longer : goal.arms::handlers-returns-clause-no_longer
+arms::handlers-returns-clause-no_longer t c =
+    let ts = c.args.tokens.now in
+    let us = c.in-Some.after.now in
+    let l = ap length (after_some symbol.Exception ts us (sym c.in-Some.ensures)).here in
+    within_below ts c.handler_list.result (below_behind ts us c.handler_list.result (omega (arith, l)) c.handler_list.ensures.shorter)
+
+pub compound::compound-returns-in-If-clause-shorter : goal.compound::compound-returns-in-If-clause-shorter
+compound::compound-returns-in-If-clause-shorter t c = below_behind c.args.tokens.now c.in_ok-word.rest.now c.if_statement.result (omega (arith, ap length c.in_ok-word.ensures.front)) c.if_statement.ensures.shorter
+
+pub compound::compound-returns-in-Case-clause-shorter : goal.compound::compound-returns-in-Case-clause-shorter
+compound::compound-returns-in-Case-clause-shorter t c = below_behind c.args.tokens.now c.in_ok-word.rest.now c.case_statement.result (omega (arith, ap length c.in_ok-word.ensures.front)) c.case_statement.ensures.shorter
+
+pub compound::compound-returns-in-While-clause-shorter : goal.compound::compound-returns-in-While-clause-shorter
+compound::compound-returns-in-While-clause-shorter t c = below_behind c.args.tokens.now c.in_ok-word.rest.now c.while_loop.result (omega (arith, ap length c.in_ok-word.ensures.front)) c.while_loop.ensures.shorter
+
+pub compound::compound-returns-in-For-clause-shorter : goal.compound::compound-returns-in-For-clause-shorter
+compound::compound-returns-in-For-clause-shorter t c = below_behind c.args.tokens.now c.in_ok-word.rest.now c.for_loop.result (omega (arith, ap length c.in_ok-word.ensures.front)) c.for_loop.ensures.shorter
+
+pub compound::compound-returns-in-Begin-clause-shorter : goal.compound::compound-returns-in-Begin-clause-shorter
+compound::compound-returns-in-Begin-clause-shorter t c = below_behind c.args.tokens.now c.in_ok-word.rest.now c.block.result (omega (arith, ap length c.in_ok-word.ensures.front)) c.block.ensures.shorter
+
+pub compound::compound-returns-in-Declare-clause-shorter : goal.compound::compound-returns-in-Declare-clause-shorter
+compound::compound-returns-in-Declare-clause-shorter t c = below_behind c.args.tokens.now c.in_ok-word.rest.now c.declaring_block.result (omega (arith, ap length c.in_ok-word.ensures.front)) c.declaring_block.ensures.shorter
+
+pub compound::compound-returns-in-Loop-clause-shorter : goal.compound::compound-returns-in-Loop-clause-shorter
+compound::compound-returns-in-Loop-clause-shorter t c = c.loop_rest.ensures.shorter
+
+pub arms::alternatives-alternative-requires-in-Some : goal.arms::alternatives-alternative-requires-in-Some
+arms::alternatives-alternative-requires-in-Some t c = (omega (arith, c.decreases, c.loop-after.invariant.shorter, ap length (after_some symbol.When c.loop-after.rest.now c.in-Some.after.now (sym c.in-Some.ensures)).here), tt)
+
+pub arms::handler_list-handler-requires-in-Some : goal.arms::handler_list-handler-requires-in-Some
+arms::handler_list-handler-requires-in-Some t c = (omega (arith, c.decreases, c.loop-after.invariant.shorter, ap length (after_some symbol.When c.loop-after.rest.now c.in-Some.after.now (sym c.in-Some.ensures)).here), tt)
+
+pub compound::for_loop-loop_rest-requires : goal.compound::for_loop-loop_rest-requires
+compound::for_loop-loop_rest-requires t c = (omega (arith, c.decreases, c.in_ok-parameter.ensures.shorter, c.in_ok-rest.ensures.shorter, c.direction-direction.ensures.no_longer, c.in_ok-values.ensures.shorter), tt)

@@ -1,35 +1,36 @@
-use Rattle.std.proofs.Common.{◌≤◌, length, arith}
+use Rattle.std.proofs.Common.{length, arith}
 use Rattle.std.proofs.lemmas.Result.{err_from_is_err_and}
-use Rattle.expression_parser.specs.declared.symbol.Symbol.TheVariants as symbol
-use Rattle.expression_parser.specs.Shows.{Reads}
-use Rattle.declaration_parser.specs.DeclarationReading.{declarations_by}
+use Rattle.expression_parser.specs.Reading.{Got}
+use Rattle.expression_parser.specs.Shows.{ShowsAs, Reads}
+use Rattle.declaration_parser.proofs.Closings.{read_so}
+use Rattle.ada_parser.specs.BodyParts.{whole_body}
 use Rattle.ada_parser.specs.UnitDepth as at
-use Rattle.ada_parser.proofs.Parts.{before_word, word_fails, part_fails}
-use Rattle.ada_parser.proofs.BodyCode.{body_rest_read, body_declarations_fail, body_no_begin, body_statements_fail}
+use Rattle.declaration_parser.proofs.Pairs.{pair_below, pair_done, pair_fault}
 use Rattle.ada_parser.proofs.bodies.body_rest.Goals as goal
 
-pub returns-in_err-declarations-clause-reads : goal.returns-in_err-declarations-clause-reads
-returns-in_err-declarations-clause-reads c =
+pub returns-in_err-specification-clause-reads : goal.returns-in_err-specification-clause-reads
+returns-in_err-specification-clause-reads c =
+    let x = c.args.parser.extent in
+    let ts = c.args.tokens.now in
+    let s = c.args.specification in
     let p = err_from_is_err_and c.from_residual.result c.from_residual.ensures.1 in
-    rw (p.1, p.2) (word_fails (λ v. v.items) (declarations_by c.args.parser.extent) (λ n. n ≤ length c.args.tokens.now) symbol.Begin c.args.tokens.now (Reads (at.at_body_rest c.args.parser.extent c.args.specification) c.args.tokens.now) (λ rest h. body_declarations_fail c.args.parser.extent c.args.specification c.args.tokens.now rest h) c.local_declarations.result c.in_err-declarations.field-0.0 c.local_declarations.ensures.reads c.local_declarations.ensures.no_longer c.in_err-declarations.ensures (λ v us rest h l n. body_no_begin c.args.parser.extent c.args.specification c.args.tokens.now us rest v.items h l n))
+    rw (p.1, p.2) (pair_fault (λ r. ShowsAs (whole_body s) (Reads (at.at_body_rest x s) ts) r) s (Reads (at.at_body_rest x s) ts) (λ f e. e)
+    c.body_parts.result c.in_err-specification.field-0.0 (c.body_parts.ensures.reads s) c.in_err-specification.ensures)
 
-pub returns-in_err-declarations-clause-shorter : goal.returns-in_err-declarations-clause-shorter
-returns-in_err-declarations-clause-shorter c = rw ((err_from_is_err_and c.from_residual.result c.from_residual.ensures.1).1) tt
-
-pub returns-in_err-statements-clause-reads : goal.returns-in_err-statements-clause-reads
-returns-in_err-statements-clause-reads c =
-    let p = err_from_is_err_and c.from_residual-in_err-statements.result c.from_residual-in_err-statements.ensures.1 in
-    rw (p.1, p.2) (let w = before_word (λ v. v.items) (declarations_by c.args.parser.extent) (λ n. n ≤ length c.args.tokens.now) symbol.Begin c.args.tokens.now c.local_declarations.result c.in_ok-declarations.declarations c.in_ok-declarations.rest c.local_declarations.ensures.reads c.local_declarations.ensures.no_longer c.in_ok-declarations.ensures in part_fails (Reads (at.at_statements_to_end c.args.parser.extent) c.in_ok-declarations.rest.now) (Reads (at.at_body_rest c.args.parser.extent c.args.specification) c.args.tokens.now) c.in_err-statements.field-0.0 c.in_err-statements.ensures.reads (λ rest h. body_statements_fail c.args.parser.extent c.args.specification c.args.tokens.now w.before c.in_ok-declarations.rest.now rest c.in_ok-declarations.declarations.items w.reads w.near w.word h))
-
-pub returns-in_err-statements-clause-shorter : goal.returns-in_err-statements-clause-shorter
-returns-in_err-statements-clause-shorter c = rw ((err_from_is_err_and c.from_residual-in_err-statements.result c.from_residual-in_err-statements.ensures.1).1) tt
+pub returns-in_err-specification-clause-shorter : goal.returns-in_err-specification-clause-shorter
+returns-in_err-specification-clause-shorter c = rw ((err_from_is_err_and c.from_residual.result c.from_residual.ensures.1).1) tt
 
 pub returns-clause-reads : goal.returns-clause-reads
 returns-clause-reads c =
-    let w = before_word (λ v. v.items) (declarations_by c.args.parser.extent) (λ n. n ≤ length c.args.tokens.now) symbol.Begin c.args.tokens.now c.local_declarations.result c.in_ok-declarations.declarations c.in_ok-declarations.rest c.local_declarations.ensures.reads c.local_declarations.ensures.no_longer c.in_ok-declarations.ensures in
-    rw c.from.ensures (body_rest_read c.args.parser.extent c.args.specification c.args.tokens.now w.before c.in_ok-declarations.rest.now c.in_ok-statements.rest.now c.in_ok-declarations.declarations.items c.in_ok-statements.statements c.in_ok-statements.end_name w.reads w.near w.word c.in_ok-statements.ensures.reads)
+    let x = c.args.parser.extent in
+    let ts = c.args.tokens.now in
+    let s = c.args.specification in
+    let k = c.in_ok-specification in
+    rw c.from.ensures (pair_done (λ r. ShowsAs (whole_body s) (Reads (at.at_body_rest x s) ts) r) s (λ z y vs. Reads (at.at_body_rest x s) ts (Got (whole_body z y) vs)) (λ y vs e. e)
+    c.body_parts.result k.specification (k.declarations, (k.statements, k.end_name)) k.rest (c.body_parts.ensures.reads s) k.ensures)
 
 pub returns-clause-shorter : goal.returns-clause-shorter
 returns-clause-shorter c =
-    let w = before_word (λ v. v.items) (declarations_by c.args.parser.extent) (λ n. n ≤ length c.args.tokens.now) symbol.Begin c.args.tokens.now c.local_declarations.result c.in_ok-declarations.declarations c.in_ok-declarations.rest c.local_declarations.ensures.reads c.local_declarations.ensures.no_longer c.in_ok-declarations.ensures in
-    omega (arith, w.near, w.word.shorter, c.in_ok-statements.ensures.shorter)
+    let k = c.in_ok-specification in
+    let n = length c.args.tokens.now in
+    pair_below n n (omega arith) c.args.specification c.body_parts.result (read_so (k.specification, (k.declarations, (k.statements, k.end_name))) k.rest) c.body_parts.ensures.shorter k.ensures

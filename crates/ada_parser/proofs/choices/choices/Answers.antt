@@ -1,11 +1,14 @@
 use Rattle.std.proofs.Common.{List, length, ap, sym, subst, arith}
+use Rattle.std.proofs.lemmas.Result.{err_from_is_err_and}
 use Rattle.ada_syntax.specs.declared.statement.Choice.{Choice}
 use Rattle.expression_parser.specs.declared.symbol.Symbol.TheVariants as symbol
-use Rattle.expression_parser.specs.Shows.{More}
+use Rattle.expression_parser.specs.Reading.{Got, Stuck}
+use Rattle.expression_parser.specs.Shows.{Reads, More}
 use Rattle.expression_parser.proofs.NameCode.{after_some}
 use Rattle.ada_parser.specs.StatementReading as read
+use Rattle.ada_parser.proofs.Parts.{part_fails}
 use Rattle.ada_parser.proofs.Steps.{turns}
-use Rattle.ada_parser.proofs.SimpleCode.{choices_step, choices_rules}
+use Rattle.ada_parser.proofs.SimpleCode.{choices_step, choices_step_fail, choices_end, choices_rules}
 use Rattle.ada_parser.proofs.choices.choices.Goals as goal
 
 pub loop-after-preserved : goal.loop-after-preserved
@@ -35,7 +38,12 @@ pub loop-after-init : goal.loop-after-init
 loop-after-init c = grind (arith, choices_rules)
 
 pub returns-in_err-choice-clause-reads : goal.returns-in_err-choice-clause-reads
-returns-in_err-choice-clause-reads c = grind (arith, choices_rules)
+returns-in_err-choice-clause-reads c =
+    let x = c.args.parser.extent in
+    let us = c.in-Some.after.now in
+    let p = err_from_is_err_and c.from_residual-in_err-choice.result c.from_residual-in_err-choice.ensures.1 in
+    rw (p.1, p.2) (part_fails (Reads (read.choice_by x) us) (Reads (read.choices_by x) c.args.tokens.now) c.in_err-choice.field-0.0 c.in_err-choice.ensures.reads
+    (λ rest h. c.loop-after.invariant.reads (Stuck rest) (choices_step_fail x c.loop-after.rest.now us rest c.loop-after.choices.items (sym c.in-Some.ensures) h)))
 
 pub returns-in_err-choice-clause-shorter : goal.returns-in_err-choice-clause-shorter
 returns-in_err-choice-clause-shorter c = grind (arith, choices_rules)
@@ -47,10 +55,13 @@ pub returns-in_err-push-2-clause-shorter : goal.returns-in_err-push-2-clause-sho
 returns-in_err-push-2-clause-shorter c = grind (arith, choices_rules)
 
 pub loop-after-smaller : goal.loop-after-smaller
-loop-after-smaller c = grind (arith, choices_rules)
+loop-after-smaller c = omega (arith, c.in_ok-choice.ensures.shorter, ap length (after_some symbol.Bar c.loop-after.rest.now c.in-Some.after.now (sym c.in-Some.ensures)).here)
 
 pub returns-clause-reads : goal.returns-clause-reads
-returns-clause-reads c = grind (arith, choices_rules)
+returns-clause-reads c =
+    let zs = c.loop-after.choices.items in
+    let rest = c.loop-after.rest.now in
+    c.loop-after.invariant.reads (Got zs rest) (choices_end c.args.parser.extent rest zs (sym c.in_default.ensures))
 
 pub returns-clause-shorter : goal.returns-clause-shorter
 returns-clause-shorter c = grind (arith, choices_rules)

@@ -1,58 +1,67 @@
-use Rattle.std.proofs.Common.{◌≡◌, ◌<◌, ◌∷◌, length, refl, sym, subst, rules, arith}
+use Rattle.std.proofs.Common.{◌<◌, length, ap, sym, arith}
 use Rattle.std.proofs.lemmas.Result.{err_from_is_err_and}
 use Rattle.expression_parser.specs.declared.symbol.Symbol.TheVariants as symbol
-use Rattle.expression_parser.specs.Symbols.{Is}
-use Rattle.expression_parser.specs.Reading.{Stuck}
+use Rattle.expression_parser.specs.declared.extent.Extent.TheVariants.{Objects}
 use Rattle.expression_parser.specs.Shows.{Reads}
+use Rattle.expression_parser.proofs.Faults.{word_handed_on}
+use Rattle.expression_parser.proofs.NameCode.{after_some}
 use Rattle.declaration_parser.specs.SubtypeReading.{initial_by}
 use Rattle.ada_parser.specs.StatementDepth as at
+use Rattle.ada_parser.proofs.FrontCode.{closed_on}
 use Rattle.ada_parser.proofs.Parts.{before_word, word_fails}
-use Rattle.ada_parser.proofs.SimpleCode.{assigned, assigned_fail, assigned_open, name_rest_rules}
+use Rattle.ada_parser.proofs.NamedCode.{becomes_closed, assigned, assigned_fail, assigned_open, called, call_open}
 use Rattle.ada_parser.proofs.simple.name_rest.Goals as goal
 
-pub same-name : goal.same-name
-same-name c = refl
+pub returns-in_err-needs-clause-reads : goal.returns-in_err-needs-clause-reads
+returns-in_err-needs-clause-reads c =
+    let x = c.args.parser.extent in
+    let ts = c.args.tokens.now in
+    let p = err_from_is_err_and c.from_residual.result c.from_residual.ensures.1 in
+    rw (p.1, p.2) (λ pos n. closed_on (Reads (at.at_name_rest x pos n) ts) x Objects ts c.in_err-needs.field-0.0 c.in_err-needs.ensures (λ o. becomes_closed x pos n ts c.in-Some.after.now (sym c.in-Some.ensures) o))
 
-pub same-name-in-Semicolon : goal.same-name-in-Semicolon
-same-name-in-Semicolon c = refl
+pub returns-in_err-needs-clause-shorter : goal.returns-in_err-needs-clause-shorter
+returns-in_err-needs-clause-shorter c = rw ((err_from_is_err_and c.from_residual.result c.from_residual.ensures.1).1) tt
 
-pub returns-in_err-value-in-Becomes-clause-reads : goal.returns-in_err-value-in-Becomes-clause-reads
-returns-in_err-value-in-Becomes-clause-reads c =
-    let e : c.args.tokens.now ≡ c.in-Some.token.now ∷ c.in-Some.rest.now = search rules in
-    let i : Is symbol.Becomes c.in-Some.token.now = search rules in
-    let p = err_from_is_err_and c.from_residual-in_err-value-in-Becomes.result c.from_residual-in_err-value-in-Becomes.ensures.1 in
-    rw (p.1, p.2) (word_fails (λ z. z) (initial_by c.args.parser.extent) (λ n. n < length c.in-Some.rest.now) symbol.Semicolon c.in-Some.rest.now (Reads (at.at_name_rest c.args.parser.extent c.args.pos c.args.name) c.args.tokens.now) (λ rest h. subst (λ z. Reads (at.at_name_rest c.args.parser.extent c.args.pos c.args.name) z (Stuck rest)) (sym e) (assigned_fail c.args.parser.extent c.args.pos c.args.name c.in-Some.token.now c.in-Some.rest.now rest i c.in_ok-needs-in-Becomes.ensures h)) c.initial.result c.in_err-value-in-Becomes.field-0.0 c.initial.ensures.reads c.initial.ensures.shorter c.in_err-value-in-Becomes.ensures (λ v ys rest h l k. subst (λ z. Reads (at.at_name_rest c.args.parser.extent c.args.pos c.args.name) z (Stuck rest)) (sym e) (assigned_open c.args.parser.extent c.args.pos c.args.name c.in-Some.token.now c.in-Some.rest.now ys rest v i c.in_ok-needs-in-Becomes.ensures h l k)))
+pub returns-in_err-value-clause-reads : goal.returns-in_err-value-clause-reads
+returns-in_err-value-clause-reads c =
+    let x = c.args.parser.extent in
+    let ts = c.args.tokens.now in
+    let us = c.in-Some.after.now in
+    let e = sym c.in-Some.ensures in
+    let o = c.in_ok-needs.ensures in
+    let p = err_from_is_err_and c.from_residual-in_err-value.result c.from_residual-in_err-value.ensures.1 in
+    rw (p.1, p.2) (λ pos n. word_fails (λ z. z) (initial_by x) (λ k. k < length us) symbol.Semicolon us (Reads (at.at_name_rest x pos n) ts) (λ rest h. assigned_fail x pos n ts us rest e o h)
+    c.initial.result c.in_err-value.field-0.0 c.initial.ensures.reads c.initial.ensures.shorter c.in_err-value.ensures (λ i vs rest h l k. assigned_open x pos n ts us vs rest i e o h l k))
 
-pub returns-in_err-value-in-Becomes-clause-shorter : goal.returns-in_err-value-in-Becomes-clause-shorter
-returns-in_err-value-in-Becomes-clause-shorter c = rw ((err_from_is_err_and c.from_residual-in_err-value-in-Becomes.result c.from_residual-in_err-value-in-Becomes.ensures.1).1) tt
+pub returns-in_err-value-clause-shorter : goal.returns-in_err-value-clause-shorter
+returns-in_err-value-clause-shorter c = rw ((err_from_is_err_and c.from_residual-in_err-value.result c.from_residual-in_err-value.ensures.1).1) tt
 
-pub returns-in_err-needs-in-Becomes-clause-shorter : goal.returns-in_err-needs-in-Becomes-clause-shorter
-returns-in_err-needs-in-Becomes-clause-shorter c = rw ((err_from_is_err_and c.from_residual.result c.from_residual.ensures.1).1) tt
+pub returns-in-Some-clause-reads : goal.returns-in-Some-clause-reads
+returns-in-Some-clause-reads c =
+    let x = c.args.parser.extent in
+    let ts = c.args.tokens.now in
+    let us = c.in-Some.after.now in
+    let w = before_word (λ z. z) (initial_by x) (λ n. n < length us) symbol.Semicolon us c.initial.result c.in_ok-value.value c.in_ok-value.rest c.initial.ensures.reads c.initial.ensures.shorter c.in_ok-value.ensures in
+    λ pos n. assigned x pos n ts us w.before c.in_ok-value.rest.now c.in_ok-value.value (sym c.in-Some.ensures) c.in_ok-needs.ensures w.reads w.near w.word
 
-pub returns-in_ok-value-in-Becomes-clause-reads : goal.returns-in_ok-value-in-Becomes-clause-reads
-returns-in_ok-value-in-Becomes-clause-reads c =
-    let e : c.args.tokens.now ≡ c.in-Some.token.now ∷ c.in-Some.rest.now = search rules in
-    let i : Is symbol.Becomes c.in-Some.token.now = search rules in
-    let w = before_word (λ z. z) (initial_by c.args.parser.extent) (λ n. n < length c.in-Some.rest.now) symbol.Semicolon c.in-Some.rest.now c.initial.result c.in_ok-value-in-Becomes.value c.in_ok-value-in-Becomes.rest c.initial.ensures.reads c.initial.ensures.shorter c.in_ok-value-in-Becomes.ensures in
-    rw e (assigned c.args.parser.extent c.args.pos c.args.name c.in-Some.token.now c.in-Some.rest.now w.before c.in_ok-value-in-Becomes.rest.now c.in_ok-value-in-Becomes.value i c.in_ok-needs-in-Becomes.ensures w.reads w.near w.word)
+pub returns-in-Some-clause-shorter : goal.returns-in-Some-clause-shorter
+returns-in-Some-clause-shorter c =
+    let us = c.in-Some.after.now in
+    let w = before_word (λ z. z) (initial_by c.args.parser.extent) (λ n. n < length us) symbol.Semicolon us c.initial.result c.in_ok-value.value c.in_ok-value.rest c.initial.ensures.reads c.initial.ensures.shorter c.in_ok-value.ensures in
+    omega (arith, w.near, w.word.shorter, ap length (after_some symbol.Becomes c.args.tokens.now us (sym c.in-Some.ensures)).here)
 
-pub returns-in_ok-value-in-Becomes-clause-shorter : goal.returns-in_ok-value-in-Becomes-clause-shorter
-returns-in_ok-value-in-Becomes-clause-shorter c =
-    let e : c.args.tokens.now ≡ c.in-Some.token.now ∷ c.in-Some.rest.now = search rules in
-    let w = before_word (λ z. z) (initial_by c.args.parser.extent) (λ n. n < length c.in-Some.rest.now) symbol.Semicolon c.in-Some.rest.now c.initial.result c.in_ok-value-in-Becomes.value c.in_ok-value-in-Becomes.rest c.initial.ensures.reads c.initial.ensures.shorter c.in_ok-value-in-Becomes.ensures in
-    rw e (omega (arith, w.near, w.word.shorter))
+pub returns-in_err-rest-clause-reads : goal.returns-in_err-rest-clause-reads
+returns-in_err-rest-clause-reads c =
+    let x = c.args.parser.extent in
+    let ts = c.args.tokens.now in
+    let p = err_from_is_err_and c.from_residual-in_err-rest.result c.from_residual-in_err-rest.ensures.1 in
+    rw (p.1, p.2) (λ pos n. word_handed_on (Reads (at.at_name_rest x pos n) ts) symbol.Semicolon ts c.in_err-rest.field-0.0 c.in_err-rest.ensures (λ rest k. call_open x pos n ts rest (sym c.in_default.ensures) k))
 
-pub returns-in_default-clause-reads : goal.returns-in_default-clause-reads
-returns-in_default-clause-reads c = grind (arith, name_rest_rules)
+pub returns-in_err-rest-clause-shorter : goal.returns-in_err-rest-clause-shorter
+returns-in_err-rest-clause-shorter c = rw ((err_from_is_err_and c.from_residual-in_err-rest.result c.from_residual-in_err-rest.ensures.1).1) tt
 
-pub returns-in_err-needs-in-Becomes-clause-reads : goal.returns-in_err-needs-in-Becomes-clause-reads
-returns-in_err-needs-in-Becomes-clause-reads c = grind (arith, name_rest_rules)
+pub returns-clause-reads : goal.returns-clause-reads
+returns-clause-reads c = λ pos n. called c.args.parser.extent pos n c.args.tokens.now c.in_ok-rest.rest.now (sym c.in_default.ensures) c.in_ok-rest.ensures
 
-pub returns-in-Semicolon-clause-reads : goal.returns-in-Semicolon-clause-reads
-returns-in-Semicolon-clause-reads c = grind (arith, name_rest_rules)
-
-pub returns-in-Semicolon-clause-shorter : goal.returns-in-Semicolon-clause-shorter
-returns-in-Semicolon-clause-shorter c = grind (arith, name_rest_rules)
-
-pub returns-in_default-symbol_in : goal.returns-in_default-symbol_in
-returns-in_default-symbol_in c = grind (arith, name_rest_rules)
+pub returns-clause-shorter : goal.returns-clause-shorter
+returns-clause-shorter c = c.in_ok-rest.ensures.shorter

@@ -31,3 +31,6 @@ returns-in_err-needs c = grind (arith, file_rules)
 
 pub returns-in_err-unit : goal.returns-in_err-unit
 returns-in_err-unit c = grind (arith, file_rules)
+
+pub rest-smaller : goal.rest-smaller
+rest-smaller c = omega (arith, c.in_ok-unit.ensures.shorter)

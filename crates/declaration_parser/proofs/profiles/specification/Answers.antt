@@ -1,12 +1,25 @@
-use Rattle.std.proofs.Common.{arith}
-use Rattle.declaration_parser.proofs.ProfileCode.{specification_rules}
+use Rattle.declaration_parser.specs.DeclarationReading as read
+use Rattle.expression_parser.specs.declared.extent.Extent.TheVariants.{Subprograms}
+use Rattle.expression_parser.proofs.Faults.{closed_handed_on}
+use Rattle.std.proofs.lemmas.Result.{err_from_is_err_and}
+use Rattle.declaration_parser.proofs.Pairs.{as_well}
+use Rattle.declaration_parser.proofs.Closings.{below_behind}
+use Rattle.expression_parser.specs.Shows.{Reads}
+use Rattle.std.proofs.Common.{ap, length, sym, ◌∙◌, ◌∷◌, refl, arith}
+use Rattle.declaration_parser.proofs.ProfileCode.{specification_rules, specification_procedure, specification_function, specification_closed}
 use Rattle.declaration_parser.proofs.profiles.specification.Goals as goal
 
 pub returns-in-Procedure-clause-reads : goal.returns-in-Procedure-clause-reads
-returns-in-Procedure-clause-reads c = grind (arith, specification_rules)
+returns-in-Procedure-clause-reads c =
+    let x = c.args.parser.extent in
+    let ts = c.args.tokens.now in
+    let u = c.in-Some.token.now in
+    let us = c.in-Some.rest.now in
+    let is = sym c.symbol_in.ensures ∙ c.in-Procedure.is in
+    as_well (Reads (read.procedure_at x u.pos) us) (Reads (read.specification_by x) ts) c.procedure.result c.procedure.ensures.reads (λ q f. rw c.in-Some.ensures.cases.0 (specification_procedure x u us q is f))
 
 pub returns-in-Procedure-clause-shorter : goal.returns-in-Procedure-clause-shorter
-returns-in-Procedure-clause-shorter c = grind (arith, specification_rules)
+returns-in-Procedure-clause-shorter c = below_behind c.args.tokens.now c.in-Some.rest.now c.procedure.result (omega (arith, ap length c.in-Some.ensures.cases.0)) c.procedure.ensures.shorter
 
 pub returns-in_default-clause-reads : goal.returns-in_default-clause-reads
 returns-in_default-clause-reads c = grind (arith, specification_rules)
@@ -15,10 +28,23 @@ pub returns-in_default-symbol_in : goal.returns-in_default-symbol_in
 returns-in_default-symbol_in c = grind (arith, specification_rules)
 
 pub returns-in_err-needs-in-Function-clause-reads : goal.returns-in_err-needs-in-Function-clause-reads
-returns-in_err-needs-in-Function-clause-reads c = grind (arith, specification_rules)
+returns-in_err-needs-in-Function-clause-reads c =
+    let x = c.args.parser.extent in
+    let ts = c.args.tokens.now in
+    let u = c.in-Some.token.now in
+    let us = c.in-Some.rest.now in
+    let is = sym c.symbol_in.ensures ∙ c.in-Function.is in
+    let p = err_from_is_err_and c.from_residual.result c.from_residual.ensures.1 in
+    rw (p.1, p.2) (closed_handed_on (Reads (read.specification_by x) ts) x Subprograms ts c.in_err-needs-in-Function.field-0.0 c.in_err-needs-in-Function.ensures (λ o. rw c.in-Some.ensures.cases.0 (specification_closed x u us (u ∷ us) is o refl)))
 
 pub returns-in_ok-needs-in-Function-clause-reads : goal.returns-in_ok-needs-in-Function-clause-reads
-returns-in_ok-needs-in-Function-clause-reads c = grind (arith, specification_rules)
+returns-in_ok-needs-in-Function-clause-reads c =
+    let x = c.args.parser.extent in
+    let ts = c.args.tokens.now in
+    let u = c.in-Some.token.now in
+    let us = c.in-Some.rest.now in
+    let is = sym c.symbol_in.ensures ∙ c.in-Function.is in
+    as_well (Reads (read.function_at x u.pos) us) (Reads (read.specification_by x) ts) c.function.result c.function.ensures.reads (λ q f. rw c.in-Some.ensures.cases.0 (specification_function x u us q is c.in_ok-needs-in-Function.ensures f))
 
 pub returns-in_ok-needs-in-Function-clause-shorter : goal.returns-in_ok-needs-in-Function-clause-shorter
-returns-in_ok-needs-in-Function-clause-shorter c = grind (arith, specification_rules)
+returns-in_ok-needs-in-Function-clause-shorter c = below_behind c.args.tokens.now c.in-Some.rest.now c.function.result (omega (arith, ap length c.in-Some.ensures.cases.0)) c.function.ensures.shorter

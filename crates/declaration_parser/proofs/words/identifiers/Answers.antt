@@ -1,10 +1,11 @@
+use Rattle.expression_parser.specs.Reading.{Got}
 use Rattle.std.proofs.Common.{List, length, ap, sym, subst, arith}
 use Rattle.ada_syntax.specs.declared.name.Identifier.{Identifier}
 use Rattle.expression_parser.specs.declared.symbol.Symbol.TheVariants as symbol
 use Rattle.declaration_parser.specs.Identifiers as read
 use Rattle.expression_parser.specs.Shows.{More}
 use Rattle.expression_parser.proofs.NameCode.{after_some}
-use Rattle.declaration_parser.proofs.WordCode.{identifiers_step, identifiers_rules}
+use Rattle.declaration_parser.proofs.WordCode.{identifiers_step, identifiers_end, identifiers_rules}
 use Rattle.declaration_parser.proofs.words.identifiers.Goals as goal
 
 pub loop-after-preserved : goal.loop-after-preserved
@@ -20,10 +21,13 @@ pub loop-after-init : goal.loop-after-init
 loop-after-init c = grind (arith, identifiers_rules)
 
 pub loop-after-smaller : goal.loop-after-smaller
-loop-after-smaller c = grind (arith, identifiers_rules)
+loop-after-smaller c = omega (arith, c.in_ok-identifier.ensures.shorter, ap length (after_some symbol.Comma c.loop-after.rest.now c.in-Some.after.now (sym c.in-Some.ensures)).here)
 
 pub returns-clause-reads : goal.returns-clause-reads
-returns-clause-reads c = grind (arith, identifiers_rules)
+returns-clause-reads c =
+    let is = c.loop-after.identifiers.items in
+    let rest = c.loop-after.rest.now in
+    c.loop-after.invariant.reads (Got is rest) (identifiers_end rest is (sym c.in_default.ensures))
 
 pub returns-clause-shorter : goal.returns-clause-shorter
 returns-clause-shorter c = grind (arith, identifiers_rules)

@@ -8,12 +8,12 @@ use Rattle.std.proofs.lemmas.Result.{err_from_is_err_and}
 use Rattle.expression_parser.specs.declared.extent.Extent.TheVariants.{Objects, Decisions}
 use Rattle.expression_parser.specs.Building.{operated, chained}
 use Rattle.expression_parser.specs.Symbols.{sign_of, multiplying, adding}
-use Rattle.expression_parser.specs.Reading.{Stuck}
+use Rattle.expression_parser.specs.Reading.{Got, Stuck}
 use Rattle.expression_parser.specs.Shows.{More, Reads}
 use Rattle.expression_parser.specs.Depth as at
 use Rattle.expression_parser.specs.declared.symbol.Symbol.TheVariants as symbol
 use Rattle.expression_parser.proofs.Wholes.{built, made, enclosed, built_below, made_below, enclosed_below, applied_next}
-use Rattle.expression_parser.proofs.NameCode.{after_some, exprs_step, exprs_rules, name_rules, suffix_rules}
+use Rattle.expression_parser.proofs.NameCode.{after_some, exprs_step, exprs_step_fail, exprs_end, exprs_rules, name_rules, suffix_rules}
 use Rattle.expression_parser.proofs.ExpressionCode.{primary_name_closed, primary_inner_closed, factor_abs_closed, factor_not_closed, signed_closed, primary_name, primary_name_fail, primary_inner, primary_open, primary_inner_fail, factor_abs, factor_abs_fail, factor_not, factor_not_fail, signed_sign, signed_fail, term_begin, term_fail, product_push, product_end, product_fail, product_closed, simple_begin, simple_fail, sum_push, sum_end, sum_fail, sum_closed, relation_two, relation_second_fail, chain_begin, chain_fail, chain_push, chain_step_fail, chain_half, chain_end, expr_chain, expr_rules, factor_rules, primary_rules, signed_rules, relation_rules}
 use Rattle.expression_parser.proofs.Faults.{handed_on, closed_handed_on, shown_as, operator_shown_as, joint_shown_as}
 use Rattle.expression_parser.proofs.parser.Parser.+expression.Goals as goal
@@ -372,10 +372,18 @@ pub exprs-loop-after-init : goal.exprs-loop-after-init
 exprs-loop-after-init t c = grind (arith, exprs_rules)
 
 pub exprs-returns-clause-reads : goal.exprs-returns-clause-reads
-exprs-returns-clause-reads t c = grind (arith, exprs_rules)
+exprs-returns-clause-reads t c =
+    let es = c.loop-after.exprs.items in
+    let rest = c.loop-after.rest.now in
+    c.loop-after.invariant.reads (Got es rest) (exprs_end c.args.self.extent rest es (sym c.in_default.ensures))
 
 pub exprs-returns-in_err-expr-clause-reads : goal.exprs-returns-in_err-expr-clause-reads
-exprs-returns-in_err-expr-clause-reads t c = grind (arith, exprs_rules)
+exprs-returns-in_err-expr-clause-reads t c =
+    let x = c.args.self.extent in
+    let us = c.in-Some.after.now in
+    let p = err_from_is_err_and c.from_residual-in_err-expr.result c.from_residual-in_err-expr.ensures.1 in
+    rw (p.1, p.2) (handed_on (Reads (at.at_exprs x) c.args.tokens.now) (Reads (at.at_expr x) us) c.in_err-expr.field-0.0 c.in_err-expr.ensures.reads
+    (λ rest r. c.loop-after.invariant.reads (Stuck rest) (exprs_step_fail x c.loop-after.rest.now us rest c.loop-after.exprs.items (sym c.in-Some.ensures) r)))
 
 pub factor-returns-in_default-symbol_in : goal.factor-returns-in_default-symbol_in
 factor-returns-in_default-symbol_in t c = grind (arith, factor_rules)
@@ -396,7 +404,7 @@ pub exprs-expr-requires-in-Some : goal.exprs-expr-requires-in-Some
 exprs-expr-requires-in-Some t c = grind (arith, exprs_rules)
 
 pub exprs-loop-after-smaller : goal.exprs-loop-after-smaller
-exprs-loop-after-smaller t c = grind (arith, exprs_rules)
+exprs-loop-after-smaller t c = omega (arith, c.in_ok-expr.ensures.shorter, ap length (after_some symbol.Comma c.loop-after.rest.now c.in-Some.after.now (sym c.in-Some.ensures)).here)
 
 pub exprs-returns-clause-shorter : goal.exprs-returns-clause-shorter
 exprs-returns-clause-shorter t c = grind (arith, exprs_rules)
@@ -436,3 +444,21 @@ signed-returns-in_default-clause-reads t c = grind (arith, signed_rules)
 
 pub suffix-returns-in_default : goal.suffix-returns-in_default
 suffix-returns-in_default t c = grind (arith, suffix_rules)
+
+pub terms-loop-others-smaller : goal.terms-loop-others-smaller
+terms-loop-others-smaller t c =
+    let h = rw c.in-Some.is at c.in_ok-operator.ensures in
+    omega (arith, c.in_ok-operand.ensures.shorter, ap length h.here)
+
+pub factors-loop-others-smaller : goal.factors-loop-others-smaller
+factors-loop-others-smaller t c =
+    let h = rw c.in-Some.is at c.in_ok-operator.ensures in
+    omega (arith, c.in_ok-operand.ensures.shorter, ap length h.here)
+
+pub relations-loop-others-smaller : goal.relations-loop-others-smaller
+relations-loop-others-smaller t c =
+    let h = rw c.in-Some.is at c.in_ok-after.ensures in
+    omega (arith, c.in_ok-relation.ensures.shorter, h.shorter)
+
+pub relations-returns-clause-shorter : goal.relations-returns-clause-shorter
+relations-returns-clause-shorter t c = c.loop-others.invariant.shorter
