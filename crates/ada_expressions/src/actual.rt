@@ -1,6 +1,7 @@
 //! Actual parameters (Ada RM 2012, 6.4.1).
 
 ghost use Rattle.std.specs.Prelude.{◌≡◌, [], ◌++◌, drop, OnOk};
+ghost use Rattle.std.specs.Option.{option_and_then};
 ghost use Rattle.ada_expressions.specs.Expressions as spec;
 
 use crate::judged::Judged;
@@ -30,6 +31,17 @@ fn written_among(objects: &[DeclaredObject], parameter: Parameter, place: u32) -
         .and_then(|object| written(parameter, *object))
 }
 
+/// The same, where there is such a place.
+fn written_at(
+    objects: &[DeclaredObject],
+    parameter: Parameter,
+    place: Option<u32>,
+) -> Option<Actual>
+    ensures { result ≡ option_and_then (spec.written_among objects.now parameter) place }
+{
+    written_among(objects, parameter, place?)
+}
+
 /// An expression of a parameter's type, for a mode that reads it.
 fn given(parameter: Parameter, value: Judged) -> Option<Actual>
     ensures { result ≡ spec.given parameter value }
@@ -47,10 +59,7 @@ fn passed(objects: &[DeclaredObject], parameter: Parameter, value: Judged) -> Op
 {
     match parameter.mode {
         Mode::Default | Mode::In => given(parameter, value),
-        Mode::Out | Mode::InOut => {
-            let place = value.object?;
-            written_among(objects, parameter, place)
-        }
+        Mode::Out | Mode::InOut => written_at(objects, parameter, value.object),
     }
 }
 

@@ -171,7 +171,6 @@ impl Circuit {
     }
 
     /// With one more operand, whose condition begins at this place; none where it is not Boolean.
-    #[tactic(auto, using(crate::proofs::TestLaws::test_more))]
     pub fn with_operand(
         self,
         alloc: Global,
@@ -180,16 +179,20 @@ impl Circuit {
     ) -> Result<Option<Circuit>, AllocError>
         ensures { IfOk result (λ c. option_map circuit_view c ≡ option_map (lengthened (circuit_view self)) (spec.test_at pos operand)) }
     {
-        let Some(test) = test_at(alloc, pos, operand)? else {
-            return Ok(None);
-        };
-        let mut others = self.others;
-        others.push(test)?;
-        Ok(Some(Circuit {
-            form: self.form,
-            first: self.first,
-            others,
-        }))
+        match test_at(alloc, pos, operand)? {
+            Some(test) => Ok(Some(self.with_test(test)?)),
+            None => Ok(None),
+        }
+    }
+
+    /// With one more test.
+    #[tactic(auto, using(crate::proofs::TestLaws::test_more))]
+    fn with_test(self, test: Test) -> Result<Circuit, AllocError>
+        ensures { IfOk result (λ c. circuit_view c ≡ lengthened (circuit_view self) test) }
+    {
+        let mut circuit = self;
+        circuit.others.push(test)?;
+        Ok(circuit)
     }
 
     /// The decision that they are, with its label.

@@ -202,18 +202,14 @@ impl Chain {
         if !is_integral(kind) {
             return Ok(None);
         }
-        let left = self.first;
-        let mut others = self.others;
-        others.push(Operand {
+        let mut chain = self;
+        chain.others.push(Operand {
             operator: operator_for(operator),
             operand: operand.expr,
         })?;
-        Ok(Some(Chain {
-            first: left,
-            others,
-            kind,
-            object: None,
-        }))
+        chain.kind = kind;
+        chain.object = None;
+        Ok(Some(chain))
     }
 
     /// The operations as one expression.

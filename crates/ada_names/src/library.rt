@@ -41,7 +41,7 @@ fn declare_unit(
     let number = numbered(index)?;
     let name = item_name(&unit.item);
     check_new(alloc, region, name)?;
-    region.declare(key(alloc, name)?, Entity::Procedure(number))?;
+    region.declare_name(alloc, name, Entity::Procedure(number))?;
     Ok(())
 }
 
@@ -84,8 +84,7 @@ fn alone(alloc: Global, number: u32, unit: &Unit) -> Result<Region, AllocError>
     ensures { IfOk result (λ region. region ≡ declare (key (item_name unit.now.item)) (entity.Procedure number) []) }
 {
     let mut region = Region::new(alloc);
-    let name = key(alloc, item_name(&unit.item))?;
-    region.declare(name, Entity::Procedure(number))?;
+    region.declare_name(alloc, item_name(&unit.item), Entity::Procedure(number))?;
     Ok(region)
 }
 

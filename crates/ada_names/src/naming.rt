@@ -5,6 +5,7 @@ ghost use Rattle.cov_base.specs.declared.position.Pos.{Pos as Place};
 ghost use Rattle.ada_syntax.specs.declared.unit.Unit.{Unit as LibraryUnit};
 ghost use Rattle.ada_names.specs.Library.{item_name, item_end_name, given, leading};
 ghost use Rattle.ada_names.specs.declared.library.Library.{Library};
+ghost use Rattle.ada_names.specs.Names.{key, same_name};
 ghost use Rattle.ada_names.specs.Naming as spec;
 ghost use Rattle.ada_names.specs.Naming.{library_of, main_from};
 ghost use Rattle.ada_names.specs.Rules as rules;
@@ -97,18 +98,22 @@ fn check_clauses(
     Ok(())
 }
 
+/// Whether the name after an `end` is the unit's name, where case does not count.
+fn is_repeated(own: &Identifier, end_name: &Identifier) -> bool
+    ensures { result ≡ same_name (key end_name.now) (key own.now) }
+{
+    end_name
+        .text
+        .as_slice()
+        .eq_ignore_ascii_case(own.text.as_slice())
+}
+
 /// The name after an `end`, against the unit's name.
 #[tactic(auto, using(crate::proofs::Blame::blames))]
-fn check_repeated(
-    alloc: Global,
-    own: &Identifier,
-    end_name: &Identifier,
-) -> Result<(), Failure<NameFault>>
+fn check_repeated(own: &Identifier, end_name: &Identifier) -> Result<(), Failure<NameFault>>
     ensures { Passes (rules.closing own.now end_name.now) result }
 {
-    let wanted = key(alloc, own)?;
-    let repeated = key(alloc, end_name)?;
-    if repeated.as_slice() == wanted.as_slice() {
+    if is_repeated(own, end_name) {
         Ok(())
     } else {
         Err(unnamed(end_name.pos))
@@ -116,11 +121,11 @@ fn check_repeated(
 }
 
 /// The name after the `end` of a unit.
-fn check_ending(alloc: Global, item: &LibraryItem) -> Result<(), Failure<NameFault>>
+fn check_ending(item: &LibraryItem) -> Result<(), Failure<NameFault>>
     ensures { AllPass (rules.ending (item_name item.now) (item_end_name item.now)) result }
 {
     match end_name(item) {
-        Some(end_name) => check_repeated(alloc, item_name(item), end_name),
+        Some(end_name) => check_repeated(item_name(item), end_name),
         None => Ok(()),
     }
 }
@@ -150,7 +155,7 @@ fn check_unit(
     check_clauses(alloc, library, number, unit.withs.as_slice())?;
     let seen = seen(alloc, &library.region, number, unit)?;
     check_body(alloc, &seen, &unit.item)?;
-    check_ending(alloc, &unit.item)
+    check_ending(&unit.item)
 }
 
 /// All units.

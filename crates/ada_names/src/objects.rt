@@ -11,7 +11,7 @@ ghost use Rattle.ada_names.specs.NameCode.{IsTwice, SomeRefused};
 use crate::entity::Entity;
 use crate::fault::NameFault;
 use crate::locals::Locals;
-use crate::region::{Region, check_new, key};
+use crate::region::{Region, check_new};
 use ada_syntax::Identifier;
 use cov_base::Failure;
 use std::alloc::{AllocError, Global};
@@ -34,7 +34,7 @@ pub fn declare_objects(
 {
     let mut place = first;
     for name in names {
-        region.declare(key(alloc, name)?, Entity::Object(place))?;
+        region.declare_name(alloc, name, Entity::Object(place))?;
         place = next(place)?;
     }
     Ok(())
@@ -44,7 +44,7 @@ pub fn declare_objects(
 fn hide(alloc: Global, hidden: &mut Region, name: &Identifier) -> Result<(), AllocError>
     ensures { OnOk result (hidden.new ≡ hide hidden.old name.now) }
 {
-    hidden.declare(key(alloc, name)?, Entity::Hidden)
+    hidden.declare_name(alloc, name, Entity::Hidden)
 }
 
 /// The region of names that their own declaration hides.

@@ -57,6 +57,18 @@ impl Region {
         self.table.insert(name, entity)?;
         Ok(())
     }
+
+    /// Adds a declaration of an identifier, unless that is declared already.
+    pub(crate) fn declare_name(
+        &mut self,
+        alloc: Global,
+        name: &Identifier,
+        entity: Entity,
+    ) -> Result<(), AllocError>
+        ensures { OnOk result (self.new ≡ declare (key name.now) entity self.old) }
+    {
+        self.declare(key(alloc, name)?, entity)
+    }
 }
 
 /// An identifier in lower case: what identifiers are compared by (RM 2.3).

@@ -1,6 +1,8 @@
 -- Bodies and blocks: declarations and the statements behind them.
 use Rattle.std.proofs.Common.{◌≡◌, ℕ, ◌+◌, ◌<◌, length, take, Bool, true, false, ◌&&◌, List, [], ◌∷◌, ◌++◌, Result, Ok, Err, Option, Some, None, option_map, is_some, refl, sym, ap, ◌∙◌, subst, arith}
 use Rattle.std.specs.List.{list_all}
+use Rattle.std.specs.declared.alloc.Global.{Global}
+use Rattle.std.specs.declared.vec.Vec.{Vec}
 use Rattle.std.specs.Option.{option_and_then}
 use Rattle.std.proofs.lemmas.Bool.{false≢true}
 use Rattle.cov_base.specs.declared.position.Pos.{Pos}
@@ -22,7 +24,7 @@ use Rattle.ada_types.specs.Typing.{Context, Elaborated, of_block, block_of, has_
 use Rattle.ada_types.specs.Rules as rule
 use Rattle.ada_types.specs.Rules.{Construct, Among, here, holds, parts_of_block, sequence_behind, declarations, sequence, statement}
 use Rattle.ada_types.specs.Answer.{Refused}
-use Rattle.ada_types.specs.TypingCode.{SomeRefused, one_of, Passed, Grown, IsBlock, Types, typed_parts}
+use Rattle.ada_types.specs.TypingCode.{SomeRefused, one_of, memory_refused, Passed, Grown, IsBlock, Types, TypesParts, Builds, typed_parts}
 use Rattle.ada_types.proofs.Blame.{breaks, of_some}
 use Rattle.ada_types.proofs.DeclarationLaws.{so_far}
 
@@ -43,6 +45,15 @@ module _ (k : Context) (ds : List Declaration) (ss : Statements) where
     pub a_body : (ys : List tree.Stmt) → typed_statements j ss ≡ Some ys → typed_parts k ds ss ≡ Some (block_of xs ys)
     a_body ys typed = ap (λ o. option_and_then (λ x. option_map (block_of x.declarations) (typed_statements x.context ss)) o) declared
         ∙ ap (λ o. option_map (block_of xs) o) typed
+
+    -- what is made of the answer for the statements
+    pub body_built : (n m : ℕ) (old second third new : Declared) (r : Result (Vec tree.Stmt Global) (Failure TypeFault)) (s : Result tree.Block (Failure TypeFault)) →
+        Builds (λ ys. block_of xs ys.items) r s → Types (λ v. v.items) (typed_statements j ss) m (sequence j ss) second third r →
+        (Passed m second third → Passed (n + m) old new) → TypesParts (λ x. x) (typed_parts k ds ss) (n + m) (parts_of_block k ds ss) old new s
+    body_built n m old second third new (Ok ys) (Ok b) built h past = record { form = a_body ys.items h.form ∙ ap Some (sym built); passed = past h.passed }
+    body_built n m old second third new (Ok ys) (Err f) built h past = subst (λ g. SomeRefused (parts_of_block k ds ss) g) (sym built) memory_refused
+    body_built n m old second third new (Err f) (Ok b) built h past = absurd built
+    body_built n m old second third new (Err f) (Err g) built h past = subst (λ e. SomeRefused (parts_of_block k ds ss) e) (sym built) (in_statements h)
 
 taken : {X : Type 0} (xs ys : List X) → take (length xs) (xs ++ ys) ≡ xs
 taken [] ys = refl

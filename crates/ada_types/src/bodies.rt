@@ -11,7 +11,7 @@ ghost use Rattle.ada_types.specs.Typing as spec;
 ghost use Rattle.ada_types.specs.Rules as rules;
 ghost use Rattle.ada_types.specs.TypingCode.{IsBlock, Types, TypesParts, TypesWays, chosen_in, chosen_of, chosen_view, context, opened, parts_of_branch, typed_parts};
 
-use crate::building::{bare_loop, branch_of, later_loop, while_loop};
+use crate::building::{bare_loop, body_of, branch_of, later_loop, while_loop};
 use crate::context::{Around, Declared, Looping};
 use crate::declarations::typed_declarations;
 use crate::statements::{decision, typed_assignment, typed_call, typed_exit, typed_return};
@@ -52,7 +52,6 @@ fn declarations_of(declarations: &Option<Seq<Declaration>>) -> &[Declaration]
 
 /// An if statement of these branches: the first, the others, and the statements of the else part.
 fn if_statement(
-    alloc: Global,
     label: Label,
     first: ada_tree::Branch,
     mut others: Vec<ada_tree::Branch>,
@@ -60,11 +59,9 @@ fn if_statement(
 ) -> Result<ada_tree::Statement, AllocError>
     ensures { IfOk result (λ s. s ≡ tree.if_statement (label_of label) (spec.branches_of (chosen_of first ∷ chosen_view others) otherwise.items)) }
 {
-    let mut branches = Vec::new(alloc);
-    branches.push(first)?;
-    branches.append(&mut others)?;
+    others.insert(0, first)?;
     Ok(ada_tree::Statement {
-        kind: ada_tree::StatementKind::If(label, branches, otherwise),
+        kind: ada_tree::StatementKind::If(label, others, otherwise),
     })
 }
 
@@ -209,7 +206,7 @@ fn typed_if(
     let label = around.statement_label(pos);
     let first = typed_branch(alloc, around, declared, first)?;
     let (others, otherwise) = typed_ways(alloc, around, declared, others, otherwise)?;
-    Ok(if_statement(alloc, label, first, others, otherwise)?)
+    Ok(if_statement(label, first, others, otherwise)?)
 }
 
 /// A loop (RM 5.5); `for` comes later.
@@ -263,14 +260,10 @@ pub fn typed_body(
     let visible = declared.objects.len();
     declared.locals.open(alloc)?;
     let declarations = typed_declarations(alloc, around, declared, declarations)?;
-    let statements = typed_statements(alloc, around, declared, statements)?;
+    let statements = typed_statements(alloc, around, declared, statements);
     declared.locals.close();
     declared.objects.truncate(visible);
-    Ok(Block {
-        declarations: Seq::from(declarations),
-        statements,
-        handlers: Vec::new(alloc),
-    })
+    body_of(alloc, declarations, statements)
 }
 
 /// A block statement, which has no handlers so far (RM 5.6).

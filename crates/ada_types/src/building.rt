@@ -1,13 +1,15 @@
 //! Statements with statements inside them out of their typed parts: the answer for the last part is taken
-//! as it is, and its refusal is handed on (Ada RM 2012, 5.3, 5.5).
+//! as it is, and its refusal is handed on (Ada RM 2012, 5.3, 5.5, 5.6).
 
 ghost use Rattle.ada_meaning.specs.Tree as tree;
 ghost use Rattle.ada_tree.specs.View.{label_of, statements_of};
-ghost use Rattle.ada_types.specs.TypingCode.{Builds, RefusesLoop, branch_with};
+ghost use Rattle.ada_types.specs.Typing.{block_of};
+ghost use Rattle.ada_types.specs.TypingCode.{Builds, RefusesLoop, branch_with, declarations_view};
 
 use ada_expressions::{TypeFault, mistyped};
-use ada_tree::{Branch, Decision, Label, Statement, StatementKind};
-use cov_base::{Failure, Pos};
+use ada_tree::{Block, Branch, Decision, Declaration, Label, Statement, StatementKind};
+use cov_base::{Failure, Pos, Seq};
+use std::alloc::Global;
 
 /// A loop without an iteration scheme.
 pub fn bare_loop(
@@ -58,5 +60,21 @@ pub fn branch_of(
     Ok(Branch {
         decision,
         statements,
+    })
+}
+
+/// A body of these declarations, which has no handlers.
+pub fn body_of(
+    alloc: Global,
+    declarations: Vec<Declaration>,
+    statements: Result<Vec<Statement>, Failure<TypeFault>>,
+) -> Result<Block, Failure<TypeFault>>
+    ensures { Builds (λ ys. block_of (declarations_view declarations) ys.items) statements result }
+{
+    let statements = statements?;
+    Ok(Block {
+        declarations: Seq::from(declarations),
+        statements,
+        handlers: Vec::new(alloc),
     })
 }

@@ -3,7 +3,7 @@
 ghost use Rattle.std.specs.Prelude.{◌≡◌};
 ghost use Rattle.ada_syntax.specs.StatementTree as source;
 ghost use Rattle.ada_meaning.specs.Tree as tree;
-ghost use Rattle.ada_tree.specs.View.{actuals_of, callee_of, label_of, statement_at, value_of};
+ghost use Rattle.ada_tree.specs.View.{actuals_of, callee_of, label_of, value_of};
 ghost use Rattle.ada_expressions.specs.declared.denoted.Denoted.TheVariants as denotes;
 ghost use Rattle.ada_expressions.specs.Expressions as names;
 ghost use Rattle.ada_expressions.specs.Phrases as phrases;
@@ -216,12 +216,26 @@ pub fn typed_assignment(
     Ok(assigned(around.statement_label(pos), target, value))
 }
 
-/// An exit statement of this form, where there is a loop round it (RM 5.7).
-fn exits(looping: Looping, kind: StatementKind) -> Option<ada_tree::Statement>
-    ensures { result ≡ spec.exits (looping_of looping) (statement_at kind) }
+/// An exit statement, where there is a loop round it (RM 5.7).
+fn exits(looping: Looping, label: Label) -> Option<ada_tree::Statement>
+    ensures { result ≡ spec.exits (looping_of looping) (tree.exit_statement (label_of label)) }
 {
     match looping {
-        Looping::Inside => Some(ada_tree::Statement { kind }),
+        Looping::Inside => Some(ada_tree::Statement {
+            kind: StatementKind::Exit(label),
+        }),
+        Looping::Outside => None,
+    }
+}
+
+/// The same, with a condition.
+fn exits_when(looping: Looping, label: Label, decision: Decision) -> Option<ada_tree::Statement>
+    ensures { result ≡ spec.exits (looping_of looping) (tree.exit_when (label_of label) (label_of decision.label) decision.test) }
+{
+    match looping {
+        Looping::Inside => Some(ada_tree::Statement {
+            kind: StatementKind::ExitWhen(label, decision),
+        }),
         Looping::Outside => None,
     }
 }
@@ -239,10 +253,10 @@ pub fn typed_exit(
 {
     let label = around.statement_label(pos);
     match condition {
-        None => exits(around.looping, StatementKind::Exit(label)).ok_or(mistyped(pos)),
+        None => exits(around.looping, label).ok_or(mistyped(pos)),
         Some(condition) => {
             let decision = decision(alloc, around, declared, condition)?;
-            exits(around.looping, StatementKind::ExitWhen(label, decision)).ok_or(mistyped(pos))
+            exits_when(around.looping, label, decision).ok_or(mistyped(pos))
         }
     }
 }

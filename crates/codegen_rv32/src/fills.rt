@@ -58,10 +58,9 @@ pub(crate) fn put_layout(
 fn put_word(emitter: &mut Emitter, first: u32, number: u32, value: i32) -> Result<(), AllocError>
     ensures { OnOk result (emitter.new ≡ emitter.old ++ layout_lines first number (layout.Word value)) }
 {
-    emitter.load_constant(Reg::a1(), u64::from(value.cast_unsigned()))?;
-    emitter.plain(store(Reg::a0(), Reg::a1(), 0))?;
-    emitter.plain(addi(Reg::a0(), Reg::a0(), 4))?;
-    emitter.plain(back())
+    let (x, y) = (Reg::a0(), Reg::a1());
+    emitter.load_constant(y, u64::from(value.cast_unsigned()))?;
+    emitter.straight(&[store(x, y, 0), addi(x, x, 4), back()])
 }
 
 /// Keeps the address to come back to.
@@ -70,8 +69,8 @@ fn keep_return(emitter: &mut Emitter, number: u32) -> Result<(), AllocError>
     ensures { OnOk result (emitter.new ≡ emitter.old ++ map plain (keep_return number)) }
 {
     let byte = return_byte(number);
-    emitter.plain(lui(far(), high(byte)))?;
-    emitter.plain(store(far(), Reg::ra(), low(byte)))
+    let far = far();
+    emitter.straight(&[lui(far, high(byte)), store(far, Reg::ra(), low(byte))])
 }
 
 /// Goes back there.
@@ -80,9 +79,12 @@ fn go_back(emitter: &mut Emitter, number: u32) -> Result<(), AllocError>
     ensures { OnOk result (emitter.new ≡ emitter.old ++ (map plain (go_back number) ++ (plain (Jalr 0 1 0) ∷ []))) }
 {
     let byte = return_byte(number);
-    emitter.plain(lui(far(), high(byte)))?;
-    emitter.plain(load(Reg::ra(), far(), low(byte)))?;
-    emitter.plain(back())
+    let far = far();
+    emitter.straight(&[
+        lui(far, high(byte)),
+        load(Reg::ra(), far, low(byte)),
+        back(),
+    ])
 }
 
 /// Sets the counter of the components that are left.
@@ -92,9 +94,9 @@ fn set_counter(emitter: &mut Emitter, number: u32, count: u32) -> Result<(), All
         (load_constant 11 count (Upper Lui 5 (high (counter_byte number)) ∷ Store Sw 5 11 (low (counter_byte number)) ∷ []))) }
 {
     let byte = counter_byte(number);
-    emitter.load_constant(Reg::a1(), u64::from(count))?;
-    emitter.plain(lui(far(), high(byte)))?;
-    emitter.plain(store(far(), Reg::a1(), low(byte)))
+    let (y, far) = (Reg::a1(), far());
+    emitter.load_constant(y, u64::from(count))?;
+    emitter.straight(&[lui(far, high(byte)), store(far, y, low(byte))])
 }
 
 /// Leaves the loop where no component is left, and else counts one.
@@ -105,12 +107,10 @@ fn count_down(emitter: &mut Emitter, number: u32) -> Result<(), AllocError>
         ++ (branch steers Beq 11 0 13 ∷ map plain (Immediate Addi 11 11 0xfff ∷ Store Sw 5 11 (low (counter_byte number)) ∷ [])))) }
 {
     let byte = counter_byte(number);
-    let y = Reg::a1();
-    emitter.plain(lui(far(), high(byte)))?;
-    emitter.plain(load(y, far(), low(byte)))?;
+    let (y, far) = (Reg::a1(), far());
+    emitter.straight(&[lui(far, high(byte)), load(y, far, low(byte))])?;
     emitter.branch(Said::Steers, BranchOp::Beq, y, Reg::zero(), 13)?;
-    emitter.plain(addi(y, y, 0xfff))?;
-    emitter.plain(store(far(), y, low(byte)))
+    emitter.straight(&[addi(y, y, 0xfff), store(far, y, low(byte))])
 }
 
 /// A call of the piece of another layout.

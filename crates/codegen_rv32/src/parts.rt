@@ -122,8 +122,7 @@ fn load_truth(emitter: &mut Emitter, slot: Slot) -> Result<(), AllocError>
 {
     let x = Reg::a0();
     emitter.load_slot(x, slot)?;
-    emitter.plain(addi(x, x, 0xfff))?;
-    emitter.plain(immediate(ImmediateOp::Sltiu, x, x, 1))
+    emitter.straight(&[addi(x, x, 0xfff), immediate(ImmediateOp::Sltiu, x, x, 1)])
 }
 
 /// The branch of a condition, which is taken where the condition's slot holds True.
@@ -167,9 +166,9 @@ fn check_depth(emitter: &mut Emitter, raise_to: u32, place: u32) -> Result<(), A
     ensures { OnOk result (emitter.new ≡ emitter.old ++ (map plain (Upper Lui 13 0x1fc0 ∷ Immediate Addi 12 0 3 ∷ []) ++
         (branch checks Bne 2 13 (place + 4) ∷ (jump raise_to ∷ [])))) }
 {
-    emitter.plain(lui(a3(), 0x1fc0))?;
-    emitter.plain(addi(exception(), Reg::zero(), 3))?;
-    emitter.check(raise_to, BranchOp::Bne, Reg::sp(), a3(), further(place, 4)?)
+    let lowest = a3();
+    emitter.straight(&[lui(lowest, 0x1fc0), addi(exception(), Reg::zero(), 3)])?;
+    emitter.check_past(raise_to, BranchOp::Bne, Reg::sp(), lowest, place, 4)
 }
 
 /// Goes on where no exception came back from a call, and else where exceptions lead.
@@ -205,8 +204,8 @@ pub(crate) fn put_call(
 pub(crate) fn enter_body(emitter: &mut Emitter) -> Result<(), AllocError>
     ensures { OnOk result (emitter.new ≡ emitter.old ++ map plain (Immediate Addi 2 2 0xffc ∷ Store Sw 2 1 0 ∷ [])) }
 {
-    emitter.plain(addi(Reg::sp(), Reg::sp(), 0xffc))?;
-    emitter.plain(store(Reg::sp(), Reg::ra(), 0))
+    let sp = Reg::sp();
+    emitter.straight(&[addi(sp, sp, 0xffc), store(sp, Reg::ra(), 0)])
 }
 
 /// The last lines of a body.
@@ -215,10 +214,13 @@ pub(crate) fn leave_body(emitter: &mut Emitter) -> Result<(), AllocError>
     ensures { OnOk result (emitter.new ≡ emitter.old ++ (map plain
         (Immediate Addi 12 0 0 ∷ Load Lw 1 2 0 ∷ Immediate Addi 2 2 4 ∷ []) ++ (plain (Jalr 0 1 0) ∷ []))) }
 {
-    emitter.plain(addi(exception(), Reg::zero(), 0))?;
-    emitter.plain(load(Reg::ra(), Reg::sp(), 0))?;
-    emitter.plain(addi(Reg::sp(), Reg::sp(), 4))?;
-    emitter.plain(back())
+    let sp = Reg::sp();
+    emitter.straight(&[
+        addi(exception(), Reg::zero(), 0),
+        load(Reg::ra(), sp, 0),
+        addi(sp, sp, 4),
+        back(),
+    ])
 }
 
 /// Sets the frame and the return addresses of the first call.
@@ -235,8 +237,10 @@ fn enter_start(emitter: &mut Emitter) -> Result<(), AllocError>
 fn end_run(emitter: &mut Emitter) -> Result<(), AllocError>
     ensures { OnOk result (emitter.new ≡ emitter.old ++ (map plain (Immediate Addi 10 12 0 ∷ Immediate Addi 17 0 3 ∷ []) ++ (plain Ecall ∷ []))) }
 {
-    emitter.plain(addi(Reg::a0(), exception(), 0))?;
-    emitter.plain(addi(Reg::a7(), Reg::zero(), 3))?;
+    emitter.straight(&[
+        addi(Reg::a0(), exception(), 0),
+        addi(Reg::a7(), Reg::zero(), 3),
+    ])?;
     emitter.plain(Instr::Ecall)
 }
 

@@ -12,12 +12,19 @@ ghost use Rattle.kernel_code.specs.Line.{plain, jump, checks};
 ghost use Rattle.kernel_code.specs.Words.{high, low, load_slot, store_slot, load_constant};
 ghost use Rattle.kernel_code.specs.SimpleCode.{branch, checked, operate_front, operate_test, operate_back, raising, compare_bounds};
 
-use crate::emitter::{Emitter, further};
+use crate::emitter::Emitter;
 use crate::instructions::{a3, a4, addi, exception, immediate, lui, register, shift};
-use crate::line::Said;
 use kernel_ir::{Operator, Slot};
-use rv_isa::{BranchOp, ImmediateOp, Reg, RegisterOp, ShiftOp};
+use rv_isa::{BranchOp, ImmediateOp, Instr, Reg, RegisterOp, ShiftOp};
 use std::alloc::AllocError;
+
+/// What sets the number of the exception that a check raises.
+pub(crate) fn raises(number: u16) -> Instr
+    requires { number < 2 ^ 12 }
+    ensures { result ≡ Immediate Addi 12 0 number }
+{
+    addi(exception(), Reg::zero(), number)
+}
 
 impl Emitter {
     /// The number of the exception that a check raises.
@@ -26,7 +33,7 @@ impl Emitter {
         requires { number < 2 ^ 12 }
         ensures { OnOk result (self.new ≡ self.old ++ map plain (raising number)) }
     {
-        self.plain(addi(exception(), Reg::zero(), number))
+        self.plain(raises(number))
     }
 
     /// `x13` is 0 where `x11` lies between two numbers, and `x10` is the lower one.
@@ -34,13 +41,15 @@ impl Emitter {
     pub(crate) fn compare_bounds(&mut self, lower: i32, upper: i32) -> Result<(), AllocError>
         ensures { OnOk result (self.new ≡ self.old ++ map plain (compare_bounds lower upper)) }
     {
-        let (x, y) = (Reg::a0(), Reg::a1());
+        let (x, y, below, above) = (Reg::a0(), Reg::a1(), a3(), a4());
         self.load_constant(x, u64::from(lower.cast_unsigned()))?;
-        self.load_constant(a4(), u64::from(upper.cast_unsigned()))?;
-        self.plain(register(RegisterOp::Slt, a3(), y, x))?;
-        self.plain(register(RegisterOp::Slt, a4(), a4(), y))?;
-        self.plain(register(RegisterOp::Add, a3(), a3(), a4()))?;
-        self.raising(1)
+        self.load_constant(above, u64::from(upper.cast_unsigned()))?;
+        self.straight(&[
+            register(RegisterOp::Slt, below, y, x),
+            register(RegisterOp::Slt, above, above, y),
+            register(RegisterOp::Add, below, below, above),
+            raises(1),
+        ])
     }
 
     /// The check of a range.
@@ -58,13 +67,7 @@ impl Emitter {
     {
         self.load_slot(Reg::a1(), slot)?;
         self.compare_bounds(lower, upper)?;
-        self.check(
-            raise_to,
-            BranchOp::Beq,
-            a3(),
-            Reg::zero(),
-            further(place, 13)?,
-        )
+        self.check_past(raise_to, BranchOp::Beq, a3(), Reg::zero(), place, 13)
     }
 
     /// How far a component lies behind the first one.
@@ -82,20 +85,31 @@ impl Emitter {
         ensures { OnOk result (self.new ≡ self.old ++ checked raise_to place (load_slot 11 from (compare_bounds lower upper)) Beq 13 0
             (Register registers.Sub 11 11 10 ∷ load_constant 13 size (Register registers.Mul 11 11 13 ∷ store_slot 11 to []))) }
     {
-        let y = Reg::a1();
-        self.load_slot(y, from)?;
-        self.compare_bounds(lower, upper)?;
-        self.check(
-            raise_to,
-            BranchOp::Beq,
-            a3(),
-            Reg::zero(),
-            further(place, 13)?,
-        )?;
+        self.within(raise_to, place, from, lower, upper)?;
+        self.scale(size, to)
+    }
+
+    /// A slot gets so many times the difference of `x11` and `x10`.
+    #[tactic(auto, using(crate::proofs::Lines::lines_assoc))]
+    fn scale(&mut self, size: u32, to: Slot) -> Result<(), AllocError>
+        ensures { OnOk result (self.new ≡ self.old ++ map plain
+            (Register registers.Sub 11 11 10 ∷ load_constant 13 size (Register registers.Mul 11 11 13 ∷ store_slot 11 to []))) }
+    {
+        let (y, factor) = (Reg::a1(), a3());
         self.plain(register(RegisterOp::Sub, y, y, Reg::a0()))?;
-        self.load_constant(a3(), u64::from(size))?;
-        self.plain(register(RegisterOp::Mul, y, y, a3()))?;
+        self.load_constant(factor, u64::from(size))?;
+        self.plain(register(RegisterOp::Mul, y, y, factor))?;
         self.store_slot(y, to)
+    }
+
+    /// The check of a sum, a difference or a product, and a slot gets it.
+    #[tactic(auto, using(crate::proofs::Lines::lines_assoc))]
+    fn check_result(&mut self, raise_to: u32, place: u32, to: Slot) -> Result<(), AllocError>
+        ensures { OnOk result (self.new ≡ self.old ++ branch checks Beq 13 11 (place + 12) ∷ jump raise_to
+            ∷ map plain (store_slot 14 to [])) }
+    {
+        self.check_past(raise_to, BranchOp::Beq, a3(), Reg::a1(), place, 12)?;
+        self.store_slot(a4(), to)
     }
 
     /// The sum of `x10` and `x11`.
@@ -105,13 +119,14 @@ impl Emitter {
             (branch checks (operate_test operators.Add).op (operate_test operators.Add).left (operate_test operators.Add).right
             (place + 12) ∷ jump raise_to ∷ map plain (operate_back operators.Add (store_slot 14 to []))))) }
     {
-        let (x, y) = (Reg::a0(), Reg::a1());
-        self.plain(register(RegisterOp::Add, a4(), x, y))?;
-        self.plain(register(RegisterOp::Slt, a3(), a4(), x))?;
-        self.plain(immediate(ImmediateOp::Slti, y, y, 0))?;
-        self.raising(1)?;
-        self.check(raise_to, BranchOp::Beq, a3(), y, further(place, 12)?)?;
-        self.store_slot(a4(), to)
+        let (x, y, sum) = (Reg::a0(), Reg::a1(), a4());
+        self.straight(&[
+            register(RegisterOp::Add, sum, x, y),
+            register(RegisterOp::Slt, a3(), sum, x),
+            immediate(ImmediateOp::Slti, y, y, 0),
+            raises(1),
+        ])?;
+        self.check_result(raise_to, place, to)
     }
 
     /// The difference of `x10` and `x11`.
@@ -122,13 +137,14 @@ impl Emitter {
             (operate_test operators.Subtract).right (place + 12) ∷ jump raise_to ∷ map plain
             (operate_back operators.Subtract (store_slot 14 to []))))) }
     {
-        let (x, y) = (Reg::a0(), Reg::a1());
-        self.plain(register(RegisterOp::Sub, a4(), x, y))?;
-        self.plain(register(RegisterOp::Slt, a3(), a4(), x))?;
-        self.plain(register(RegisterOp::Slt, y, Reg::zero(), y))?;
-        self.raising(1)?;
-        self.check(raise_to, BranchOp::Beq, a3(), y, further(place, 12)?)?;
-        self.store_slot(a4(), to)
+        let (x, y, difference) = (Reg::a0(), Reg::a1(), a4());
+        self.straight(&[
+            register(RegisterOp::Sub, difference, x, y),
+            register(RegisterOp::Slt, a3(), difference, x),
+            register(RegisterOp::Slt, y, Reg::zero(), y),
+            raises(1),
+        ])?;
+        self.check_result(raise_to, place, to)
     }
 
     /// The product of `x10` and `x11`.
@@ -139,13 +155,14 @@ impl Emitter {
             (operate_test operators.Multiply).right (place + 12) ∷ jump raise_to ∷ map plain
             (operate_back operators.Multiply (store_slot 14 to []))))) }
     {
-        let (x, y) = (Reg::a0(), Reg::a1());
-        self.plain(register(RegisterOp::Mul, a4(), x, y))?;
-        self.plain(register(RegisterOp::Mulh, a3(), x, y))?;
-        self.plain(shift(ShiftOp::Srai, y, a4(), 31))?;
-        self.raising(1)?;
-        self.check(raise_to, BranchOp::Beq, a3(), y, further(place, 12)?)?;
-        self.store_slot(a4(), to)
+        let (x, y, product) = (Reg::a0(), Reg::a1(), a4());
+        self.straight(&[
+            register(RegisterOp::Mul, product, x, y),
+            register(RegisterOp::Mulh, a3(), x, y),
+            shift(ShiftOp::Srai, y, product, 31),
+            raises(1),
+        ])?;
+        self.check_result(raise_to, place, to)
     }
 
     /// The quotient of `x10` and `x11`.
@@ -156,27 +173,23 @@ impl Emitter {
             (operate_test operators.Divide).right (place + 17) ∷ jump raise_to ∷ map plain
             (operate_back operators.Divide (store_slot 14 to [])))) }
     {
-        let (x, y) = (Reg::a0(), Reg::a1());
+        let (x, y, passes, part) = (Reg::a0(), Reg::a1(), a3(), a4());
+        let zero = Reg::zero();
         self.straight(&[
-            lui(a3(), 0x8_0000),
-            register(RegisterOp::Sub, a3(), x, a3()),
-            register(RegisterOp::Sltu, a3(), Reg::zero(), a3()),
-            addi(a4(), y, 1),
-            register(RegisterOp::Sltu, a4(), Reg::zero(), a4()),
-            register(RegisterOp::Add, a3(), a3(), a4()),
-            register(RegisterOp::Sltu, a4(), Reg::zero(), y),
-            register(RegisterOp::Mul, a3(), a3(), a4()),
+            lui(passes, 0x8_0000),
+            register(RegisterOp::Sub, passes, x, passes),
+            register(RegisterOp::Sltu, passes, zero, passes),
+            addi(part, y, 1),
+            register(RegisterOp::Sltu, part, zero, part),
+            register(RegisterOp::Add, passes, passes, part),
+            register(RegisterOp::Sltu, part, zero, y),
+            register(RegisterOp::Mul, passes, passes, part),
+            raises(1),
         ])?;
-        self.raising(1)?;
-        self.check(
-            raise_to,
-            BranchOp::Bne,
-            a3(),
-            Reg::zero(),
-            further(place, 17)?,
-        )?;
-        self.plain(register(RegisterOp::Div, a4(), x, y))?;
-        self.store_slot(a4(), to)
+        self.check_past(raise_to, BranchOp::Bne, passes, zero, place, 17)?;
+        let quotient = part;
+        self.plain(register(RegisterOp::Div, quotient, x, y))?;
+        self.store_slot(quotient, to)
     }
 
     /// The modulus of `x10` and `x11`.
@@ -187,17 +200,17 @@ impl Emitter {
             (operate_test operators.Modulo).right (place + 9) ∷ jump raise_to ∷ map plain
             (operate_back operators.Modulo (store_slot 14 to [])))) }
     {
-        let (x, y) = (Reg::a0(), Reg::a1());
+        let (x, y, more, modulus) = (Reg::a0(), Reg::a1(), a3(), a4());
         self.raising(1)?;
-        self.check(raise_to, BranchOp::Bne, y, Reg::zero(), further(place, 9)?)?;
+        self.check_past(raise_to, BranchOp::Bne, y, Reg::zero(), place, 9)?;
         self.straight(&[
-            register(RegisterOp::Rem, a4(), x, y),
-            register(RegisterOp::Mulh, a3(), a4(), y),
-            immediate(ImmediateOp::Slti, a3(), a3(), 0),
-            register(RegisterOp::Mul, a3(), a3(), y),
-            register(RegisterOp::Add, a4(), a4(), a3()),
+            register(RegisterOp::Rem, modulus, x, y),
+            register(RegisterOp::Mulh, more, modulus, y),
+            immediate(ImmediateOp::Slti, more, more, 0),
+            register(RegisterOp::Mul, more, more, y),
+            register(RegisterOp::Add, modulus, modulus, more),
         ])?;
-        self.store_slot(a4(), to)
+        self.store_slot(modulus, to)
     }
 
     /// The remainder of `x10` and `x11`.
@@ -213,11 +226,11 @@ impl Emitter {
             (operate_test operators.Remainder).right (place + 9) ∷ jump raise_to ∷ map plain
             (operate_back operators.Remainder (store_slot 14 to []))))) }
     {
-        let (x, y) = (Reg::a0(), Reg::a1());
+        let (y, remainder) = (Reg::a1(), a4());
         self.raising(1)?;
-        self.check(raise_to, BranchOp::Bne, y, Reg::zero(), further(place, 9)?)?;
-        self.plain(register(RegisterOp::Rem, a4(), x, y))?;
-        self.store_slot(a4(), to)
+        self.check_past(raise_to, BranchOp::Bne, y, Reg::zero(), place, 9)?;
+        self.plain(register(RegisterOp::Rem, remainder, Reg::a0(), y))?;
+        self.store_slot(remainder, to)
     }
 
     /// The check that `x11` is not the least word.
@@ -226,9 +239,8 @@ impl Emitter {
         ensures { OnOk result (self.new ≡ self.old ++ (map plain (Upper Lui 13 0x80000 ∷ raising 1) ++
             (branch checks Bne 11 13 (place + 7) ∷ jump raise_to ∷ []))) }
     {
-        self.plain(lui(a3(), 0x8_0000))?;
-        self.raising(1)?;
-        self.check(raise_to, BranchOp::Bne, Reg::a1(), a3(), further(place, 7)?)
+        self.straight(&[lui(a3(), 0x8_0000), raises(1)])?;
+        self.check_past(raise_to, BranchOp::Bne, Reg::a1(), a3(), place, 7)
     }
 
     /// A slot gets the opposite of `x11`.
@@ -247,13 +259,13 @@ impl Emitter {
             (Immediate Slti 13 11 0 ∷ Register registers.Add 13 13 13 ∷ Immediate Addi 14 0 1 ∷ Register registers.Sub 14 14 13
             ∷ Register registers.Mul 11 11 14 ∷ [])) }
     {
-        let y = Reg::a1();
+        let (y, twice, sign) = (Reg::a1(), a3(), a4());
         self.straight(&[
-            immediate(ImmediateOp::Slti, a3(), y, 0),
-            register(RegisterOp::Add, a3(), a3(), a3()),
-            addi(a4(), Reg::zero(), 1),
-            register(RegisterOp::Sub, a4(), a4(), a3()),
-            register(RegisterOp::Mul, y, y, a4()),
+            immediate(ImmediateOp::Slti, twice, y, 0),
+            register(RegisterOp::Add, twice, twice, twice),
+            addi(sign, Reg::zero(), 1),
+            register(RegisterOp::Sub, sign, sign, twice),
+            register(RegisterOp::Mul, y, y, sign),
         ])
     }
 

@@ -1,7 +1,7 @@
 //! An emitter: the lines of a piece so far.
 
 ghost use Rattle.std.specs.Prelude.{◌≡◌, ◌+◌, ◌^◌, ◌<◌, ◌++◌, List, [], ◌∷◌, map, IfOk, OnOk};
-ghost use Rattle.kernel_code.specs.Line.{Line as CodeLine, plain, jump, checks};
+ghost use Rattle.kernel_code.specs.Line.{Line as CodeLine, plain, jump, checks, steers};
 ghost use Rattle.kernel_code.specs.SimpleCode.{branch, call_piece};
 ghost use Rattle.kernel_code.specs.Words.{load_slot, store_slot, load_constant};
 ghost use Rattle.kernel_code.specs.View.{said_of, lines_of};
@@ -143,6 +143,37 @@ impl Emitter {
     {
         self.branch(Said::Checks, op, rs1, rs2, past)?;
         self.jump(raise_to)
+    }
+
+    /// The same, where it goes on so many lines behind a place.
+    pub fn check_past(
+        &mut self,
+        raise_to: u32,
+        op: BranchOp,
+        rs1: Reg,
+        rs2: Reg,
+        place: u32,
+        lines: u32,
+    ) -> Result<(), AllocError>
+        ensures { OnOk result (self.new ≡ self.old ++ branch checks op rs1 rs2 (place + lines) ∷ jump raise_to ∷ []) }
+    {
+        let past = further(place, lines)?;
+        self.check(raise_to, op, rs1, rs2, past)
+    }
+
+    /// A branch that steers code of its operation, to so many lines behind a place.
+    pub(crate) fn steer_past(
+        &mut self,
+        op: BranchOp,
+        rs1: Reg,
+        rs2: Reg,
+        place: u32,
+        lines: u32,
+    ) -> Result<(), AllocError>
+        ensures { OnOk result (self.new ≡ self.old ++ branch steers op rs1 rs2 (place + lines) ∷ []) }
+    {
+        let past = further(place, lines)?;
+        self.branch(Said::Steers, op, rs1, rs2, past)
     }
 }
 

@@ -14,7 +14,6 @@ ghost use Rattle.kernel_code.specs.SimpleCode.{branch, call_piece, checked, rais
 
 use crate::emitter::{Emitter, further};
 use crate::instructions::{a3, a4, addi, high, load, low, lui, register, shift, store};
-use crate::line::Said;
 use kernel_ir::Slot;
 use rv_isa::{BranchOp, Reg, RegisterOp, ShiftOp};
 use std::alloc::AllocError;
@@ -47,9 +46,12 @@ impl Emitter {
     pub(crate) fn measure(&mut self, words: u64) -> Result<(), AllocError>
         ensures { OnOk result (self.new ≡ self.old ++ map plain (measure words)) }
     {
-        self.plain(lui(a3(), 0x400))?;
-        self.plain(register(RegisterOp::Sub, Reg::a1(), Reg::a0(), a3()))?;
-        self.load_constant(a3(), AREA_WORDS_AND_ONE.saturating_sub(words))?;
+        let area = a3();
+        self.straight(&[
+            lui(area, 0x400),
+            register(RegisterOp::Sub, Reg::a1(), Reg::a0(), area),
+        ])?;
+        self.load_constant(area, AREA_WORDS_AND_ONE.saturating_sub(words))?;
         self.raising(2)
     }
 
@@ -60,8 +62,8 @@ impl Emitter {
             (Upper Lui 10 (high (library_byte word)) ∷ Load Lw 10 10 (low (library_byte word)) ∷ store_slot 10 to [])) }
     {
         let x = Reg::a0();
-        self.plain(lui(x, high(library_byte(word))))?;
-        self.plain(load(x, x, low(library_byte(word))))?;
+        let byte = library_byte(word);
+        self.straight(&[lui(x, high(byte)), load(x, x, low(byte))])?;
         self.store_slot(x, to)
     }
 
@@ -71,10 +73,10 @@ impl Emitter {
         ensures { OnOk result (self.new ≡ self.old ++ map plain
             (load_slot 11 from (Upper Lui 10 (high (library_byte word)) ∷ Store Sw 10 11 (low (library_byte word)) ∷ []))) }
     {
-        let x = Reg::a0();
-        self.load_slot(Reg::a1(), from)?;
-        self.plain(lui(x, high(library_byte(word))))?;
-        self.plain(store(x, Reg::a1(), low(library_byte(word))))
+        let (x, y) = (Reg::a0(), Reg::a1());
+        let byte = library_byte(word);
+        self.load_slot(y, from)?;
+        self.straight(&[lui(x, high(byte)), store(x, y, low(byte))])
     }
 
     /// The loop that copies `x13` words from `x10` on to `x11` on.
@@ -82,20 +84,14 @@ impl Emitter {
     pub(crate) fn copy_loop(&mut self, place: u32) -> Result<(), AllocError>
         ensures { OnOk result (self.new ≡ self.old ++ copy_loop place) }
     {
-        let (x, y) = (Reg::a0(), Reg::a1());
-        self.branch(
-            Said::Steers,
-            BranchOp::Beq,
-            a3(),
-            Reg::zero(),
-            further(place, 7)?,
-        )?;
+        let (x, y, left, word) = (Reg::a0(), Reg::a1(), a3(), a4());
+        self.steer_past(BranchOp::Beq, left, Reg::zero(), place, 7)?;
         self.straight(&[
-            load(a4(), x, 0),
-            store(y, a4(), 0),
+            load(word, x, 0),
+            store(y, word, 0),
             addi(x, x, 4),
             addi(y, y, 4),
-            addi(a3(), a3(), 0xfff),
+            addi(left, left, 0xfff),
         ])?;
         self.jump(place)
     }
@@ -107,13 +103,7 @@ impl Emitter {
             (branch checks Bltu 11 13 (place + 10) ∷ jump raise_to ∷ []))) }
     {
         self.measure(words)?;
-        self.check(
-            raise_to,
-            BranchOp::Bltu,
-            Reg::a1(),
-            a3(),
-            further(place, 10)?,
-        )
+        self.check_past(raise_to, BranchOp::Bltu, Reg::a1(), a3(), place, 10)
     }
 
     /// The check of the words that are to be read or written.
@@ -136,8 +126,7 @@ impl Emitter {
         ensures { OnOk result (self.new ≡ self.old ++ map plain (Shift shifts.Slli 10 10 2 ∷ Load Lw 10 10 0 ∷ store_slot 10 to [])) }
     {
         let x = Reg::a0();
-        self.plain(shift(ShiftOp::Slli, x, x, 2))?;
-        self.plain(load(x, x, 0))?;
+        self.straight(&[shift(ShiftOp::Slli, x, x, 2), load(x, x, 0)])?;
         self.store_slot(x, to)
     }
 
@@ -201,6 +190,18 @@ impl Emitter {
         self.load_constant(a3(), u64::from(words))
     }
 
+    /// `x11` gets the address in `x10`, and `x10` that in a slot, both in bytes; `x13` gets how many words are
+    /// to be copied.
+    fn set_copy(&mut self, from: Slot, words: u32) -> Result<(), AllocError>
+        ensures { OnOk result (self.new ≡ self.old ++ map plain
+            (Shift shifts.Slli 11 10 2 ∷ load_slot 10 from (Shift shifts.Slli 10 10 2 ∷ load_constant 13 words []))) }
+    {
+        self.set_goal()?;
+        self.load_left(from)?;
+        self.in_bytes()?;
+        self.set_count(words)
+    }
+
     /// Words from one address on get those from another on.
     pub(crate) fn copy(
         &mut self,
@@ -220,10 +221,7 @@ impl Emitter {
         let count = word_count(words);
         self.check_words(raise_to, place, from, count)?;
         self.check_words(raise_to, second, to, count)?;
-        self.set_goal()?;
-        self.load_left(from)?;
-        self.in_bytes()?;
-        self.set_count(words)?;
+        self.set_copy(from, words)?;
         self.copy_loop(turn)
     }
 

@@ -12,6 +12,7 @@ ghost use Rattle.kernel_code.specs.Line.{starts, plain, jump, checks, steers};
 ghost use Rattle.kernel_code.specs.Words.{high, low, load_slot, store_slot, load_constant};
 ghost use Rattle.kernel_code.specs.SimpleCode.{branch, raising, simple_lines};
 
+use crate::arithmetic::raises;
 use crate::emitter::{Emitter, further};
 use crate::frame::Frame;
 use crate::instructions::{a3, a4, addi, exception, high, low};
@@ -30,9 +31,7 @@ impl Emitter {
         ensures { OnOk result (self.new ≡ self.old ++ (map plain (Immediate Addi 12 0 4 ∷ Immediate Addi 17 0 1 ∷ []) ++
             (plain Ecall ∷ []))) }
     {
-        self.raising(4)?;
-        self.plain(addi(Reg::a7(), Reg::zero(), 1))?;
-        self.plain(Instr::Ecall)
+        self.straight(&[raises(4), addi(Reg::a7(), Reg::zero(), 1), Instr::Ecall])
     }
 
     /// The check that there was one.
@@ -40,20 +39,7 @@ impl Emitter {
     fn check_input(&mut self, raise_to: u32, place: u32) -> Result<(), AllocError>
         ensures { OnOk result (self.new ≡ self.old ++ branch checks Beq 11 0 (place + 5) ∷ jump raise_to ∷ []) }
     {
-        self.check(
-            raise_to,
-            BranchOp::Beq,
-            Reg::a1(),
-            Reg::zero(),
-            further(place, 5)?,
-        )
-    }
-
-    /// A slot gets `x10`.
-    fn store_left(&mut self, to: Slot) -> Result<(), AllocError>
-        ensures { OnOk result (self.new ≡ self.old ++ map plain (store_slot 10 to [])) }
-    {
-        self.store_slot(Reg::a0(), to)
+        self.check_past(raise_to, BranchOp::Beq, Reg::a1(), Reg::zero(), place, 5)
     }
 
     /// The next word of the input.
@@ -72,8 +58,7 @@ impl Emitter {
         ensures { OnOk result (self.new ≡ self.old ++ (map plain (load_slot 10 from (Immediate Addi 17 0 2 ∷ [])) ++ (plain Ecall ∷ []))) }
     {
         self.load_slot(Reg::a0(), from)?;
-        self.plain(addi(Reg::a7(), Reg::zero(), 2))?;
-        self.plain(Instr::Ecall)
+        self.straight(&[addi(Reg::a7(), Reg::zero(), 2), Instr::Ecall])
     }
 
     /// Raises an exception.
@@ -98,12 +83,22 @@ impl Emitter {
             (load_slot 12 slot (Immediate Addi 13 12 0xfff ∷ load_constant 14 exceptions []))
             ++ (branch steers Bltu 13 14 (place + 8) ∷ (plain (Immediate Addi 12 0 2) ∷ (jump raise_to ∷ []))))) }
     {
-        self.load_slot(exception(), slot)?;
-        self.plain(addi(a3(), exception(), 0xfff))?;
-        self.load_constant(a4(), u64::from(exceptions))?;
-        self.branch(Said::Steers, BranchOp::Bltu, a3(), a4(), further(place, 8)?)?;
-        self.plain(addi(exception(), Reg::zero(), 2))?;
+        self.bound_exception(slot, exceptions)?;
+        self.steer_past(BranchOp::Bltu, a3(), a4(), place, 8)?;
+        self.plain(raises(2))?;
         self.jump(raise_to)
+    }
+
+    /// The number of the exception in a slot, and what it has to be below.
+    #[tactic(auto, using(crate::proofs::Lines::lines_assoc))]
+    fn bound_exception(&mut self, slot: Slot, exceptions: u32) -> Result<(), AllocError>
+        ensures { OnOk result (self.new ≡ self.old ++ map plain
+            (load_slot 12 slot (Immediate Addi 13 12 0xfff ∷ load_constant 14 exceptions []))) }
+    {
+        let number = exception();
+        self.load_slot(number, slot)?;
+        self.plain(addi(a3(), number, 0xfff))?;
+        self.load_constant(a4(), u64::from(exceptions))
     }
 
     /// The line that is executed once for each start of a statement.

@@ -12,7 +12,6 @@ ghost use Rattle.kernel_code.specs.SimpleCode.{relate};
 
 use crate::emitter::Emitter;
 use crate::instructions::{addi, immediate, register};
-use crate::line::Said;
 use kernel_ir::{Relation, Slot};
 use rv_isa::{ImmediateOp, Reg, RegisterOp};
 use std::alloc::AllocError;
@@ -36,42 +35,36 @@ impl Emitter {
         self.store_slot(Reg::a0(), to)
     }
 
+    /// `x10` gets 1 where it and `x11` are in a relation, and else 0.
+    fn relate_words(&mut self, relation: Relation) -> Result<(), AllocError>
+        ensures { OnOk result (self.new ≡ self.old ++ map plain (relate relation [])) }
+    {
+        let (x, y) = (Reg::a0(), Reg::a1());
+        let difference = register(RegisterOp::Sub, x, x, y);
+        let less = register(RegisterOp::Slt, x, x, y);
+        let greater = register(RegisterOp::Slt, x, y, x);
+        let opposite = immediate(ImmediateOp::Xori, x, x, 1);
+        match relation {
+            Relation::Equal => {
+                self.straight(&[difference, immediate(ImmediateOp::Sltiu, x, x, 1)])
+            }
+            Relation::Unequal => {
+                self.straight(&[difference, register(RegisterOp::Sltu, x, Reg::zero(), x)])
+            }
+            Relation::Less => self.plain(less),
+            Relation::AtMost => self.straight(&[greater, opposite]),
+            Relation::Greater => self.plain(greater),
+            Relation::AtLeast => self.straight(&[less, opposite]),
+        }
+    }
+
     /// 1 where `x10` and `x11` are in a relation, and else 0.
     #[tactic(auto, using(crate::proofs::Lines::lines_assoc))]
     pub(crate) fn relate(&mut self, relation: Relation, to: Slot) -> Result<(), AllocError>
         ensures { OnOk result (self.new ≡ self.old ++ map plain (relate relation (store_slot 10 to []))) }
     {
-        let (x, y) = (Reg::a0(), Reg::a1());
-        match relation {
-            Relation::Equal => {
-                self.plain(register(RegisterOp::Sub, x, x, y))?;
-                self.plain(immediate(ImmediateOp::Sltiu, x, x, 1))?;
-                self.store_slot(x, to)
-            }
-            Relation::Unequal => {
-                self.plain(register(RegisterOp::Sub, x, x, y))?;
-                self.plain(register(RegisterOp::Sltu, x, Reg::zero(), x))?;
-                self.store_slot(x, to)
-            }
-            Relation::Less => {
-                self.plain(register(RegisterOp::Slt, x, x, y))?;
-                self.store_slot(x, to)
-            }
-            Relation::AtMost => {
-                self.plain(register(RegisterOp::Slt, x, y, x))?;
-                self.plain(immediate(ImmediateOp::Xori, x, x, 1))?;
-                self.store_slot(x, to)
-            }
-            Relation::Greater => {
-                self.plain(register(RegisterOp::Slt, x, y, x))?;
-                self.store_slot(x, to)
-            }
-            Relation::AtLeast => {
-                self.plain(register(RegisterOp::Slt, x, x, y))?;
-                self.plain(immediate(ImmediateOp::Xori, x, x, 1))?;
-                self.store_slot(x, to)
-            }
-        }
+        self.relate_words(relation)?;
+        self.store_left(to)
     }
 
     /// 1 where two slots are in a relation, and else 0.
@@ -110,8 +103,10 @@ impl Emitter {
             (Immediate Addi 10 10 0xfff ∷ Register registers.Sltu 10 0 10 ∷ store_slot 10 to [])) }
     {
         let x = Reg::a0();
-        self.plain(addi(x, x, 0xfff))?;
-        self.plain(register(RegisterOp::Sltu, x, Reg::zero(), x))?;
+        self.straight(&[
+            addi(x, x, 0xfff),
+            register(RegisterOp::Sltu, x, Reg::zero(), x),
+        ])?;
         self.store_slot(x, to)
     }
 
@@ -137,6 +132,13 @@ impl Emitter {
         ensures { OnOk result (self.new ≡ self.old ++ map plain (load_slot 11 slot [])) }
     {
         self.load_slot(Reg::a1(), slot)
+    }
+
+    /// A slot gets `x10`.
+    pub(crate) fn store_left(&mut self, to: Slot) -> Result<(), AllocError>
+        ensures { OnOk result (self.new ≡ self.old ++ map plain (store_slot 10 to [])) }
+    {
+        self.store_slot(Reg::a0(), to)
     }
 
     /// A slot gets the sum of `x10` and `x11`, which wraps.

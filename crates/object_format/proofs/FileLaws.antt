@@ -73,7 +73,7 @@ HasFile-from_spelling o fits = record {
     instances = countable instance_entry InstanceFits (λ i h. h.0.0) o.obligations.instances fits.1.1.1.0.0;
     exceptions = countable string IsCountable (λ e h. h.0) o.obligations.exceptions fits.1.1.1.0.1.0;
     statements = fits.1.1.1.0.1.1.0.0;
-    decisions = countable decision_entry DecisionFits (λ d h. (h.1.1.1.1.1.0.1, h.1.1.1.1.1.0.0)) o.obligations.decisions fits.1.1.1.0.1.1.1.0;
+    decisions = countable decision_entry DecisionFits (λ d h. (h.1.0.1, h.1.0.0)) o.obligations.decisions fits.1.1.1.0.1.1.1.0;
     regions = countable region RegionFits (λ r h. h.1.1.1.1.1.0) o.obligations.regions fits.1.1.1.0.1.1.1.1;
   };
   rows = fits.1.1.1.1.0.0;

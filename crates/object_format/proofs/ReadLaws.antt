@@ -1,5 +1,6 @@
 -- What reading an object answers.
 use Rattle.std.proofs.Common.{◌≡◌, inl, inr, ℕ, Bool, true, false, ◌&&◌, List, Result, Ok, Err, IfOk, IfErr, OnOk, refl, sym, ap, subst, ◌∙◌}
+use Rattle.std.specs.Result.{result_and}
 use Rattle.std.proofs.lemmas.Bool.{and_right}
 use Rattle.cov_base.specs.declared.failure.Failure.{Failure}
 use Rattle.cov_base.specs.declared.failure.Failure.TheVariants.{Fault, WantOfMemory}
@@ -82,6 +83,21 @@ layer_fails field bytes WantOfMemory h = tt
 pub check_fails : (bytes : List ℕ) (o : Object) (failure : Failure ObjectFault) → structured bytes ≡ Ok o → IsRefusal o failure → IsFailure passes_field bytes failure
 check_fails bytes o (Fault f) there h = inr (o, there, h)
 check_fails bytes o WantOfMemory there h = tt
+
+-- ---- an object that is kept where a test passes
+
+abbrev taken : Object → Result Object (Failure ObjectFault)
+taken o = Ok o
+
+pub kept : {X : Type 0} (P : Object → Type 0) (test : Result X (Failure ObjectFault)) (o : Object) (r : Result Object (Failure ObjectFault))
+    → r ≡ result_and test (taken o) → OnOk test (P o) → IfOk r P
+kept P (Ok x) o r e h = subst (λ q. IfOk q P) (sym e) h
+kept P (Err failure) o r e h = subst (λ q. IfOk q P) (sym e) tt
+
+pub not_kept : {X : Type 0} (Q : Failure ObjectFault → Type 0) (test : Result X (Failure ObjectFault)) (o : Object) (r : Result Object (Failure ObjectFault))
+    → r ≡ result_and test (taken o) → IfErr test Q → IfErr r Q
+not_kept Q (Ok x) o r e h = subst (λ q. IfErr q Q) (sym e) tt
+not_kept Q (Err failure) o r e h = subst (λ q. IfErr q Q) (sym e) h
 
 -- in the language of the moment the check `field` answers more
 

@@ -44,31 +44,27 @@ abbrev pub conditions : Format (List ℕ × List Place)
 conditions = seen_as (then_by (byte & byte) (λ n. bytes_of n.1 & many place n.0)) (λ p. p.1)
     (λ x. ((length x.1, length x.0), x))
 
--- a decision in its file: its line, column and letter, its expression and its conditions
-abbrev pub placed_decision : Format (ℕ × (ℕ × (ℕ × (List ℕ × List Place))))
-placed_decision = number & number & byte & conditions
+-- where a decision stands: its statement and file, its line, column and letter
+abbrev pub decision_head : Format (ℕ × (ℕ × (ℕ × (ℕ × ℕ))))
+decision_head = number & number & number & number & byte
 
--- a decision: its statement and file, its line, column and letter, its expression and its conditions
+-- a decision: where it stands, its expression and its conditions
 abbrev pub decision_entry : Format DecEntry
-decision_entry = seen_as (number & number & placed_decision)
+decision_entry = seen_as (decision_head & conditions)
     (λ p. record {
-      statement = record { 0 = p.0 };
-      file = p.1.0;
-      line = p.1.1.0;
-      column = p.1.1.1.0;
-      letter = record { 0 = p.1.1.1.1.0 };
-      expression = record { postfix = p.1.1.1.1.1.0 };
-      conditions = p.1.1.1.1.1.1;
+      statement = record { 0 = p.0.0 };
+      file = p.0.1.0;
+      line = p.0.1.1.0;
+      column = p.0.1.1.1.0;
+      letter = record { 0 = p.0.1.1.1.1 };
+      expression = record { postfix = p.1.0 };
+      conditions = p.1.1;
     })
-    (λ d. (d.statement.0, (d.file, (d.line, (d.column, (d.letter.0, (d.expression.postfix, d.conditions)))))))
-
--- the line and column to which a region reaches, and why it is there
-abbrev pub region_end : Format (ℕ × (ℕ × List ℕ))
-region_end = number & number & string
+    (λ d. ((d.statement.0, (d.file, (d.line, (d.column, d.letter.0)))), (d.expression.postfix, d.conditions)))
 
 -- a region: its file, the lines and columns from which and to which it reaches, and why
 abbrev pub region : Format Region
-region = seen_as (number & number & number & region_end)
+region = seen_as (number & number & number & number & number & string)
     (λ p. record {
       file = p.0;
       from_line = p.1.0;
@@ -85,13 +81,9 @@ row = seen_as (number & number & number)
     (λ p. record { address = p.0; statement = record { 0 = p.1.0 }; instance = record { 0 = p.1.1 } })
     (λ r. (r.address, (r.statement.0, r.instance.0)))
 
--- what a branch evaluates: decision, condition, the value when it is taken, and instance
-abbrev pub evaluated : Format (ℕ × (ℕ × (ℕ × ℕ)))
-evaluated = number & byte & byte & number
-
--- a role: address, kind, and what the branch evaluates
+-- a role: address, kind, and what the branch evaluates: decision, condition, the value when it is taken, and instance
 abbrev pub role : Format Role
-role = seen_as (number & byte & evaluated)
+role = seen_as (number & byte & number & byte & byte & number)
     (λ p. record {
       address = p.0;
       kind = record { 0 = p.1.0 };

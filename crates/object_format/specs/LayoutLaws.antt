@@ -24,7 +24,7 @@ conditions_ok = seen_as_ok _ _ _
 
 pub decision_entry_ok : IsFormat decision_entry
 decision_entry_ok = seen_as_ok _ _ _
-    (and_ok _ _ number_ok (and_ok _ _ number_ok (and_ok _ _ number_ok (and_ok _ _ number_ok (and_ok _ _ byte_ok conditions_ok)))))
+    (and_ok _ _ (and_ok _ _ number_ok (and_ok _ _ number_ok (and_ok _ _ number_ok (and_ok _ _ number_ok byte_ok)))) conditions_ok)
     (λ _ _. refl) (λ _. refl)
 
 pub region_ok : IsFormat region

@@ -3,6 +3,7 @@
 mod coverage;
 mod leaf;
 mod list;
+mod pair;
 mod parts;
 mod stored;
 mod table;

@@ -48,8 +48,8 @@ fn checked(alloc: Global, bytes: &[u8]) -> Result<Object, Failure<ObjectFault>>
     ensures fault { IfErr result (IsFailure passes_field bytes.now) }
 {
     let value = structure(alloc, bytes)?;
-    check(alloc, &value)?;
-    Ok(value)
+    let passed = check(alloc, &value);
+    passed.and(Ok(value))
 }
 
 /// What the checks answer in the language of the moment.
@@ -58,8 +58,8 @@ fn checked_plain(alloc: Global, bytes: &[u8]) -> Result<Object, Failure<ObjectFa
     ensures fault { IfErr result (IsFailure passes_plain_field bytes.now) }
 {
     let value = structure(alloc, bytes)?;
-    check_plain(alloc, &value)?;
-    Ok(value)
+    let passed = check_plain(alloc, &value);
+    passed.and(Ok(value))
 }
 
 /// Whether the parts of an object pass the checks in the language of the moment, and else the first

@@ -1,3 +1,4 @@
+use Rattle.std.proofs.lemmas.Grind.{common_steps}
 use Rattle.std.proofs.Common.{◌+◌, refl, sym, ap, ◌∙◌, arith}
 use Rattle.ada_tree.specs.declared.expr.Operand.{Operand}
 use Rattle.ada_tree.specs.Sizes.{expr_size, test_size}
@@ -153,3 +154,12 @@ pub decisions::put_operand_nodes-loop-operand-init :
     goal.decisions::put_operand_nodes-loop-operand-init
 decisions::put_operand_nodes-loop-operand-init t c =
     (λ rest. refl, omega (arith, c.in_ok-end.ensures, tests_above c.args.slot c.args.operands.now), omega (arith, c.in_ok-end.ensures), omega arith)
+
+pub decisions::put_operand_nodes-returns-clause-end : goal.decisions::put_operand_nodes-returns-clause-end
+decisions::put_operand_nodes-returns-clause-end t c = grind (arith, common_steps)
+
+pub decisions::put_operand_nodes-returns-clause-nodes : goal.decisions::put_operand_nodes-returns-clause-nodes
+decisions::put_operand_nodes-returns-clause-nodes t c = grind (arith, common_steps)
+
+pub expressions::put_operands-returns-clause-end : goal.expressions::put_operands-returns-clause-end
+expressions::put_operands-returns-clause-end t c = grind (arith, common_steps)

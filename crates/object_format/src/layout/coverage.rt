@@ -4,7 +4,7 @@ ghost use Rattle.std.specs.Prelude.{◌≡◌, ◌++◌, ◌<◌, length, OnOk};
 ghost use Rattle.object_format.specs.Counts.{InstanceFits, Uncounted, DecisionFits, RegionFits};
 ghost use Rattle.object_format.specs.Layout as layout;
 ghost use Rattle.spelling.specs.Format as format;
-ghost use Rattle.spelling.specs.Outcome.{Gives, Reads};
+ghost use Rattle.spelling.specs.Outcome.{Gives};
 
 use crate::layout::list::{put_values, read_values};
 use crate::layout::stored::Stored;
@@ -12,18 +12,8 @@ use cov_base::{
     Bytes, DecEntry, DecisionExpr, Failure, InstanceEntry, Letter, Place, Region, Seq, StmtEntry,
     StmtId,
 };
-use spelling::{Short, read_bytes, read_u8, read_u32};
+use spelling::{Short, read_bytes};
 use std::alloc::{AllocError, Global};
-
-/// A file, line and column, and the bytes that follow them.
-fn read_position(bytes: &[u8]) -> Result<(u32, u32, u32, &[u8]), Short>
-    ensures { Reads (λ x. ((x.0, (x.1, x.2)), x.3.now)) result (layout.position.read bytes.now) }
-{
-    let (file, rest) = read_u32(bytes)?;
-    let (line, rest) = read_u32(rest)?;
-    let (column, rest) = read_u32(rest)?;
-    Ok((file, line, column, rest))
-}
 
 impl Stored for InstanceEntry {
     ghost format = { layout.instance_entry };
@@ -31,24 +21,20 @@ impl Stored for InstanceEntry {
     ghost is_counted = { InstanceFits };
 
     fn read(alloc: Global, bytes: &[u8]) -> Result<(InstanceEntry, &[u8]), Failure<Short>> {
-        let (name, rest) = Bytes::read(alloc, bytes)?;
-        let (file, line, column, rest) = read_position(rest)?;
-        Ok((
-            InstanceEntry {
-                name,
-                file,
-                line,
-                column,
-            },
-            rest,
-        ))
+        let (parts, rest) = <(Bytes, (u32, (u32, u32)))>::read(alloc, bytes)?;
+        let (name, (file, (line, column))) = parts;
+        let instance = InstanceEntry {
+            name,
+            file,
+            line,
+            column,
+        };
+        Ok((instance, rest))
     }
 
     fn write(&self, into: &mut Vec<u8>) -> Result<(), AllocError> {
         self.name.write(into)?;
-        self.file.write(into)?;
-        self.line.write(into)?;
-        self.column.write(into)
+        (self.file, (self.line, self.column)).write(into)
     }
 }
 
@@ -57,15 +43,14 @@ impl Stored for StmtEntry {
 
     ghost is_counted = { Uncounted };
 
-    fn read(_alloc: Global, bytes: &[u8]) -> Result<(StmtEntry, &[u8]), Failure<Short>> {
-        let (file, line, column, rest) = read_position(bytes)?;
+    fn read(alloc: Global, bytes: &[u8]) -> Result<(StmtEntry, &[u8]), Failure<Short>> {
+        let (parts, rest) = <(u32, (u32, u32))>::read(alloc, bytes)?;
+        let (file, (line, column)) = parts;
         Ok((StmtEntry { file, line, column }, rest))
     }
 
     fn write(&self, into: &mut Vec<u8>) -> Result<(), AllocError> {
-        self.file.write(into)?;
-        self.line.write(into)?;
-        self.column.write(into)
+        (self.file, (self.line, self.column)).write(into)
     }
 }
 
@@ -74,15 +59,14 @@ impl Stored for Place {
 
     ghost is_counted = { Uncounted };
 
-    fn read(_alloc: Global, bytes: &[u8]) -> Result<(Place, &[u8]), Failure<Short>> {
-        let (line, rest) = read_u32(bytes)?;
-        let (column, rest) = read_u32(rest)?;
+    fn read(alloc: Global, bytes: &[u8]) -> Result<(Place, &[u8]), Failure<Short>> {
+        let (parts, rest) = <(u32, u32)>::read(alloc, bytes)?;
+        let (line, column) = parts;
         Ok((Place { line, column }, rest))
     }
 
     fn write(&self, into: &mut Vec<u8>) -> Result<(), AllocError> {
-        self.line.write(into)?;
-        self.column.write(into)
+        (self.line, self.column).write(into)
     }
 }
 
@@ -101,8 +85,8 @@ fn read_conditions(
 ) -> Result<(Bytes, Seq<Place>, &[u8]), Failure<Short>>
     ensures { Gives (λ x. ((x.0, x.1), x.2.now)) result (layout.conditions.read bytes.now) }
 {
-    let (count, rest) = read_u8(bytes)?;
-    let (len, rest) = read_u8(rest)?;
+    let (counts, rest) = <(u8, u8)>::read(alloc, bytes)?;
+    let (count, len) = counts;
     let (postfix, rest) = read_run(alloc, len, rest)?;
     let (places, rest) = read_values(alloc, u32::from(count), rest)?;
     Ok((Bytes::from(postfix), Seq::from(places), rest))
@@ -119,26 +103,13 @@ fn put_conditions(
     ensures appends { OnOk result (into.new.items ≡ into.old.items ++ layout.conditions.spell (postfix.now, places.now)) }
     ensures fits { OnOk result (layout.conditions.Fits (postfix.now, places.now)) }
 {
-    into.push(places.len() as u8)?;
-    into.push(postfix.len() as u8)?;
+    (places.len() as u8, postfix.len() as u8).write(into)?;
     into.extend_from_slice(postfix.as_slice())?;
     put_values(into, places.as_slice())
 }
 
-/// A line, a column, a letter, an expression, the places of its conditions, and the bytes that follow
-/// them.
-fn read_placed(
-    alloc: Global,
-    bytes: &[u8],
-) -> Result<(u32, u32, u8, Bytes, Seq<Place>, &[u8]), Failure<Short>>
-    ensures { Gives (λ x. ((x.0, (x.1, (x.2, (x.3, x.4)))), x.5.now)) result (layout.placed_decision.read bytes.now) }
-{
-    let (line, rest) = read_u32(bytes)?;
-    let (column, rest) = read_u32(rest)?;
-    let (letter, rest) = read_u8(rest)?;
-    let (postfix, conditions, rest) = read_conditions(alloc, rest)?;
-    Ok((line, column, letter, postfix, conditions, rest))
-}
+/// Where a decision stands: its statement and file, its line, column and letter.
+type DecisionHead = (u32, (u32, (u32, (u32, u8))));
 
 impl Stored for DecEntry {
     ghost format = { layout.decision_entry };
@@ -146,9 +117,9 @@ impl Stored for DecEntry {
     ghost is_counted = { DecisionFits };
 
     fn read(alloc: Global, bytes: &[u8]) -> Result<(DecEntry, &[u8]), Failure<Short>> {
-        let (statement, rest) = read_u32(bytes)?;
-        let (file, rest) = read_u32(rest)?;
-        let (line, column, letter, postfix, conditions, rest) = read_placed(alloc, rest)?;
+        let (head, rest) = DecisionHead::read(alloc, bytes)?;
+        let (postfix, conditions, rest) = read_conditions(alloc, rest)?;
+        let (statement, (file, (line, (column, letter)))) = head;
         let decision = DecEntry {
             statement: StmtId(statement),
             file,
@@ -162,23 +133,10 @@ impl Stored for DecEntry {
     }
 
     fn write(&self, into: &mut Vec<u8>) -> Result<(), AllocError> {
-        self.statement.0.write(into)?;
-        self.file.write(into)?;
-        self.line.write(into)?;
-        self.column.write(into)?;
-        self.letter.0.write(into)?;
+        let place = (self.line, (self.column, self.letter.0));
+        (self.statement.0, (self.file, place)).write(into)?;
         put_conditions(into, &self.expression.postfix, &self.conditions)
     }
-}
-
-/// A line, a column, a text, and the bytes that follow them.
-fn read_region_end(alloc: Global, bytes: &[u8]) -> Result<(u32, u32, Bytes, &[u8]), Failure<Short>>
-    ensures { Gives (λ x. ((x.0, (x.1, x.2)), x.3.now)) result (layout.region_end.read bytes.now) }
-{
-    let (line, rest) = read_u32(bytes)?;
-    let (column, rest) = read_u32(rest)?;
-    let (why, rest) = Bytes::read(alloc, rest)?;
-    Ok((line, column, why, rest))
 }
 
 impl Stored for Region {
@@ -187,10 +145,8 @@ impl Stored for Region {
     ghost is_counted = { RegionFits };
 
     fn read(alloc: Global, bytes: &[u8]) -> Result<(Region, &[u8]), Failure<Short>> {
-        let (file, rest) = read_u32(bytes)?;
-        let (from_line, rest) = read_u32(rest)?;
-        let (from_column, rest) = read_u32(rest)?;
-        let (to_line, to_column, why, rest) = read_region_end(alloc, rest)?;
+        let (parts, rest) = <(u32, (u32, (u32, (u32, (u32, Bytes)))))>::read(alloc, bytes)?;
+        let (file, (from_line, (from_column, (to_line, (to_column, why))))) = parts;
         let region = Region {
             file,
             from_line,
@@ -203,11 +159,8 @@ impl Stored for Region {
     }
 
     fn write(&self, into: &mut Vec<u8>) -> Result<(), AllocError> {
-        self.file.write(into)?;
-        self.from_line.write(into)?;
-        self.from_column.write(into)?;
-        self.to_line.write(into)?;
-        self.to_column.write(into)?;
+        let to = (self.to_line, self.to_column);
+        (self.file, (self.from_line, (self.from_column, to))).write(into)?;
         self.why.write(into)
     }
 }

@@ -18,8 +18,7 @@ impl Stored for u8 {
     }
 
     fn write(&self, into: &mut Vec<u8>) -> Result<(), AllocError> {
-        into.push(*self)?;
-        Ok(())
+        into.extend_from_slice(&[*self])
     }
 }
 

@@ -6,24 +6,14 @@ ghost use Rattle.object_format.specs.File.{parts_of};
 ghost use Rattle.object_format.specs.Layout as layout;
 ghost use Rattle.spelling.specs.Outcome.{Gives};
 
-use crate::layout::list::{put_list, read_list};
+use crate::layout::list::put_list;
 use crate::layout::stored::Stored;
-use crate::object::Object;
+use crate::object::{FileEntry, Object};
 use crate::parts::Parts;
-use cov_base::{DecEntry, Failure, Obligations, Region, Seq, StmtEntry};
+use cov_base::{Bytes, DecEntry, Failure, InstanceEntry, Obligations, Region, Seq, StmtEntry};
 use line_table::{Role, Roles, Row, Rows};
-use spelling::{Short, read_u32};
+use spelling::Short;
 use std::alloc::{AllocError, Global};
-
-/// An address, words, and the bytes that follow them.
-#[tactic(auto, unfolding(crate::specs::Layout::segment))]
-fn read_segment(alloc: Global, bytes: &[u8]) -> Result<(u32, Seq<u32>, &[u8]), Failure<Short>>
-    ensures { Gives (λ x. ((x.0, x.1), x.2.now)) result (layout.segment.read bytes.now) }
-{
-    let (address, rest) = read_u32(bytes)?;
-    let (words, rest) = Seq::read(alloc, rest)?;
-    Ok((address, words, rest))
-}
 
 /// Appends an address and words.
 #[tactic(auto, unfolding(crate::specs::Layout::segment))]
@@ -36,30 +26,21 @@ fn put_segment(into: &mut Vec<u8>, address: u32, words: &Seq<u32>) -> Result<(),
     words.write(into)
 }
 
-/// Statements, decisions and regions, and the bytes that follow them.
-#[tactic(auto, unfolding(crate::specs::Layout::listed))]
-fn read_listed(
-    alloc: Global,
-    bytes: &[u8],
-) -> Result<(Seq<StmtEntry>, Seq<DecEntry>, Seq<Region>, &[u8]), Failure<Short>>
-    ensures { Gives (λ x. ((x.0, (x.1, x.2)), x.3.now)) result (layout.listed.read bytes.now) }
-{
-    let (statements, rest) = Seq::read(alloc, bytes)?;
-    let (decisions, rest) = Seq::read(alloc, rest)?;
-    let (regions, rest) = Seq::read(alloc, rest)?;
-    Ok((statements, decisions, regions, rest))
-}
+/// Instances, exceptions, statements, decisions and regions, as they follow one another.
+type Listed = (
+    Seq<InstanceEntry>,
+    (Seq<Bytes>, (Seq<StmtEntry>, (Seq<DecEntry>, Seq<Region>))),
+);
 
 impl Stored for Obligations {
     ghost format = { layout.obligations };
 
     ghost is_counted = { ObligationsFit };
 
-    #[tactic(auto, unfolding(crate::specs::Layout::obligations))]
+    #[tactic(auto, unfolding(crate::specs::Layout::obligations, crate::specs::Layout::listed))]
     fn read(alloc: Global, bytes: &[u8]) -> Result<(Obligations, &[u8]), Failure<Short>> {
-        let (instances, rest) = Seq::read(alloc, bytes)?;
-        let (exceptions, rest) = Seq::read(alloc, rest)?;
-        let (statements, decisions, regions, rest) = read_listed(alloc, rest)?;
+        let (listed, rest) = Listed::read(alloc, bytes)?;
+        let (instances, (exceptions, (statements, (decisions, regions)))) = listed;
         let obligations = Obligations {
             statements,
             decisions,
@@ -80,29 +61,20 @@ impl Stored for Obligations {
     }
 }
 
-/// What coverage has to show, rows and roles, and the bytes that follow them.
-#[tactic(auto, unfolding(crate::specs::Layout::to_cover))]
-fn read_to_cover(
-    alloc: Global,
-    bytes: &[u8],
-) -> Result<(Obligations, Vec<Row>, Vec<Role>, &[u8]), Failure<Short>>
-    ensures { Gives (λ x. ((x.0, (x.1.items, x.2.items)), x.3.now)) result (layout.to_cover.read bytes.now) }
-{
-    let (obligations, rest) = Obligations::read(alloc, bytes)?;
-    let (rows, rest) = read_list(alloc, rest)?;
-    let (roles, rest) = read_list(alloc, rest)?;
-    Ok((obligations, rows, roles, rest))
-}
+/// An address, and words.
+type Segment = (u32, Seq<u32>);
+
+/// Files, what coverage has to show, rows and roles, as they follow one another.
+type Covered = (Seq<FileEntry>, (Obligations, (Seq<Row>, Seq<Role>)));
 
 /// The parts that stand first in the bytes, and the bytes that follow them.
-#[tactic(auto, unfolding(crate::specs::Layout::parts))]
+#[tactic(auto, unfolding(crate::specs::Layout::parts, crate::specs::Layout::segment, crate::specs::Layout::to_cover))]
 pub fn read_parts(alloc: Global, bytes: &[u8]) -> Result<(Parts, &[u8]), Failure<Short>>
     ensures { Gives (λ x. (x.0, x.1.now)) result (layout.parts.read bytes.now) }
 {
-    let (entry, text, rest) = read_segment(alloc, bytes)?;
-    let (init_at, init, rest) = read_segment(alloc, rest)?;
-    let (files, rest) = Seq::read(alloc, rest)?;
-    let (obligations, rows, roles, rest) = read_to_cover(alloc, rest)?;
+    let (read, rest) = <(Segment, (Segment, Covered))>::read(alloc, bytes)?;
+    let ((entry, text), ((init_at, init), covered)) = read;
+    let (files, (obligations, (rows, roles))) = covered;
     let parts = Parts {
         entry,
         text,
@@ -110,8 +82,8 @@ pub fn read_parts(alloc: Global, bytes: &[u8]) -> Result<(Parts, &[u8]), Failure
         init,
         files,
         obligations,
-        rows: Rows::from(rows),
-        roles: Roles::from(roles),
+        rows: Rows::from(Vec::from(rows)),
+        roles: Roles::from(Vec::from(roles)),
     };
     Ok((parts, rest))
 }

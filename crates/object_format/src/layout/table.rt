@@ -2,13 +2,12 @@
 
 ghost use Rattle.object_format.specs.Counts.{FileFits, Uncounted};
 ghost use Rattle.object_format.specs.Layout as layout;
-ghost use Rattle.spelling.specs.Outcome.{Reads};
 
 use crate::layout::stored::Stored;
 use crate::object::FileEntry;
-use cov_base::{Bytes, CondIx, DecId, Failure, InstId, StmtId};
+use cov_base::{Bytes, CondIx, DecId, Digest, Failure, InstId, StmtId};
 use line_table::{Role, RoleKind, Row};
-use spelling::{Short, read_digest, read_u8, read_u32};
+use spelling::Short;
 use std::alloc::{AllocError, Global};
 
 impl Stored for FileEntry {
@@ -17,8 +16,8 @@ impl Stored for FileEntry {
     ghost is_counted = { FileFits };
 
     fn read(alloc: Global, bytes: &[u8]) -> Result<(FileEntry, &[u8]), Failure<Short>> {
-        let (name, rest) = Bytes::read(alloc, bytes)?;
-        let (sha256, rest) = read_digest(rest)?;
+        let (parts, rest) = <(Bytes, Digest)>::read(alloc, bytes)?;
+        let (name, sha256) = parts;
         Ok((FileEntry { name, sha256 }, rest))
     }
 
@@ -33,10 +32,9 @@ impl Stored for Row {
 
     ghost is_counted = { Uncounted };
 
-    fn read(_alloc: Global, bytes: &[u8]) -> Result<(Row, &[u8]), Failure<Short>> {
-        let (address, rest) = read_u32(bytes)?;
-        let (statement, rest) = read_u32(rest)?;
-        let (instance, rest) = read_u32(rest)?;
+    fn read(alloc: Global, bytes: &[u8]) -> Result<(Row, &[u8]), Failure<Short>> {
+        let (parts, rest) = <(u32, (u32, u32))>::read(alloc, bytes)?;
+        let (address, (statement, instance)) = parts;
         let row = Row {
             address,
             statement: StmtId(statement),
@@ -46,21 +44,8 @@ impl Stored for Row {
     }
 
     fn write(&self, into: &mut Vec<u8>) -> Result<(), AllocError> {
-        self.address.write(into)?;
-        self.statement.0.write(into)?;
-        self.instance.0.write(into)
+        (self.address, (self.statement.0, self.instance.0)).write(into)
     }
-}
-
-/// A decision, a condition, a value, an instance, and the bytes that follow them.
-fn read_evaluated(bytes: &[u8]) -> Result<(u32, u8, u8, u32, &[u8]), Short>
-    ensures { Reads (λ x. ((x.0, (x.1, (x.2, x.3))), x.4.now)) result (layout.evaluated.read bytes.now) }
-{
-    let (decision, rest) = read_u32(bytes)?;
-    let (condition, rest) = read_u8(rest)?;
-    let (value, rest) = read_u8(rest)?;
-    let (instance, rest) = read_u32(rest)?;
-    Ok((decision, condition, value, instance, rest))
 }
 
 impl Stored for Role {
@@ -68,10 +53,9 @@ impl Stored for Role {
 
     ghost is_counted = { Uncounted };
 
-    fn read(_alloc: Global, bytes: &[u8]) -> Result<(Role, &[u8]), Failure<Short>> {
-        let (address, rest) = read_u32(bytes)?;
-        let (kind, rest) = read_u8(rest)?;
-        let (decision, condition, value, instance, rest) = read_evaluated(rest)?;
+    fn read(alloc: Global, bytes: &[u8]) -> Result<(Role, &[u8]), Failure<Short>> {
+        let (parts, rest) = <(u32, (u8, (u32, (u8, (u8, u32)))))>::read(alloc, bytes)?;
+        let (address, (kind, (decision, (condition, (value, instance))))) = parts;
         let role = Role {
             address,
             kind: RoleKind(kind),
@@ -84,11 +68,7 @@ impl Stored for Role {
     }
 
     fn write(&self, into: &mut Vec<u8>) -> Result<(), AllocError> {
-        self.address.write(into)?;
-        self.kind.0.write(into)?;
-        self.decision.0.write(into)?;
-        self.condition.0.write(into)?;
-        self.value.write(into)?;
-        self.instance.0.write(into)
+        let condition = (self.condition.0, (self.value, self.instance.0));
+        (self.address, (self.kind.0, (self.decision.0, condition))).write(into)
     }
 }

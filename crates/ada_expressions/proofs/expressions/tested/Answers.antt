@@ -1,11 +1,12 @@
-use Rattle.std.proofs.Common.{rules, ◌≡◌, Some, refl, sym, ap, ◌∙◌}
+use Rattle.std.proofs.lemmas.Grind.{common_steps}
+use Rattle.std.proofs.Common.{rules, ◌≡◌, Some, refl, sym, ap, ◌∙◌, arith}
 use Rattle.std.specs.Option.{option_and_then}
 use Rattle.ada_places.specs.Places.{condition_place}
 use Rattle.ada_names.specs.ScopeView.{regions_of}
 use Rattle.ada_expressions.specs.Expressions as spec
 use Rattle.ada_expressions.specs.Phrases as rule
 use Rattle.ada_expressions.specs.Answer.{mistyped}
-use Rattle.ada_expressions.proofs.Blame.{shows_or}
+use Rattle.ada_expressions.proofs.Blame.{shows_or, blames}
 use Rattle.ada_expressions.proofs.ExpressionLaws as law
 use Rattle.ada_expressions.proofs.expressions.tested.Goals as goal
 
@@ -26,3 +27,6 @@ returns c =
     ∙ (ap (λ p. spec.test_at p x) (sym c.condition_place.ensures) ∙ sym c.in_ok-test.ensures) in
     shows_or (rule.decision places regions objects e) (spec.tested places regions objects e) c.in_ok-test.test c.mistyped.result c.ok_or.result c.ok_or.ensures.value same
     (c.mistyped.ensures ∙ ap (λ p. mistyped p) c.pos.ensures) refl (rw typed refl)
+
+pub returns-in_err-test : goal.returns-in_err-test
+returns-in_err-test c = grind (arith, common_steps, blames)

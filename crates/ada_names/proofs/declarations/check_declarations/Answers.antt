@@ -1,3 +1,4 @@
+use Rattle.std.proofs.lemmas.Grind.{common_steps}
 use Rattle.std.proofs.Common.{◌+◌, rules, arith, ap, ◌∙◌, subst, drop}
 use Rattle.ada_names.specs.Naming as spec
 use Rattle.ada_names.specs.Rules as rules_on
@@ -30,3 +31,9 @@ loop-declaration-preserved c =
       refused = λ f r. c.loop-declaration.invariant.refused f (declared_later k ds n d (omega arith) c.declaration-item.is
           (subst (λ q. Refused (rules_on.declarations q (drop (n + 1) ds)) f) next r));
     }
+
+pub returns-clause-after : goal.returns-clause-after
+returns-clause-after c = grind (arith, common_steps)
+
+pub returns-clause-known : goal.returns-clause-known
+returns-clause-known c = grind (arith, common_steps)

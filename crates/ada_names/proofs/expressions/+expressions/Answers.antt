@@ -1,3 +1,4 @@
+use Rattle.std.proofs.lemmas.Grind.{common_steps}
 use Rattle.std.proofs.Common.{◌≡◌, rules, ap, arith, sum_by, sym, ◌∙◌, subst, map, take, true, None}
 use Rattle.std.specs.List.{list_all}
 use Rattle.std.proofs.lemmas.List.Sums.{get_or-le-sum_by}
@@ -285,3 +286,12 @@ check_suffixes-loop-suffix-preserved t c n d =
 
 pub check_name-returns-in_err-prefix : goal.check_name-returns-in_err-prefix
 check_name-returns-in_err-prefix t c = grind (arith, blames)
+
+pub check_suffixes-returns : goal.check_suffixes-returns
+check_suffixes-returns t c = grind (arith, common_steps)
+
+pub check_operands-returns : goal.check_operands-returns
+check_operands-returns t c = grind (arith, common_steps)
+
+pub check_exprs-returns : goal.check_exprs-returns
+check_exprs-returns t c = grind (arith, common_steps)

@@ -1,3 +1,4 @@
+use Rattle.std.proofs.lemmas.Grind.{common_steps}
 use Rattle.std.proofs.Common.{◌≡◌, ◌+◌, rules, arith, ap, sym, ◌∙◌, subst, drop}
 use Rattle.ada_names.specs.declared.entity.Entity.TheVariants as entity
 use Rattle.ada_names.specs.Names.{key, declare}
@@ -5,7 +6,7 @@ use Rattle.ada_names.specs.Library.{item_name, with_units}
 use Rattle.ada_names.specs.Naming.{units_new}
 use Rattle.ada_names.specs.Rules.{library_names}
 use Rattle.ada_names.specs.NameCode.{SomeRefused}
-use Rattle.ada_names.proofs.Blame.{drop_item}
+use Rattle.ada_names.proofs.Blame.{drop_item, blames}
 use Rattle.ada_names.proofs.UnitLaws.{named_first, named_later, named_more}
 use Rattle.ada_names.proofs.library.declare_units.Goals as goal
 
@@ -32,3 +33,12 @@ loop-index-preserved c =
       refused = λ f r. c.loop-index.invariant.refused f (named_later us i u (omega arith) c.index-units-index.is region
           (subst (λ q. SomeRefused (library_names (i + 1) (drop (i + 1) us) q) f) declared r));
     }
+
+pub returns-clause-declared : goal.returns-clause-declared
+returns-clause-declared c = grind (arith, common_steps)
+
+pub returns-clause-fresh : goal.returns-clause-fresh
+returns-clause-fresh c = grind (arith, common_steps)
+
+pub returns-in_err-region-clause-refused : goal.returns-in_err-region-clause-refused
+returns-in_err-region-clause-refused c = grind (arith, common_steps, blames)

@@ -1,8 +1,9 @@
+use Rattle.std.proofs.lemmas.Grind.{common_steps}
 use Rattle.std.proofs.Common.{◌≡◌, rules, arith, ◌∙◌, subst, map, true}
 use Rattle.std.specs.List.{list_all}
 use Rattle.ada_names.specs.Rules.{holds, with_clause, with_name}
 use Rattle.ada_names.specs.NameCode.{SomeRefused}
-use Rattle.ada_names.proofs.Blame.{some_item, some_later, all_more, of_some}
+use Rattle.ada_names.proofs.Blame.{some_item, some_later, all_more, of_some, blames}
 use Rattle.ada_names.proofs.UnitLaws.{clause_holds}
 use Rattle.ada_names.proofs.naming.check_clauses.Goals as goal
 
@@ -32,3 +33,9 @@ loop-clause-preserved c =
       known = all_more F xs i w (omega arith) c.clause-item.is (clause_holds library n w all) ∙ c.loop-clause.invariant.known;
       refused = λ f r. c.loop-clause.invariant.refused f (some_later F xs i w (omega arith) c.clause-item.is r);
     }
+
+pub returns : goal.returns
+returns c = grind (arith, common_steps)
+
+pub returns-in_err-marks : goal.returns-in_err-marks
+returns-in_err-marks c = grind (arith, common_steps, blames)

@@ -1,3 +1,4 @@
+use Rattle.std.proofs.lemmas.Grind.{common_steps}
 use Rattle.std.proofs.Common.{rules, arith, ◌∙◌}
 use Rattle.ada_names.specs.Rules.{with_name}
 use Rattle.ada_names.proofs.Blame.{some_item, some_later, all_more}
@@ -19,3 +20,6 @@ loop-name-preserved c =
       known = all_more F xs i x (omega arith) c.name-item.is c.in_ok-check_with_name.ensures ∙ c.loop-name.invariant.known;
       refused = λ f r. c.loop-name.invariant.refused f (some_later F xs i x (omega arith) c.name-item.is r);
     }
+
+pub returns : goal.returns
+returns c = grind (arith, common_steps)

@@ -1,3 +1,4 @@
+use Rattle.std.proofs.lemmas.Grind.{common_steps}
 use Rattle.std.proofs.Common.{◌≡◌, rules, arith, ap, sym, ◌∙◌, subst, true}
 use Rattle.std.specs.List.{list_all}
 use Rattle.ada_syntax.specs.StatementTree.{statement_size, statements_size}
@@ -236,3 +237,9 @@ check_statement-returns-in-Block-clause-checked t c =
 
 pub check_block-returns-in_err-open-clause-checked : goal.check_block-returns-in_err-open-clause-checked
 check_block-returns-in_err-open-clause-checked t c = grind (arith, blames)
+
+pub check_statements-returns-clause-checked : goal.check_statements-returns-clause-checked
+check_statements-returns-clause-checked t c = grind (arith, common_steps)
+
+pub check_branches-returns-clause-checked : goal.check_branches-returns-clause-checked
+check_branches-returns-clause-checked t c = grind (arith, common_steps)

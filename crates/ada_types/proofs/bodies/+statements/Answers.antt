@@ -1,3 +1,4 @@
+use Rattle.ada_types.proofs.Blame.{blames}
 use Rattle.std.proofs.Common.{◌≡◌, ◌+◌, ◌++◌, ◌∷◌, [], rules, arith, map, drop, take, length, List, Some, option_map, refl, ap, sym, ◌∙◌, subst}
 use Rattle.std.proofs.lemmas.List.{map-append}
 use Rattle.ada_syntax.specs.StatementTree as source
@@ -263,43 +264,25 @@ typed_body-returns-in_err-declarations t c =
     let r = body.in_declarations (opened a old) ds (statements_of c.args.statements.now) one in
     search (rules, r)
 
-pub typed_body-returns-in_err-statements : goal.typed_body-returns-in_err-statements
-typed_body-returns-in_err-statements t c =
-    let a = c.args.around.now in
-    let old = c.args.declared.now in
-    let first : Declared = record { locals = c.open.new.self; objects = old.objects; next = old.next } in
-    let second = c.typed_declarations.new.declared in
-    let ds = c.args.declarations.now in
-    let xs = declarations_view c.in_ok-declarations.declarations in
-    let declared : typed_declarations (opened a old) ds ≡ Some (so_far xs (context a second)) = subst
-    (λ (j : Context). typed_declarations j ds ≡ Some (so_far xs (context a second))) (region_opened a old first c.in_ok-open.ensures refl refl)
-    c.in_ok-declarations.ensures.form in
-    let r = body.in_statements (opened a old) ds (statements_of c.args.statements.now) xs (context a second) declared c.in_err-statements.ensures in
-    search (rules, r)
-
 pub typed_body-returns : goal.typed_body-returns
 typed_body-returns t c =
     let a = c.args.around.now in
     let old = c.args.declared.now in
     let first : Declared = record { locals = c.open.new.self; objects = old.objects; next = old.next } in
     let second = c.typed_declarations.new.declared in
-    let third = c.typed_statements.new.declared in
+    let third = c.typed_statements-statements.new.declared in
     let new : Declared = record { locals = c.close.new.self; objects = c.truncate.new.self; next = third.next } in
     let ds = c.args.declarations.now in
     let ss = statements_of c.args.statements.now in
     let xs = declarations_view c.in_ok-declarations.declarations in
-    let ys = c.in_ok-statements.statements.items in
     let count : c.len-visible.result ≡ length old.objects.items = omega (arith, c.len-visible.ensures, old.objects.ok.0) in
     let declared : typed_declarations (opened a old) ds ≡ Some (so_far xs (context a second)) = subst
     (λ (j : Context). typed_declarations j ds ≡ Some (so_far xs (context a second))) (region_opened a old first c.in_ok-open.ensures refl refl)
     c.in_ok-declarations.ensures.form in
-    record {
-      form = body.a_body (opened a old) ds ss xs (context a second) declared ys c.in_ok-statements.ensures.form
-          ∙ (λ i. Some (tree.block (map declaration_of (sym c.from.ensures i)) (view.statements_of ys) (view.handlers_of (sym c.new.ensures.items i))));
-      passed = body.body_passed (spec.declared_by_all ds) (objects_in_all ss) old first second third new c.in_ok-open.ensures refl refl
-          c.in_ok-declarations.ensures.grown c.in_ok-statements.ensures.passed c.close.ensures
-          (c.truncate.ensures.items ∙ ap (λ n. take n third.objects.items) count) refl;
-    }
+    body.body_built (opened a old) ds ss xs (context a second) declared (spec.declared_by_all ds) (objects_in_all ss) old second third new
+    c.typed_statements-statements.result c.body_of.result c.body_of.ensures c.typed_statements-statements.ensures
+    (λ passed. body.body_passed (spec.declared_by_all ds) (objects_in_all ss) old first second third new c.in_ok-open.ensures refl refl
+    c.in_ok-declarations.ensures.grown passed c.close.ensures (c.truncate.ensures.items ∙ ap (λ n. take n third.objects.items) count) refl)
 
 -- blocks
 pub typed_block-returns-in_err-block : goal.typed_block-returns-in_err-block
@@ -417,3 +400,15 @@ typed_statement-returns-in-Raise t c =
     let p = c.statement.inside.pos in
     let same = ap (λ x. statement_at p x) (sym c.in-Raise.is) ∙ c.statement.view_is in
     subst (λ s. Refused (rule.statement k s) c.mistyped-in-Raise.result) same (law.later_raise k p c.in-Raise.field-0 c.mistyped-in-Raise.ensures)
+
+pub typed_branches-returns-in_err-push : goal.typed_branches-returns-in_err-push
+typed_branches-returns-in_err-push t c = grind (arith, blames)
+
+pub typed_statements-returns-in_err-push : goal.typed_statements-returns-in_err-push
+typed_statements-returns-in_err-push t c = grind (arith, blames)
+
+pub typed_if-returns-in_err-if_statement : goal.typed_if-returns-in_err-if_statement
+typed_if-returns-in_err-if_statement t c = grind (arith, blames)
+
+pub typed_body-returns-in_err-open : goal.typed_body-returns-in_err-open
+typed_body-returns-in_err-open t c = grind (arith, blames)

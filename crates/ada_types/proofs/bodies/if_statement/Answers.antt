@@ -1,4 +1,4 @@
-use Rattle.std.proofs.Common.{◌≡◌, [], ◌∷◌, ◌++◌, List, ap, ◌∙◌}
+use Rattle.std.proofs.Common.{◌≡◌, ◌∷◌, List, ap, ◌∙◌}
 use Rattle.ada_meaning.specs.Tree as tree
 use Rattle.ada_tree.specs.View as view
 use Rattle.ada_tree.specs.View.{label_of}
@@ -9,7 +9,6 @@ use Rattle.ada_types.proofs.bodies.if_statement.Goals as goal
 pub returns : goal.returns
 returns c =
     let xs = c.args.otherwise.items in
-    let items : c.append.new.self.items ≡ c.args.first ∷ c.args.others.items = c.in_ok-append.ensures.items
-    ∙ (ap (λ bs. bs ++ c.args.others.items) (c.in_ok-push.ensures.items ∙ ap (λ bs. bs ++ c.args.first ∷ []) c.new-branches.ensures.items)) in
+    let items : c.insert.new.self.items ≡ c.args.first ∷ c.args.others.items = c.in_ok-insert.ensures.items in
     ap (λ (bs : List Branch). tree.if_statement (label_of c.args.label) (view.branches_of bs (view.statements_of xs))) items
     ∙ ap (λ bs. tree.if_statement (label_of c.args.label) bs) (branches_are (c.args.first ∷ c.args.others.items) xs)

@@ -1,3 +1,4 @@
+use Rattle.std.proofs.lemmas.Grind.{common_steps}
 use Rattle.std.proofs.Common.{◌≡◌, ◌+◌, [], ◌∷◌, false, drop, map, arith, sym, ap, ◌∙◌}
 use Rattle.ada_tree.specs.Programs.{subprogram_of}
 use Rattle.std.specs.Prelude.{nat_le}
@@ -18,3 +19,12 @@ returns-then-not-is_within_words c =
     let here = ap (λ xs. spec.too_many_words xs left) (drop_item us i u (omega arith) c.unit-item.is)
     ∙ (ap (λ ys. spec.too_many_words (u ∷ drop (i + 1) us) (map (subprogram_of []) ys)) c.in_ok-subprogram.ensures.cases.0 ∙ first_too_large u (drop (i + 1) us) s ss large) in
     sym here ∙ c.loop-unit.invariant
+
+pub loop-unit-preserved : goal.loop-unit-preserved
+loop-unit-preserved c = grind (arith, common_steps)
+
+pub returns-in_err-subprogram : goal.returns-in_err-subprogram
+returns-in_err-subprogram c = grind (arith, common_steps)
+
+pub returns : goal.returns
+returns c = grind (arith, common_steps)

@@ -1,3 +1,4 @@
+use Rattle.ada_types.proofs.Blame.{blames}
 use Rattle.std.proofs.Common.{◌∙◌, rules, arith, map, ap}
 use Rattle.std.proofs.lemmas.List.{map-append}
 use Rattle.ada_tree.specs.View.{declaration_of}
@@ -44,3 +45,6 @@ returns c =
       form = c.loop-declaration.invariant.form ∙ law.declarations_end (context a d) ds i (declarations_view c.loop-declaration.typed) (omega arith);
       grown = c.loop-declaration.invariant.grown d (law.declarations_stay ds i d c.loop-declaration.invariant.opened (omega arith));
     }
+
+pub returns-in_err-append : goal.returns-in_err-append
+returns-in_err-append c = grind (arith, blames)

@@ -1,4 +1,5 @@
-use Rattle.std.proofs.Common.{◌≡◌, ◌∷◌, rules, List, Some, None, option_map, subst}
+use Rattle.ada_types.proofs.Blame.{blames}
+use Rattle.std.proofs.Common.{◌≡◌, ◌∷◌, rules, List, Some, None, option_map, subst, arith}
 use Rattle.ada_syntax.specs.declared.name.Identifier.{Identifier}
 use Rattle.ada_tree.specs.View.{label_of}
 use Rattle.ada_expressions.specs.declared.kind.DeclaredObject.{DeclaredObject}
@@ -94,3 +95,6 @@ returns c =
 
 pub returns-in_default : goal.returns-in_default
 returns-in_default c = law.other_declaration (context c.args.around.now c.args.declared.now) c.args.declaration.now c.in_default.not-Object c.mistyped.ensures
+
+pub returns-in_err-hidden : goal.returns-in_err-hidden
+returns-in_err-hidden c = grind (arith, blames)

@@ -39,10 +39,10 @@ returns-in_ok-decision-in-Some c =
     let s = source.exit p (Some e) in
     let d = c.in_ok-decision-in-Some.decision in
     let decided : Decided k e d = c.in_ok-decision-in-Some.ensures in
-    let same : spec.typed_statement k s ≡ c.exits-in-Some.result =
+    let same : spec.typed_statement k s ≡ c.exits_when.result =
     ap (λ o. option_and_then (λ t. spec.exits k.looping (tree.exit_when (spec.statement_label k p) (spec.decision_label k e) t)) o) decided.test
     ∙ (ap (λ l. spec.exits k.looping (tree.exit_when l (spec.decision_label k e) d.test)) (sym c.statement_label-label.ensures)
-    ∙ (ap (λ m. spec.exits k.looping (tree.exit_when (label_of c.statement_label-label.result) m d.test)) (sym decided.label) ∙ sym c.exits-in-Some.ensures)) in
+    ∙ (ap (λ m. spec.exits k.looping (tree.exit_when (label_of c.statement_label-label.result) m d.test)) (sym decided.label) ∙ sym c.exits_when.ensures)) in
     subst (λ (e : Option Expr). Shows (λ x. x) (spec.typed_statement k (source.exit p e)) (rule.statement k (source.exit p e)) c.ok_or-in-Some.result) (sym c.in-Some.is)
-    (shows_or (rule.statement k s) (spec.typed_statement k s) c.exits-in-Some.result c.mistyped-in-Some.result c.ok_or-in-Some.result c.ok_or-in-Some.ensures.value same
+    (shows_or (rule.statement k s) (spec.typed_statement k s) c.exits_when.result c.mistyped-in-Some.result c.ok_or-in-Some.result c.ok_or-in-Some.ensures.value same
     c.mistyped-in-Some.ensures refl (rw decided.test refl))

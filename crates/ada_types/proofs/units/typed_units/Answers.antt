@@ -1,3 +1,5 @@
+use Rattle.std.proofs.lemmas.Grind.{common_steps}
+use Rattle.ada_types.proofs.Blame.{blames}
 use Rattle.std.proofs.Common.{◌≡◌, ◌+◌, ◌++◌, ◌∷◌, [], List, rules, arith, ap, sym, ◌∙◌, subst, drop, map, option_map, Some}
 use Rattle.std.proofs.lemmas.List.{map-append}
 use Rattle.ada_meaning.specs.Program.{Subprogram}
@@ -36,3 +38,12 @@ loop-index-preserved c =
           ∙ ap (λ (ys : List Subprogram). option_map (λ more. ys ++ more) (spec.typed_units library places (i + 1) (drop (i + 1) us))) (sym new));
       refused = λ f r. c.loop-index.invariant.refused f (law.after_unit library places us i u (omega arith) c.index-units-index.is r);
     }
+
+pub returns-in_err-push : goal.returns-in_err-push
+returns-in_err-push c = grind (arith, common_steps, blames)
+
+pub returns-in_err-numbered : goal.returns-in_err-numbered
+returns-in_err-numbered c = grind (arith, common_steps, blames)
+
+pub returns : goal.returns
+returns c = grind (arith, common_steps)

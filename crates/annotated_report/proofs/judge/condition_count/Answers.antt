@@ -4,3 +4,6 @@ use Rattle.annotated_report.proofs.judge.condition_count.Goals as goal
 
 pub loop-entry-preserved : goal.loop-entry-preserved
 loop-entry-preserved c = grind (arith, common_steps)
+
+pub returns : goal.returns
+returns c = grind (arith, common_steps)

@@ -7,3 +7,6 @@ loop-region-preserved c = grind (arith, common_steps)
 
 pub returns-then-exempt : goal.returns-then-exempt
 returns-then-exempt c = grind (arith, common_steps)
+
+pub returns : goal.returns
+returns c = grind (arith, common_steps)

@@ -4,3 +4,9 @@ use Rattle.annotated_report.proofs.statements.judge_statements.Goals as goal
 
 pub loop-number-preserved : goal.loop-number-preserved
 loop-number-preserved c = grind (arith, common_steps)
+
+pub returns-clause-covered : goal.returns-clause-covered
+returns-clause-covered c = grind (arith, common_steps)
+
+pub returns-clause-findings : goal.returns-clause-findings
+returns-clause-findings c = grind (arith, common_steps)

@@ -35,3 +35,9 @@ nodes_length-loop-node-preserved t c = grind (arith, common_steps)
 
 pub ops_length-loop-op-preserved : goal.ops_length-loop-op-preserved
 ops_length-loop-op-preserved t c = grind (arith, common_steps)
+
+pub nodes_length-returns : goal.nodes_length-returns
+nodes_length-returns t c = grind (arith, common_steps)
+
+pub ops_length-returns : goal.ops_length-returns
+ops_length-returns t c = grind (arith, common_steps)

@@ -1,3 +1,4 @@
+use Rattle.std.proofs.lemmas.Grind.{common_steps}
 use Rattle.std.proofs.Common.{sym, ap, ◌∙◌, arith}
 use Rattle.ada_meaning.specs.Tree as tree
 use Rattle.ada_tree.specs.Sizes.{test_size}
@@ -31,3 +32,9 @@ conditions_of-returns-in_ok-conditions_in-in-ShortCircuit t c =
       ap (λ x. tree.conditions_of x) c.deref-in-ShortCircuit.ensures,
       ap conditions_in c.deref-in-ShortCircuit-2.ensures.value,
     )))
+
+pub conditions_in-loop-test-preserved : goal.conditions_in-loop-test-preserved
+conditions_in-loop-test-preserved t c = grind (arith, common_steps)
+
+pub conditions_in-returns : goal.conditions_in-returns
+conditions_in-returns t c = grind (arith, common_steps)
