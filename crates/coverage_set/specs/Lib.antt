@@ -2,3 +2,4 @@ pub mod Exact
 pub mod Covered
 pub mod Said
 pub mod Consolidated
+pub mod Written

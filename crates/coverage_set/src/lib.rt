@@ -8,6 +8,7 @@
 
 mod consolidated;
 mod coverage;
+mod entries;
 mod exact;
 mod gathered;
 mod laws;
@@ -15,7 +16,8 @@ mod said;
 mod set;
 mod started;
 
-pub use coverage::Coverage;
+pub use coverage::{Coverage, read_consolidated, write_consolidated};
 pub use laws::{
-    own_traces_pass_all_checks, traces_of_runs_say_what_the_runs_tell, unions_have_their_laws,
+    a_coverage_has_one_file, own_traces_pass_all_checks, traces_of_runs_say_what_the_runs_tell,
+    unions_have_their_laws,
 };
