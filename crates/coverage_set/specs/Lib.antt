@@ -3,3 +3,4 @@ pub mod Covered
 pub mod Said
 pub mod Consolidated
 pub mod Written
+pub mod Joined

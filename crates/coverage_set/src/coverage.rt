@@ -14,12 +14,14 @@ ghost use Rattle.vector_rebuild.specs.Entries.{trace_in};
 ghost use Rattle.vector_rebuild.specs.Rebuilt.{visits_of};
 ghost use Rattle.coverage_set.specs.Consolidated.{IsPossibleEvent, IsReadOf, IsRefused};
 ghost use Rattle.coverage_set.specs.Covered.{HasRun, Has, IsUnion, IsCountOfRuns};
+ghost use Rattle.coverage_set.specs.Covered.{Part, HasPart, of_one_object};
 ghost use Rattle.coverage_set.specs.Exact.{event_cmp};
 ghost use Rattle.coverage_set.specs.Said.{IsBrokenBy};
 ghost use Rattle.coverage_set.specs.Written.{IsFileOf};
 
 use crate::consolidated::{events_in, fit, runs_in};
 use crate::entries::{starts_among, vectors_among};
+use crate::join::Join;
 use crate::said::said;
 use crate::set::SortedSet;
 use cov_base::{Digest, Event, Failure};
@@ -121,9 +123,17 @@ impl<'a> Coverage<'a> {
         self.runs.take(runs);
         Ok(())
     }
+}
+
+impl<'a> Join for Coverage<'a> {
+    ghost Part = { Part };
+
+    ghost Has = { HasPart };
+
+    ghost AreAlike = { λ a b. a.object ≡ b.object };
 
     /// Adds what another coverage of the same object stands for.
-    pub fn join(&mut self, other: &Coverage<'_>) -> Result<(), AllocError>
+    fn join(&mut self, other: &Self) -> Result<(), AllocError>
         requires { other.now.object ≡ self.old.object }
         ensures ok { OnOk result (IsUnion self.old other.now self.new) }
         ensures err { OnErr result (self.new ≡ self.old) }
@@ -134,6 +144,8 @@ impl<'a> Coverage<'a> {
         self.runs.take(runs);
         Ok(())
     }
+
+    ghost alike_law = { of_one_object };
 }
 
 /// What a consolidated file of the object of a map says, or the first check that it fails: those of the

@@ -3,7 +3,7 @@ use Rattle.object_format.specs.declared.object.Object.{Object}
 use Rattle.coverage_set.specs.Consolidated.{ArePossible}
 use Rattle.coverage_set.specs.Covered.{Covered}
 use Rattle.coverage_set.proofs.Possible.{union_possible}
-use Rattle.coverage_set.proofs.coverage.Coverage.join.Goals as goal
+use Rattle.coverage_set.proofs.coverage.CoverageJoin.join.Goals as goal
 
 pub invariant_of-self : goal.invariant_of-self
 invariant_of-self c =
