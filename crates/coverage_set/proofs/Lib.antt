@@ -11,3 +11,8 @@ pub mod Order
 pub mod RunLaw
 pub mod Endings
 pub mod OwnTraces
+pub mod Possible
+pub mod Listed
+pub mod Rising
+pub mod Written
+pub mod OneFile

@@ -8,7 +8,7 @@ use Rattle.cov_base.specs.declared.event.Event.{Event}
 use Rattle.cov_base.specs.declared.event.Event.TheVariants.{Start, Done}
 use Rattle.coverage_set.specs.Exact.{event_cmp}
 
-cmp_is : (x y : Event) → derived.cmp x y ≡ event_cmp x y
+pub cmp_is : (x y : Event) → derived.cmp x y ≡ event_cmp x y
 cmp_is (Start s i) (Start t j) = refl
 cmp_is (Start s i) (Done d j w) = refl
 cmp_is (Done d i v) (Start t j) = refl

@@ -1,8 +1,8 @@
 -- Lists that are gathered or looked at item by item: what was gathered, and then what is left, is the whole.
-use Rattle.std.proofs.Common.{◌≡◌, ℕ, zero, suc, ◌+◌, ◌≤◌, List, [], ◌∷◌, ◌++◌, map, drop, length, slice_get, Some, sym, ap, subst, ◌∙◌, append_assoc, arith, inl, inr}
+use Rattle.std.proofs.Common.{◌≡◌, ℕ, zero, suc, ◌+◌, ◌<◌, ◌≤◌, List, [], ◌∷◌, ◌++◌, map, drop, length, get_or, slice_get, Some, sym, ap, subst, ◌∙◌, append_assoc, arith, inl, inr}
 use Rattle.std.specs.Prelude.{IfSome}
 use Rattle.std.proofs.lemmas.Bool.{cases_lt}
-use Rattle.std.proofs.lemmas.List.{append-nil, drop_all}
+use Rattle.std.proofs.lemmas.List.{append-nil, at_drop_more, drop_all}
 use Rattle.coverage_set.specs.Consolidated.{AreBefore}
 
 -- what is left behind an item
@@ -16,6 +16,16 @@ pub one_more : {X Y : Type 0} (f : X → Y) (all gathered : List Y) (xs : List X
     → (gathered ++ f x ∷ []) ++ map f (drop (i + 1) xs) ≡ all
 one_more f all gathered xs i x is so_far =
     append_assoc gathered (f x ∷ []) (map f (drop (i + 1) xs)) ∙ (ap (λ rest. gathered ++ map f rest) (sym (left_behind xs i x is)) ∙ so_far)
+
+-- an item more, of which these are gathered
+pub some_more : {X Y : Type 0} (g : List X → List Y) (xs : List X) (i : ℕ) (x : X) (own gathered new all : List Y) → i < length xs → x ≡ get_or xs i x
+    → g (x ∷ drop (i + 1) xs) ≡ own ++ g (drop (i + 1) xs) → new ≡ gathered ++ own → gathered ++ g (drop i xs) ≡ all → new ++ g (drop (i + 1) xs) ≡ all
+some_more g xs i x own gathered new all within is first grown so_far =
+    let rest = drop (i + 1) xs in
+    ap (λ ys. ys ++ g rest) grown
+    ∙ (append_assoc gathered own (g rest)
+    ∙ (ap (λ ys. gathered ++ ys) (sym first ∙ (ap (λ y. g (y ∷ rest)) is ∙ sym (at_drop_more g xs i x within)))
+    ∙ so_far))
 
 -- nothing is left
 pub none_left : {X Y : Type 0} (g : List X → List Y) → g [] ≡ [] → (all gathered : List Y) (xs : List X) (i : ℕ) → length xs ≤ i → gathered ++ g (drop i xs) ≡ all → gathered ≡ all

@@ -1,31 +1,21 @@
 -- Laws of unions.
-use Rattle.std.proofs.Common.{◌≡◌, ◌↔◌, ◌⊎◌, sym, ◌∙◌, inl, inr}
-use Rattle.coverage_set.specs.Covered.{Covered, HasRun, Has, AreSame, IsUnion}
+use Rattle.std.proofs.Common.{◌≡◌, Result, Ok, Err, OnOk, OnErr, sym, ap, ◌∙◌}
+use Rattle.coverage_set.specs.Covered.{Covered, HasRun, Has, AreSame, IsUnion, ARun, AnEvent, HasPart}
+use Rattle.coverage_set.specs.Joined.{IsUnionBy, swapped, regrouped, doubled}
 
--- what is said of sums: C is A or B
-abbrev pub Or : (A B C : Type 0) → Type 0
-Or A B C = C ↔ (A ⊎ B)
+-- a union of coverages is one of what they have
+pub by_parts : (a b both : Covered) → IsUnion a b both → IsUnionBy HasPart a b both
+by_parts a b both u (ARun digest) = u.runs digest
+by_parts a b both u (AnEvent e) = u.events e
 
-swapped : (A B C D : Type 0) → Or A B C → Or B A D → C ↔ D
-swapped A B C D c d = (
-  λ x. d.1 (elim (c.0 x) [ inl a ↦ inr a | inr b ↦ inl b ]),
-  λ x. c.1 (elim (d.0 x) [ inl b ↦ inr b | inr a ↦ inl a ]),
-)
+-- what a call answers that joins the second to the first
+pub joined_parts : {T E : Type 0} (r : Result T E) (a b new : Covered) → OnOk r (IsUnion a b new) → OnOk r (IsUnionBy HasPart a b new)
+joined_parts (Ok x) a b new u = by_parts a b new u
+joined_parts (Err e) a b new u = tt
 
-regrouped : (A B C AB BC L R : Type 0) → Or A B AB → Or AB C L → Or B C BC → Or A BC R → L ↔ R
-regrouped A B C AB BC L R ab l bc r = (
-  λ x. elim (l.0 x) [
-    | inl left ↦ elim (ab.0 left) [ inl a ↦ r.1 (inl a) | inr b ↦ r.1 (inr (bc.1 (inl b))) ]
-    | inr c ↦ r.1 (inr (bc.1 (inr c)))
-  ],
-  λ x. elim (r.0 x) [
-    | inl a ↦ l.1 (inl (ab.1 (inl a)))
-    | inr right ↦ elim (bc.0 right) [ inl b ↦ l.1 (inl (ab.1 (inr b))) | inr c ↦ l.1 (inr c) ]
-  ],
-)
-
-doubled : (A C : Type 0) → Or A A C → A ↔ C
-doubled A C c = (λ x. c.1 (inl x), λ x. elim (c.0 x) [ inl a ↦ a | inr a ↦ a ])
+pub joined_object : {T E : Type 0} (r : Result T E) (a b new : Covered) → OnOk r (IsUnion a b new) → OnErr r (new ≡ a) → new.object ≡ a.object
+joined_object (Ok x) a b new u same = u.object
+joined_object (Err e) a b new u same = ap (λ (c : Covered). c.object) same
 
 pub commutative : (a b ab ba : Covered) → a.object ≡ b.object → IsUnion a b ab → IsUnion b a ba → AreSame ab ba
 commutative a b ab ba one u v = record {

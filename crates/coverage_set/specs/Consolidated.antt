@@ -51,6 +51,15 @@ pub record IsPossible (o : Object) (v : VectorEntry) : Type 0 where
   pub decided : Somewhere (λ d. d ≡ record { decision = v.decision; instance = v.instance }) (decided_in o)
   pub path : IsPathVector (graph_at o v.decision.0) v.vector
 
+-- runs of the object can have this event: a row starts the statement, or the evaluation is possible
+abbrev pub IsPossibleEvent : Object → Event → Type 0
+IsPossibleEvent o (Start s i) = HasRow o (record { statement = s; instance = i })
+IsPossibleEvent o (Done d i v) = IsPossible o (record { decision = d; instance = i; vector = v })
+
+-- they can have each of these events
+abbrev pub ArePossible : Object → List Event → Type 0
+ArePossible o events = (e : Event) → Somewhere (λ x. x ≡ e) events → IsPossibleEvent o e
+
 -- each of the first so many entries is so
 abbrev pub AreBefore : {X : Type 0} → (X → Type 0) → List X → ℕ → Type 0
 AreBefore P xs n = (i : ℕ) → i < n → IfSome (slice_get xs i) P

@@ -3,7 +3,8 @@
 ghost use Rattle.std.specs.Prelude.{◌≡◌, ◌↔◌, ℕ, List, IfOk, IfErr, OnOk, IsTrue};
 ghost use Rattle.cov_base.specs.declared.event.Event.{Event};
 ghost use Rattle.cov_base.specs.Lists.{Somewhere};
-ghost use Rattle.coverage_set.specs.Consolidated.{starts_of, decided_in, HasRow, IsPossible, IsFirstBeyond, FitsObject, IsRefusedFor, events_in};
+ghost use Rattle.coverage_set.specs.Consolidated.{starts_of, decided_in, events_in};
+ghost use Rattle.coverage_set.specs.Consolidated.{HasRow, IsPossible, IsFirstBeyond, FitsObject, IsRefusedFor};
 
 use crate::set::SortedSet;
 use cov_base::{DecId, Digest, Event, Failure, InstId};
@@ -22,7 +23,8 @@ pub struct Decided {
 
 /// The starts that the rows of an object give.
 fn starts_of(alloc: Global, object: &Object) -> Result<SortedSet<Event>, AllocError>
-    ensures { IfOk result (λ set. (e : Event) → Somewhere (λ x. x ≡ e) set ↔ Somewhere (λ x. x ≡ e) (starts_of object.now)) }
+    ensures { IfOk result (λ set. (e : Event)
+        → Somewhere (λ x. x ≡ e) set ↔ Somewhere (λ x. x ≡ e) (starts_of object.now)) }
 {
     let mut starts = Vec::new(alloc);
     for row in object.rows.as_slice() {
@@ -51,7 +53,8 @@ fn first_without_row(
 
 /// The decisions whose conditions branches of an object decide, with their instances.
 fn decided_in(alloc: Global, object: &Object) -> Result<SortedSet<Decided>, AllocError>
-    ensures { IfOk result (λ set. (d : Decided) → Somewhere (λ x. x ≡ d) set ↔ Somewhere (λ x. x ≡ d) (decided_in object.now)) }
+    ensures { IfOk result (λ set. (d : Decided)
+        → Somewhere (λ x. x ≡ d) set ↔ Somewhere (λ x. x ≡ d) (decided_in object.now)) }
 {
     let mut decided = Vec::new(alloc);
     for role in object.roles.as_slice() {
@@ -133,7 +136,8 @@ pub fn runs_in(alloc: Global, view: &ConsolidatedView<'_>) -> Result<SortedSet<D
 
 /// The events that a consolidated file lists.
 pub fn events_in(alloc: Global, view: &ConsolidatedView<'_>) -> Result<SortedSet<Event>, AllocError>
-    ensures { IfOk result (λ set. (e : Event) → Somewhere (λ x. x ≡ e) set ↔ Somewhere (λ x. x ≡ e) (events_in view.now)) }
+    ensures { IfOk result (λ set. (e : Event)
+        → Somewhere (λ x. x ≡ e) set ↔ Somewhere (λ x. x ≡ e) (events_in view.now)) }
 {
     let mut events = Vec::new(alloc);
     for at in 0..view.starts() {

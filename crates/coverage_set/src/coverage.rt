@@ -12,12 +12,16 @@ ghost use Rattle.transcript.specs.Reading.{AllFollow};
 ghost use Rattle.transcript.specs.Trace.{Says};
 ghost use Rattle.vector_rebuild.specs.Entries.{trace_in};
 ghost use Rattle.vector_rebuild.specs.Rebuilt.{visits_of};
-ghost use Rattle.coverage_set.specs.Consolidated.{IsReadOf, IsRefused};
+ghost use Rattle.coverage_set.specs.Consolidated.{IsPossibleEvent, IsReadOf, IsRefused};
 ghost use Rattle.coverage_set.specs.Covered.{HasRun, Has, IsUnion, IsCountOfRuns};
+ghost use Rattle.coverage_set.specs.Covered.{Part, HasPart, of_one_object};
 ghost use Rattle.coverage_set.specs.Exact.{event_cmp};
 ghost use Rattle.coverage_set.specs.Said.{IsBrokenBy};
+ghost use Rattle.coverage_set.specs.Written.{IsFileOf};
 
 use crate::consolidated::{events_in, fit, runs_in};
+use crate::entries::{starts_among, vectors_among};
+use crate::join::Join;
 use crate::said::said;
 use crate::set::SortedSet;
 use cov_base::{Digest, Event, Failure};
@@ -25,7 +29,7 @@ use decision_map::DecisionMap;
 use object_format::Object;
 use std::alloc::{AllocError, Global};
 use std::marker::Model;
-use trace_format::{ConsFault, ConsolidatedView, TraceView};
+use trace_format::{ConsFault, ConsolidatedParts, ConsolidatedView, TraceView};
 use vector_rebuild::BrokenHistory;
 
 /// What runs of an object covered: the closing digests of their traces, and their events.
@@ -38,11 +42,14 @@ pub struct Coverage<'a> {
 }
 
 impl<'a> Model for Coverage<'a> {
+    ghost use Rattle.coverage_set.specs.Consolidated.{ArePossible};
     ghost use Rattle.coverage_set.specs.Covered.{Covered};
 
     ghost Value = { Covered };
 
     ghost view = { λ c. record { object = c.object.now; runs = c.runs; events = c.events } };
+
+    ghost invariant = { λ c. ArePossible c.object.now c.events };
 }
 
 impl<'a> Coverage<'a> {
@@ -58,28 +65,6 @@ impl<'a> Coverage<'a> {
             runs: SortedSet::new(alloc),
             events: SortedSet::new(alloc),
         }
-    }
-
-    /// What a consolidated file of the object says, or the first check that it fails: those of the format,
-    /// then `foreign`, `start` and `vector`.
-    pub fn read(
-        alloc: Global,
-        map: &DecisionMap<'a>,
-        bytes: &[u8],
-    ) -> Result<Self, Failure<ConsFault>>
-        ensures read { IfOk result (IsReadOf map.now bytes.now) }
-        ensures refused { IfErr result (IsRefused map.now bytes.now) }
-    {
-        let view = ConsolidatedView::view(bytes)?;
-        fit(alloc, map, &view)?;
-        let runs = runs_in(alloc, &view)?;
-        let events = events_in(alloc, &view)?;
-        Ok(Coverage {
-            alloc,
-            object: map.object(),
-            runs,
-            events,
-        })
     }
 
     /// The object.
@@ -102,6 +87,9 @@ impl<'a> Coverage<'a> {
         ensures all { IfOk result (λ events. (e : Event) → Somewhere (λ x. x ≡ e) events.items ↔ Has self.now e) }
         ensures each_once { IfOk result (λ events. AllPairs (λ x y. x ≢ y) events.items) }
         ensures order { IfOk result (λ events. IsStrictlySortedBy event_cmp events.items) }
+
+        // Runs of the object can have them: rows start the statements, and paths give the vectors.
+        ensures possible { (e : Event) → Has self.now e → IsPossibleEvent self.now.object e }
     {
         Vec::from_slice(self.alloc, self.events.as_slice())
     }
@@ -117,8 +105,10 @@ impl<'a> Coverage<'a> {
         requires object { map.now ≡ self.old.object }
         requires fits { fault_of map.now view.now ≡ None }
         ensures object { self.new.object ≡ self.old.object }
-        ensures events { OnOk result ((e : Event) → Has self.new e ↔ (Has self.old e ⊎ Says (facts_of map.now) (trace_in view.now) e)) }
-        ensures runs { OnOk result ((digest : List ℕ) → HasRun self.new digest ↔ (HasRun self.old digest ⊎ (view.now.closing ≡ digest))) }
+        ensures events { OnOk result ((e : Event) → Has self.new e
+            ↔ (Has self.old e ⊎ Says (facts_of map.now) (trace_in view.now) e)) }
+        ensures runs { OnOk result ((digest : List ℕ) → HasRun self.new digest
+            ↔ (HasRun self.old digest ⊎ (view.now.closing ≡ digest))) }
 
         // It is refused exactly where the history breaks, at the first entry that follows none before it.
         ensures follow { OnOk result (AllFollow (facts_of map.now) [] (visits_of (facts_of map.now) view.now.history)) }
@@ -133,9 +123,17 @@ impl<'a> Coverage<'a> {
         self.runs.take(runs);
         Ok(())
     }
+}
+
+impl<'a> Join for Coverage<'a> {
+    ghost Part = { Part };
+
+    ghost Has = { HasPart };
+
+    ghost AreAlike = { λ a b. a.object ≡ b.object };
 
     /// Adds what another coverage of the same object stands for.
-    pub fn join(&mut self, other: &Coverage<'_>) -> Result<(), AllocError>
+    fn join(&mut self, other: &Self) -> Result<(), AllocError>
         requires { other.now.object ≡ self.old.object }
         ensures ok { OnOk result (IsUnion self.old other.now self.new) }
         ensures err { OnErr result (self.new ≡ self.old) }
@@ -146,4 +144,50 @@ impl<'a> Coverage<'a> {
         self.runs.take(runs);
         Ok(())
     }
+
+    ghost alike_law = { of_one_object };
+}
+
+/// What a consolidated file of the object of a map says, or the first check that it fails: those of the
+/// format, then `foreign`, `start` and `vector`.
+pub fn read_consolidated<'a>(
+    alloc: Global,
+    map: &DecisionMap<'a>,
+    bytes: &[u8],
+) -> Result<Coverage<'a>, Failure<ConsFault>>
+    ensures read { IfOk result (IsReadOf map.now bytes.now) }
+    ensures refused { IfErr result (IsRefused map.now bytes.now) }
+
+    // What is read has these bytes as its file.
+    ensures file { IfOk result (λ c. IsFileOf c bytes.now) }
+{
+    let view = ConsolidatedView::view(bytes)?;
+    fit(alloc, map, &view)?;
+    let runs = runs_in(alloc, &view)?;
+    let events = events_in(alloc, &view)?;
+    Ok(Coverage {
+        alloc,
+        object: map.object(),
+        runs,
+        events,
+    })
+}
+
+/// The one consolidated file of what a coverage stands for. Beside a map of the object it is read as a
+/// coverage that stands for the same.
+pub fn write_consolidated(alloc: Global, coverage: &Coverage<'_>) -> Result<Vec<u8>, AllocError>
+    ensures file { IfOk result (λ bytes. IsFileOf coverage.now bytes.items) }
+    ensures reads_back { IfOk result (λ bytes. IsReadOf coverage.now.object bytes.items coverage.now) }
+{
+    let runs = coverage.runs.as_slice();
+    let events = coverage.events.as_slice();
+    let starts = starts_among(alloc, events)?;
+    let vectors = vectors_among(alloc, events)?;
+    let parts = ConsolidatedParts {
+        object: coverage.object.closing,
+        runs,
+        starts: starts.as_slice(),
+        vectors: vectors.as_slice(),
+    };
+    trace_format::write_consolidated(alloc, &parts)
 }

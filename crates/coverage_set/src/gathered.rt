@@ -40,7 +40,8 @@ impl<T: Exact + Drop> Gathered<T> {
 
     /// Adds an item.
     pub fn add(&mut self, item: T) -> Result<(), AllocError>
-        ensures { OnOk result ((x : T) → Somewhere (λ y. y ≡ x) self.new ↔ (Somewhere (λ y. y ≡ x) self.old ⊎ (item ≡ x))) }
+        ensures { OnOk result ((x : T) → Somewhere (λ y. y ≡ x) self.new
+            ↔ (Somewhere (λ y. y ≡ x) self.old ⊎ (item ≡ x))) }
     {
         self.make_room();
         self.items.push(item)?;

@@ -4,18 +4,26 @@
 //! The contract that the layers above use: [`Coverage::add_trace`] leads from a coverage to its union
 //! with what a trace says, or refuses exactly a trace whose history breaks. What a [`Coverage`] stands
 //! for is said by `HasRun` and `Has` of `specs/Covered.antt`, whatever it is kept in.
+//!
+//! [`write_consolidated`] gives the one consolidated file of a coverage (`IsFileOf` of `specs/Written.antt`),
+//! and [`read_consolidated`] reads it beside the object's map. [`Join`] is what a representation of
+//! coverages has to do, and its laws.
 #![tactic(auto)]
 
 mod consolidated;
 mod coverage;
+mod entries;
 mod exact;
 mod gathered;
+mod join;
 mod laws;
 mod said;
 mod set;
 mod started;
 
-pub use coverage::Coverage;
+pub use coverage::{Coverage, read_consolidated, write_consolidated};
+pub use join::Join;
 pub use laws::{
-    own_traces_pass_all_checks, traces_of_runs_say_what_the_runs_tell, unions_have_their_laws,
+    a_coverage_has_one_file, own_traces_pass_all_checks, traces_of_runs_say_what_the_runs_tell,
+    unions_have_their_laws,
 };

@@ -65,7 +65,8 @@ pub fn said(
     requires sound { IsSound map.now }
     requires kept { Everywhere (λ (h : HistoryEntry). needs_history map.now h.address ≡ true) view.now.history }
     ensures follow { OnOk result (AllFollow (facts_of map.now) [] (visits_of (facts_of map.now) view.now.history)) }
-    ensures said { IfOk result (λ events. (e : Event) → Somewhere (λ x. x ≡ e) events ↔ Says (facts_of map.now) (trace_in view.now) e) }
+    ensures said { IfOk result (λ events. (e : Event) → Somewhere (λ x. x ≡ e) events
+        ↔ Says (facts_of map.now) (trace_in view.now) e) }
     ensures broken { IfErr result (IsBrokenBy (facts_of map.now) (visits_of (facts_of map.now) view.now.history)) }
 {
     let mut events = replay(alloc, map, view)?;

@@ -1,6 +1,7 @@
 //! Sets as sorted lists, and the lists that they are made of.
 
-ghost use Rattle.std.specs.Prelude.{◌≡◌, ◌≢◌, ◌↔◌, ◌⊎◌, ◌++◌, ◌∷◌, ◌+◌, ◌<◌, [], length, IsTrue, IfOk, IfSome, MatchOption, unwrap_or, AllPairs, true};
+ghost use Rattle.std.specs.Prelude.{◌≡◌, ◌≢◌, ◌↔◌, ◌⊎◌, ◌++◌, ◌∷◌, ◌+◌, ◌<◌, [], length, true};
+ghost use Rattle.std.specs.Prelude.{IsTrue, IfOk, IfSome, MatchOption, unwrap_or, AllPairs};
 ghost use Rattle.std.specs.List.Sorted.{IsStrictlySortedBy};
 ghost use Rattle.std.specs.Set.{sorted_merge};
 ghost use Rattle.cov_base.specs.Lists.{Somewhere};
@@ -128,8 +129,10 @@ fn merged<T: Exact + Drop>(alloc: Global, left: &[T], right: &[T]) -> Result<Vec
 /// There is none where one of the lists is empty.
 fn least_of<'a, T: Exact>(left: &'a [T], right: &'a [T]) -> Option<(T, &'a [T], &'a [T])>
     ensures merged { MatchOption result (sorted_merge T.cmp true left.now right.now ≡ left.now ++ right.now)
-        (λ least. sorted_merge T.cmp true left.now right.now ≡ least.0 ∷ sorted_merge T.cmp true least.1.now least.2.now) }
-    ensures shorter { IfSome result (λ least. length least.1.now + length least.2.now < length left.now + length right.now) }
+        (λ least. sorted_merge T.cmp true left.now right.now
+        ≡ least.0 ∷ sorted_merge T.cmp true least.1.now least.2.now) }
+    ensures shorter { IfSome result (λ least. length least.1.now + length least.2.now
+        < length left.now + length right.now) }
 {
     let (first, lefts) = left.split_first()?;
     let (second, rights) = right.split_first()?;

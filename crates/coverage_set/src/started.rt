@@ -1,6 +1,7 @@
 //! The statements that started, by the blocks of a trace.
 
-ghost use Rattle.std.specs.Prelude.{◌≡◌, ◌≤◌, ◌++◌, [], ◌∷◌, List, length, slice_get, drop, IfOk, IfSome, OnOk, if◌then◌else◌};
+ghost use Rattle.std.specs.Prelude.{◌≡◌, ◌≤◌, ◌++◌, [], ◌∷◌, List, length, slice_get, drop};
+ghost use Rattle.std.specs.Prelude.{IfOk, IfSome, OnOk, if◌then◌else◌};
 ghost use Rattle.std.specs.List.{list_any};
 ghost use Rattle.cov_base.specs.declared.event.Event.TheVariants.{Start};
 ghost use Rattle.cov_base.specs.Lists.{Everywhere};

@@ -1,4 +1,5 @@
 use Rattle.std.proofs.Common.{◌≡◌, ◌+◌, ◌++◌, map, drop, refl, sym, subst, arith}
+use Rattle.std.proofs.lemmas.Grind.{common_steps}
 use Rattle.std.specs.Prelude.{◌↔◌}
 use Rattle.cov_base.specs.Lists.{Somewhere}
 use Rattle.coverage_set.specs.Consolidated.{start_of, done_of, events_in}
@@ -22,3 +23,6 @@ returns c =
     let same = none_left (map done_of) refl (events_in c.args.view.now) c.loop-at-2.events.items c.args.view.now.vectors c.loop-at-2.at
     (omega (arith, c.vectors-at-end.ensures, c.loop-at-2-test.false)) c.loop-at-2.invariant in
     λ e. subst (λ xs. Somewhere (λ x. x ≡ e) c.of.result ↔ Somewhere (λ x. x ≡ e) xs) same (c.of.ensures e)
+
+pub loop-at-2-init : goal.loop-at-2-init
+loop-at-2-init c = grind (arith, common_steps) steps 2000000

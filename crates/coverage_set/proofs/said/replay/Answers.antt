@@ -1,4 +1,5 @@
 use Rattle.std.proofs.Common.{◌≡◌, ◌↔◌, ◌≤◌, List, [], length, true, subst, arith}
+use Rattle.std.proofs.lemmas.Grind.{common_steps}
 use Rattle.std.proofs.lemmas.Result.{err_from_is_err_and}
 use Rattle.decision_map.specs.Roles.{needs_history}
 use Rattle.object_facts.specs.Object.{facts_of}
@@ -35,3 +36,6 @@ returns-clause-events c = λ e.
     let whole : length c.args.view.now.history ≤ c.loop-at.at = omega (arith, c.history-at-end.ensures, c.loop-at-test.false) in
     subst (λ (fed : List HistoryEntry). Somewhere (λ (x : Event). x ≡ e) c.loop-at.events ↔ Somewhere (λ (x : Event). x ≡ e) (done_of o [] (visits_of o fed)))
     (taken_whole c.args.view.now.history c.loop-at.at whole) (c.loop-at.invariant.told e)
+
+pub returns-clause-follow : goal.returns-clause-follow
+returns-clause-follow c = grind (arith, common_steps) steps 2000000

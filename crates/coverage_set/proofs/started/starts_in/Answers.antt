@@ -1,3 +1,5 @@
+use Rattle.std.proofs.Common.{arith}
+use Rattle.std.proofs.lemmas.Grind.{common_steps}
 use Rattle.coverage_set.proofs.Starts.{one_row, row_there}
 use Rattle.coverage_set.proofs.started.starts_in.Goals as goal
 
@@ -9,3 +11,6 @@ loop-row-preserved c = record {
       (row_there c.args.object.now.rows c.as_slice-row-items.result.now c.loop-row.row-index _ c.as_slice-row-items.ensures c.loop-row-test.true) c.first_reaching-block.ensures.passed
       c.is_covered_at.ensures c.in_ok-add_start.ensures c.loop-row.invariant.rest;
 }
+
+pub returns : goal.returns
+returns c = grind (arith, common_steps) steps 2000000

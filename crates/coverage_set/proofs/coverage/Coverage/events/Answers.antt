@@ -11,3 +11,6 @@ returns-clause-order c =
     IfOk-weaker c.from_slice.result (λ v. v.items ≡ c.as_slice.result.now) (λ v. IsStrictlySortedBy event_cmp v.items)
     (λ v is. subst (λ (es : List Event). IsStrictlySortedBy event_cmp es) (sym (is ∙ c.as_slice.ensures.items)) (ordered c.self.inside.events c.as_slice.ensures.sorted))
     c.from_slice.ensures.items
+
+pub returns-clause-possible : goal.returns-clause-possible
+returns-clause-possible c = rw (← c.self.view_is) c.self.invariant
