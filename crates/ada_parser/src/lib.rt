@@ -7,7 +7,8 @@
 //! them in view; that this reading is the derivation is proved in `proofs/`, for every extent.
 //!
 //! The contract that the layers above use: [`parse`] answers the units that the tokens derive, or
-//! else, where they derive none, the place at which they are refused.
+//! else, where they derive none, the place at which they are refused. [`count_nodes`] answers how many
+//! nodes these units have.
 #![tactic(auto)]
 
 mod arms;
@@ -24,4 +25,4 @@ mod statements;
 mod units;
 mod words;
 
-pub use crate::refusal::{SyntaxFault, parse, parse_within};
+pub use crate::refusal::{SyntaxFault, count_nodes, parse, parse_within};

@@ -1,7 +1,8 @@
 //! Files, and the places of refusals.
 
-ghost use Rattle.std.specs.Prelude.{◌≡◌, IfOk, IfErr, sum_by};
-ghost use Rattle.ada_syntax.specs.Nodes.{unit_nodes};
+ghost use Rattle.std.specs.Prelude.{◌≡◌, List, IfOk, IfErr, sum_by};
+ghost use Rattle.ada_syntax.specs.Nodes.{capped, unit_nodes};
+ghost use Rattle.ada_syntax.specs.declared.unit.Unit.{Unit as LibraryUnit};
 ghost use Rattle.declaration_parser.specs.NodeTokens.{node_tokens};
 ghost use Rattle.ada_parser.specs.Grammar.{IsFile};
 ghost use Rattle.ada_parser.specs.Opening.{open_extent};
@@ -9,7 +10,7 @@ ghost use Rattle.ada_parser.specs.Refusal as refusal;
 
 use crate::units::file;
 use ada_lexer::Token;
-use ada_syntax::Unit;
+use ada_syntax::{Unit, node_count};
 use cov_base::{Failure, Pos};
 use expression_parser::{Extent, Fault, Parser};
 use std::alloc::Global;
@@ -81,4 +82,31 @@ pub fn parse(alloc: Global, tokens: &[Token]) -> Result<Vec<Unit>, Failure<Synta
     ensures refused { IfErr result (refusal.RefusedBy open_extent tokens.now) }
 {
     parse_within(alloc, OPEN_EXTENT, tokens)
+}
+
+/// The nodes of units, one after another. The count stands still at 2^32 - 1.
+fn nodes_of(units: &[Unit]) -> u32
+    ensures { result ≡ capped (sum_by unit_nodes units.now) }
+{
+    let mut nodes: u32 = 0;
+    for unit in units {
+        nodes = nodes.saturating_add(node_count(unit));
+    }
+    nodes
+}
+
+/// How many nodes the library units of a file have, from its tokens, within an extent of the grammar:
+/// for who asks whether there are such units, and keeps none. The count stands still at 2^32 - 1.
+pub fn count_nodes(
+    alloc: Global,
+    extent: Extent,
+    tokens: &[Token],
+) -> Result<u32, Failure<SyntaxFault>>
+    ensures derived { IfOk result (λ nodes. (units : List LibraryUnit) × IsFile extent units tokens.now
+        × (nodes ≡ capped (sum_by unit_nodes units))) }
+    ensures nodes { IfOk result (λ nodes. nodes ≡ capped (node_tokens tokens.now)) }
+    ensures refused { IfErr result (refusal.RefusedBy extent tokens.now) }
+{
+    let units = parse_within(alloc, extent, tokens)?;
+    Ok(nodes_of(units.as_slice()))
 }

@@ -17,6 +17,3 @@ mod values;
 pub use constants::constants_in;
 pub use sizes::{TypeSizes, sizes_are_exact};
 pub use values::{bounds_in, number_in};
-
-#[cfg(test)]
-mod tests;

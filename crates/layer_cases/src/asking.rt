@@ -6,7 +6,7 @@ use crate::blobs::Blobs;
 use crate::fault::{Answer, CaseFault};
 use crate::objects::object_named;
 use crate::words::split_word;
-use crate::{decisions, instructions, lists, objects, runs, sources};
+use crate::{consolidated, decisions, generics, instructions, lists, objects, runs, sources};
 use cov_base::Failure;
 use object_format::Object;
 use std::alloc::Global;
@@ -49,7 +49,10 @@ fn asked(alloc: Global, blobs: &Blobs, out: &mut String, line: &str) -> Answer {
         "edges" => decisions::edges(alloc, out, words),
         "pairs" => decisions::pairs(alloc, out, words),
         "longs" => lists::longs(alloc, out, words),
-        "run" | "words" | "fit" | "events" => of_object(alloc, blobs, out, command, words),
+        "generic" => generics::generic(alloc, out, words),
+        "run" | "words" | "fit" | "events" | "covered" => {
+            of_object(alloc, blobs, out, command, words)
+        }
         _ => of_latest(alloc, out, command, words, blobs.latest()?),
     }
 }
@@ -67,6 +70,7 @@ fn of_latest(alloc: Global, out: &mut String, command: &str, words: &str, blob: 
         "plain" => objects::plain(alloc, out, blob),
         "input" => objects::input(alloc, out, blob),
         "trace" => runs::trace(out, blob),
+        "consolidated" => consolidated::consolidated(alloc, out, blob),
         _ => Err(Failure::Fault(CaseFault::Command)),
     }
 }
@@ -93,6 +97,7 @@ fn asked_of_object(
         "run" => objects::run_on_latest(alloc, blobs, out, object, words),
         "words" => objects::words_at(alloc, out, object, words),
         "fit" => runs::fit_latest(alloc, blobs, out, object),
+        "covered" => consolidated::covered(alloc, out, object, blobs.latest()?),
         _ => runs::events(alloc, blobs, out, object, words),
     }
 }

@@ -1,6 +1,7 @@
 //! The laws of the layers: functions that do nothing, each with a law as its contract. Each is called
 //! once.
 
+use ada_resolved::sizes_are_exact;
 use annotated_report::{
     pairs_are_of_events, the_report_ends_in_all_least_pairs, the_text_depends_on_the_set_of_events,
     verdicts_are_those_of_the_definitions,
@@ -18,6 +19,7 @@ use trace_record::histories_are_no_longer_than_runs;
 pub(crate) fn call_laws() {
     read_again();
     one_word();
+    sizes_are_exact();
     one_value::<u32>();
     one_spelling::<u32>();
     one_object();

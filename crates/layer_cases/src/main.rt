@@ -21,8 +21,10 @@
 
 mod asking;
 mod blobs;
+mod consolidated;
 mod decisions;
 mod fault;
+mod generics;
 mod instructions;
 mod laws;
 mod lists;

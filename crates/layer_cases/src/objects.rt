@@ -61,7 +61,7 @@ pub(crate) fn map_of(alloc: Global, object: &Object) -> Result<DecisionMap<'_>, 
 }
 
 /// Whether what was written is what was read, in words.
-fn sameness(written: &[u8], read: &[u8]) -> &'static str {
+pub(crate) fn sameness(written: &[u8], read: &[u8]) -> &'static str {
     if written == read {
         "the same file"
     } else {

@@ -181,7 +181,7 @@ fn covered_by_all<'a>(
 }
 
 /// Adds an event.
-fn add_event(out: &mut String, event: Event) -> Result<(), AllocError> {
+pub(crate) fn add_event(out: &mut String, event: Event) -> Result<(), AllocError> {
     match event {
         Event::Start(statement, instance) => {
             writeln!(out, "start {} instance {}", statement.0, instance.0)
@@ -203,7 +203,7 @@ fn add_runs(out: &mut String, runs: u64, events: &[Event]) -> Result<(), AllocEr
 }
 
 /// Adds what was covered.
-fn add_coverage(out: &mut String, coverage: &Coverage<'_>) -> Result<(), AllocError> {
+pub(crate) fn add_coverage(out: &mut String, coverage: &Coverage<'_>) -> Result<(), AllocError> {
     let events = coverage.events()?;
     add_runs(out, coverage.runs(), events.as_slice())
 }

@@ -12,8 +12,7 @@
 use crate::fault::{Answer, CaseFault};
 use crate::words::number;
 use ada_lexer::{LexFault, Token, lex, nested};
-use ada_parser::{SyntaxFault, parse, parse_within};
-use ada_syntax::{Unit, node_count};
+use ada_parser::{SyntaxFault, count_nodes};
 use cov_base::{Failure, Pos, Region};
 use exemptions::{Unpaired, exempt, regions};
 use expression_parser::Extent;
@@ -115,22 +114,6 @@ fn extent_of(word: &str) -> Extent {
     }
 }
 
-/// What the parser says of tokens within the extent that a word names.
-fn parsed(alloc: Global, tokens: &[Token], word: &str) -> Result<Vec<Unit>, Failure<SyntaxFault>> {
-    match extent_of(word) {
-        Extent::ShortCircuit => parse(alloc, tokens),
-        extent => parse_within(alloc, extent, tokens),
-    }
-}
-
-/// The nodes of all units.
-fn nodes_of(units: &[Unit]) -> u64 {
-    units.iter().fold(
-        0,
-        |sum: u64, unit| sum.saturating_add(u64::from(node_count(unit))),
-    )
-}
-
 /// Adds whether tokens derive a file.
 fn add_parsed(
     alloc: Global,
@@ -138,8 +121,8 @@ fn add_parsed(
     tokens: &[Token],
     words: &str,
 ) -> Result<(), AllocError> {
-    match parsed(alloc, tokens, words) {
-        Ok(units) => writeln!(out, "derives, {} nodes", nodes_of(units.as_slice())),
+    match count_nodes(alloc, extent_of(words), tokens) {
+        Ok(nodes) => writeln!(out, "derives, {nodes} nodes"),
         Err(Failure::Fault(SyntaxFault { pos })) => add_fault(out, pos, "syntax error"),
         Err(Failure::WantOfMemory) => Err(AllocError),
     }
@@ -154,14 +137,20 @@ pub(crate) fn parse_blob(alloc: Global, out: &mut String, source: &[u8], words: 
     Ok(added?)
 }
 
-/// Whether tokens are refused at the last one; without tokens at line 1 and column 1.
+/// Whether the last of tokens stands at a place; without tokens whether that is line 1 and column 1.
+fn ends_at(tokens: &[Token], place: Pos) -> bool {
+    let (line, col) = match tokens.last() {
+        Some(last) => (last.pos.line, last.pos.col),
+        None => (1, 1),
+    };
+    place.line == line && place.col == col
+}
+
+/// Whether tokens are refused at the last one.
 fn is_refused_at_its_end(alloc: Global, tokens: &[Token]) -> Result<bool, Failure<CaseFault>> {
-    let end = tokens
-        .last()
-        .map_or((1, 1), |last| (last.pos.line, last.pos.col));
-    match parse_within(alloc, Extent::Whole, tokens) {
+    match count_nodes(alloc, Extent::Whole, tokens) {
         Ok(_) => Ok(false),
-        Err(Failure::Fault(SyntaxFault { pos })) => Ok((pos.line, pos.col) == end),
+        Err(Failure::Fault(SyntaxFault { pos })) => Ok(ends_at(tokens, pos)),
         Err(Failure::WantOfMemory) => Err(Failure::WantOfMemory),
     }
 }

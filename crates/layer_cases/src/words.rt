@@ -15,6 +15,12 @@ pub(crate) fn number(word: &str) -> Result<usize, Failure<CaseFault>> {
         .map_err(|_| Failure::Fault(CaseFault::Number))
 }
 
+/// A decimal number that may have a sign.
+pub(crate) fn integer(word: &str) -> Result<i32, Failure<CaseFault>> {
+    word.parse::<i32>()
+        .map_err(|_| Failure::Fault(CaseFault::Number))
+}
+
 /// An address, in hexadecimal digits.
 pub(crate) fn address(word: &str) -> Result<u32, Failure<CaseFault>> {
     u32::from_str_radix(word, 16).map_err(|_| Failure::Fault(CaseFault::Number))
