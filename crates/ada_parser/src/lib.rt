@@ -25,4 +25,4 @@ mod statements;
 mod units;
 mod words;
 
-pub use crate::refusal::{SyntaxFault, count_nodes, parse, parse_within};
+pub use crate::refusal::{SyntaxFault, count_nodes, discard_units, parse, parse_within};

@@ -231,6 +231,12 @@ pub fn check(alloc: Global, units: &[Unit], main: &str) -> Result<Program, Failu
     check_lower(alloc, units, lower.as_slice())
 }
 
+/// Gives back the memory of a program, for who keeps it no longer. What it takes to drop a tree is proved
+/// anew in each crate that drops one, and this crate does it for those above.
+pub fn discard_program(program: Program) {
+    drop(program);
+}
+
 /// Units that are refused are no legal program.
 pub fn refused_is_illegal()
     ensures { (units : List LibraryUnit) (main : List ℕ) (fault : CheckFault) → Refuses units (str_to_ascii_lowercase main) (Fault fault) → elaborated units main ≡ None }

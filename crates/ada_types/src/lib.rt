@@ -22,5 +22,5 @@ mod statements;
 mod units;
 
 pub use ada_expressions::TypeFault;
-pub use checker::{check, refused_is_illegal};
+pub use checker::{check, discard_program, refused_is_illegal};
 pub use fault::{CheckFault, LimitFault};

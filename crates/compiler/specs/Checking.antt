@@ -1,12 +1,13 @@
 -- How refusals of units are told as faults of their sources.
-use Rattle.std.specs.Prelude.{◌≡◌, ℕ, true, List, Some}
+use Rattle.std.specs.Prelude.{◌≡◌, ℕ, true, List, map, Some, None}
 use Rattle.std.specs.Str.{str_to_ascii_lowercase}
-use Rattle.ada_meaning.specs.Program.{Subprogram}
+use Rattle.ada_meaning.specs.Program.{Program, Subprogram}
 use Rattle.ada_names.specs.Naming.{named}
 use Rattle.ada_names.specs.Rules.{BreaksNames}
 use Rattle.ada_syntax.specs.declared.unit.Unit.{Unit as LibraryUnit}
 use Rattle.ada_tree.specs.declared.program.UnitEntry.{UnitEntry}
-use Rattle.ada_types.specs.Legal.{typed, past_limits}
+use Rattle.ada_types.specs.Checked.{entry_of}
+use Rattle.ada_types.specs.Legal.{elaborated, typed, past_limits}
 use Rattle.ada_types.specs.Rules.{BreaksTypes}
 use Rattle.ada_types.specs.declared.fault.CheckFault.{CheckFault}
 use Rattle.ada_types.specs.declared.fault.CheckFault.TheVariants as check_fault
@@ -20,6 +21,10 @@ use Rattle.compiler.specs.Units.{fault_at}
 use Rattle.compiler.specs.declared.fault.SourceFault.{SourceFault}
 use Rattle.compiler.specs.declared.fault.Why.{Why}
 use Rattle.compiler.specs.declared.fault.Why.TheVariants.{Limit, Naming, Typing}
+
+-- the program of units that keep the rules, within the limit on nodes
+abbrev pub IsSmallProgram : List LibraryUnit → List ℕ → Program → Type 0
+IsSmallProgram units main p = (elaborated units main ≡ Some p) × (first_past 0 (map entry_of units) ≡ None)
 
 abbrev pub failure_at : Pos → Why → Failure SourceFault
 failure_at pos why = Fault (fault_at pos why)

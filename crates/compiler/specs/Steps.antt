@@ -1,7 +1,10 @@
 -- What the steps from source files to their units find, and why one failed, where memory was not refused.
-use Rattle.std.specs.Prelude.{◌≡◌, ℕ, List, Err}
+use Rattle.std.specs.Prelude.{◌≡◌, ◌++◌, ℕ, List, Err}
 use Rattle.ada_lexer.specs.declared.lexer.LexFault.{LexFault}
 use Rattle.ada_lexer.specs.declared.token.Token.{Token}
+use Rattle.ada_parser.specs.Grammar.{IsFile}
+use Rattle.ada_parser.specs.Opening.{open_extent}
+use Rattle.ada_parser.specs.Refusal.{IsOnlyFile}
 use Rattle.ada_syntax.specs.declared.unit.Unit.{Unit as LibraryUnit}
 use Rattle.cov_base.specs.declared.failure.Failure.{Failure}
 use Rattle.cov_base.specs.declared.failure.Failure.TheVariants.{Fault, WantOfMemory}
@@ -22,3 +25,10 @@ FailsToParse n lists WantOfMemory = Unit {0}
 -- files have no other units
 abbrev pub AreOnlyUnits : List (List Token) → List LibraryUnit → Type 0
 AreOnlyUnits lists units = (others : List LibraryUnit) → AreUnits lists others → others ≡ units
+
+-- units, and behind them those of a file with these tokens, which has no others
+pub record AddsUnitsOf (tokens : List Token) (before after : List LibraryUnit) : Type 0 where
+  pub units : List LibraryUnit
+  pub all : after ≡ before ++ units
+  pub derived : IsFile open_extent units tokens
+  pub only : IsOnlyFile open_extent tokens units

@@ -6,17 +6,20 @@ ghost use Rattle.ada_types.specs.Checked.{entry_of};
 ghost use Rattle.ada_types.specs.Legal.{elaborated};
 ghost use Rattle.compiler.specs.Built.{AreLegal};
 ghost use Rattle.compiler.specs.Checking as spec;
-ghost use Rattle.compiler.specs.Checking.{UnitsAreRefused, PassesLimit};
+ghost use Rattle.compiler.specs.Checking.{UnitsAreRefused, PassesLimit, IsSmallProgram};
 ghost use Rattle.compiler.specs.Legal.{RefusesFor};
+ghost use Rattle.compiler.specs.Units.{HaveUnits};
+ghost use Rattle.cov_base.specs.declared.obligations.SourceFile.{SourceFile};
 ghost use Rattle.generic_expand.specs.Expanded as expanded;
 
 use crate::fault::{SourceFault, Why};
 use crate::units::units_of;
 use ada_expressions::TypeFault;
 use ada_names::NameFault;
+use ada_parser::discard_units;
 use ada_syntax::Unit;
 use ada_tree::Program;
-use ada_types::{CheckFault, LimitFault, check};
+use ada_types::{CheckFault, LimitFault, check, discard_program};
 use cov_base::{Failure, Pos, SourceFile};
 use generic_expand::{ExpandFault, expand};
 use std::alloc::Global;
@@ -33,9 +36,24 @@ pub(crate) fn legal_program(
     ensures refused { IfErr result (RefusesFor files.now main.now) }
 {
     let units = units_of(alloc, files)?;
-    let program = checked_program(alloc, units.as_slice(), main)?;
-    check_size(alloc, &program)?;
-    Ok(program)
+    let answer = small_program(alloc, units.as_slice(), main);
+    discard_units(units);
+    answer
+}
+
+/// The program of units that pass the rules, and the limit on nodes.
+fn small_program(alloc: Global, units: &[Unit], main: &str) -> Result<Program, Failure<SourceFault>>
+    ensures legal { IfOk result (λ p. IsSmallProgram units.now main.now (program_of p)) }
+    ensures refused { (files : List SourceFile) → HaveUnits files units.now → IfErr result (RefusesFor files main.now) }
+{
+    let program = checked_program(alloc, units, main)?;
+    match check_size(alloc, &program) {
+        Ok(()) => Ok(program),
+        Err(failure) => {
+            discard_program(program);
+            Err(failure)
+        }
+    }
 }
 
 /// The program of units that pass the rules on names and types, and the limits on declared words and on

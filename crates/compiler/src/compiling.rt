@@ -11,6 +11,7 @@ ghost use Rattle.object_format.specs.Read.{IsObject, HasObject};
 use crate::building::object_of;
 use crate::checking::legal_program;
 use crate::fault::SourceFault;
+use ada_types::discard_program;
 use cov_base::{Bytes, Failure, SourceFile};
 use object_format::{Object, write_with_digest};
 use std::alloc::{AllocError, Global};
@@ -37,8 +38,9 @@ pub fn compile(
     ensures refused { IfErr result (RefusesFor files.now main.now) }
 {
     let program = legal_program(alloc, files, main)?;
-    let object = object_of(alloc, files, &program)?;
-    Ok(closed(alloc, object)?)
+    let object = object_of(alloc, files, &program);
+    discard_program(program);
+    Ok(closed(alloc, object?)?)
 }
 
 /// An object with its closing digest, and its file.

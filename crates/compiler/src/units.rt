@@ -1,7 +1,7 @@
 //! The library units of source files, which are numbered from 0 in their order. Each step looks at all
 //! files before the next begins.
 
-ghost use Rattle.std.specs.Prelude.{◌≡◌, ◌^◌, ◌<◌, ℕ, List, [], ◌∷◌, None, Ok, IfOk, IfErr, length};
+ghost use Rattle.std.specs.Prelude.{◌≡◌, ◌^◌, ◌<◌, ℕ, List, [], ◌∷◌, None, Ok, IfOk, IfErr, OnOk, length};
 ghost use Rattle.ada_places.specs.Places.{unit_conditions, decision_places, places_of};
 ghost use Rattle.ada_places.specs.Rising.{DecisionsRise, StatementsRise};
 ghost use Rattle.ada_parser.specs.Grammar.{IsFile};
@@ -22,14 +22,14 @@ ghost use Rattle.compiler.specs.Units.{
   HaveTokens,
   HaveUnits,
 };
-ghost use Rattle.compiler.specs.Steps.{AreOnlyUnits, FailsToLex, FailsToParse};
+ghost use Rattle.compiler.specs.Steps.{AddsUnitsOf, AreOnlyUnits, FailsToLex, FailsToParse};
 ghost use Rattle.ada_syntax.specs.declared.unit.Unit.{Unit as LibraryUnit};
 ghost use Rattle.cov_base.specs.declared.obligations.SourceFile.{SourceFile};
 ghost use Rattle.compiler.specs.declared.fault.SourceFault.{SourceFault};
 
 use crate::fault::{SourceFault, Why};
 use ada_lexer::{LexFault, Token, lex, nested};
-use ada_parser::parse;
+use ada_parser::{discard_units, parse};
 use ada_syntax::Unit;
 use cov_base::{Failure, Pos, Seq, SourceFile};
 use std::alloc::Global;
@@ -133,11 +133,47 @@ fn units_of_tokens(alloc: Global, lists: &[Seq<Token>]) -> Result<Vec<Unit>, Fai
     ensures refused { IfErr result (FailsToParse 0 lists.now) }
 {
     let mut units = Vec::new(alloc);
-    for (file, tokens) in lists.iter().enumerate() {
-        let mut more = units_of_file(alloc, file as u32, tokens.as_slice())?;
-        units.append(&mut more)?;
+    match add_units(alloc, lists, &mut units) {
+        Ok(()) => Ok(units),
+        Err(failure) => {
+            discard_units(units);
+            Err(failure)
+        }
     }
-    Ok(units)
+}
+
+/// Adds the units of all files, from the tokens of each.
+fn add_units(
+    alloc: Global,
+    lists: &[Seq<Token>],
+    units: &mut Vec<Unit>,
+) -> Result<(), Failure<SourceFault>>
+    requires numbers { length lists.now < 2 ^ 32 }
+    requires empty { units.old.items ≡ [] }
+    ensures units { OnOk result (AreUnits lists.now units.new.items) }
+    ensures only_units { OnOk result (AreOnlyUnits lists.now units.new.items) }
+    ensures refused { IfErr result (FailsToParse 0 lists.now) }
+{
+    for (file, tokens) in lists.iter().enumerate() {
+        add_units_of_file(alloc, file as u32, tokens.as_slice(), units)?;
+    }
+    Ok(())
+}
+
+/// Adds the units of the file with this number behind those of the files before it.
+fn add_units_of_file(
+    alloc: Global,
+    file: u32,
+    tokens: &[Token],
+    units: &mut Vec<Unit>,
+) -> Result<(), Failure<SourceFault>>
+    ensures added { OnOk result (AddsUnitsOf tokens.now units.old.items units.new.items) }
+    ensures refused { IfErr result (FailsToParse file (tokens.now ∷ [])) }
+{
+    let mut more = units_of_file(alloc, file, tokens)?;
+    let added = units.append(&mut more);
+    discard_units(more);
+    Ok(added?)
 }
 
 /// The units of the file with this number, from its tokens.

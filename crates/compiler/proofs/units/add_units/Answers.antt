@@ -1,18 +1,19 @@
 use Rattle.std.proofs.lemmas.List.{drop_all}
 use Rattle.std.proofs.lemmas.Result.{err_from_is_err_and}
 use Rattle.compiler.proofs.UnitLaws.{next_of, parsed_more, parsed_fault, parsed_all, only_all}
-use Rattle.compiler.proofs.units.units_of_tokens.Goals as goal
+use Rattle.compiler.proofs.units.add_units.Goals as goal
 
-pub returns-in_err-more-clause-refused : goal.returns-in_err-more-clause-refused
-returns-in_err-more-clause-refused c =
+pub returns-in_err-add_units_of_file-clause-refused : goal.returns-in_err-add_units_of_file-clause-refused
+returns-in_err-add_units_of_file-clause-refused c =
     let p = err_from_is_err_and c.from_residual.result c.from_residual.ensures.1 in
     let next = rw (next_of c.args.lists.now c.loop-file.file c.index-lists-file.result c.loop-file-test.true c.index-lists-file.is) at c.loop-file.invariant in
-    rw (p.1, p.2) (parsed_fault c.in_err-more.field-0.0 next (rw c.as_slice.ensures at c.in_err-more.ensures.refused))
+    rw (p.1, p.2) (parsed_fault c.in_err-add_units_of_file.field-0.0 next (rw c.as_slice.ensures at c.in_err-add_units_of_file.ensures.refused))
 
 pub loop-file-preserved : goal.loop-file-preserved
 loop-file-preserved c =
     let next = rw (next_of c.args.lists.now c.loop-file.file c.index-lists-file.result c.loop-file-test.true c.index-lists-file.is) at c.loop-file.invariant in
-    rw (c.in_ok-append.ensures.items) (parsed_more next (rw c.as_slice.ensures at c.in_ok-more.ensures.units) (rw c.as_slice.ensures at c.in_ok-more.ensures.only_units))
+    let added = rw c.as_slice.ensures at c.in_ok-add_units_of_file.ensures.added in
+    rw (added.all) (parsed_more next added.derived added.only)
 
 pub returns-clause-units : goal.returns-clause-units
 returns-clause-units c = parsed_all (rw (drop_all c.loop-file.file c.args.lists.now c.loop-file-test.false) at c.loop-file.invariant)
