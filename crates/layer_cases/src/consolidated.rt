@@ -3,7 +3,7 @@
 //! | Line | Asks |
 //! |---|---|
 //! | `consolidated` | what the latest blob holds as a consolidated file, which is written again, or why none |
-//! | `covered OBJECT` | how many runs of the object the latest blob tells of, and their events, or why it is refused |
+//! | `covered OBJECT` | how many runs of the object the latest blob tells of, their events, and whether they are written as it, or why it is refused |
 
 ghost use Rattle.std.specs.Prelude.{◌≡◌, IfOk};
 ghost use Rattle.object_format.specs.Checked.{IsSound};
@@ -13,7 +13,7 @@ use crate::fault::Answer;
 use crate::objects::{map_of, sameness};
 use crate::runs::{add_coverage, add_event};
 use cov_base::{Digest, Event, Failure};
-use coverage_set::Coverage;
+use coverage_set::{Coverage, read_consolidated};
 use decision_map::DecisionMap;
 use object_format::Object;
 use std::alloc::{AllocError, Global};
@@ -122,6 +122,18 @@ pub(crate) fn consolidated(alloc: Global, out: &mut String, bytes: &[u8]) -> Ans
     Ok(added?)
 }
 
+/// Adds what a coverage covers, and whether it is written as the file that was read.
+fn add_covering(
+    alloc: Global,
+    out: &mut String,
+    coverage: &Coverage<'_>,
+    bytes: &[u8],
+) -> Result<(), AllocError> {
+    add_coverage(out, coverage)?;
+    let again = coverage_set::write_consolidated(alloc, coverage)?;
+    writeln!(out, "{} again", sameness(again.as_slice(), bytes))
+}
+
 /// Adds what a consolidated file says of an object.
 fn add_covered(
     alloc: Global,
@@ -129,8 +141,8 @@ fn add_covered(
     map: &DecisionMap<'_>,
     bytes: &[u8],
 ) -> Result<(), AllocError> {
-    match Coverage::read(alloc, map, bytes) {
-        Ok(coverage) => add_coverage(out, &coverage),
+    match read_consolidated(alloc, map, bytes) {
+        Ok(coverage) => add_covering(alloc, out, &coverage, bytes),
         Err(Failure::Fault(fault)) => writeln!(out, "{fault}"),
         Err(Failure::WantOfMemory) => Err(AllocError),
     }

@@ -7,7 +7,8 @@ use annotated_report::{
     verdicts_are_those_of_the_definitions,
 };
 use coverage_set::{
-    own_traces_pass_all_checks, traces_of_runs_say_what_the_runs_tell, unions_have_their_laws,
+    a_coverage_has_one_file, own_traces_pass_all_checks, traces_of_runs_say_what_the_runs_tell,
+    unions_have_their_laws,
 };
 use object_format::{an_object_is_laid_out, one_object};
 use rv_isa::{one_word, read_again};
@@ -28,6 +29,7 @@ pub(crate) fn call_laws() {
     passing();
     histories_are_no_longer_than_runs();
     unions_have_their_laws();
+    a_coverage_has_one_file();
     traces_of_runs_say_what_the_runs_tell();
     own_traces_pass_all_checks();
     the_text_depends_on_the_set_of_events();

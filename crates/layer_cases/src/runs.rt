@@ -13,7 +13,7 @@ use crate::blobs::Blobs;
 use crate::fault::{Answer, CaseFault};
 use crate::objects::map_of;
 use cov_base::{Event, Failure};
-use coverage_set::Coverage;
+use coverage_set::{Coverage, Join};
 use decision_map::DecisionMap;
 use object_format::Object;
 use std::alloc::{AllocError, Global};
