@@ -17,7 +17,7 @@ use crate::token::Lexeme;
 use crate::word::{is_word_byte, word, word_length};
 
 /// What is cut off the front of a text, and how many bytes it takes.
-#[derive(Clone, Copy, PartialEq, Eq)]
+#[derive(Clone, Copy)]
 pub enum Cut {
     /// A separator or a comment.
     Blank(usize),

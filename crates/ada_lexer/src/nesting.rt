@@ -10,7 +10,7 @@ use cov_base::Pos;
 const MAX_DEPTH: u32 = 64;
 
 /// How deep a place is.
-#[derive(Clone, Copy, PartialEq, Eq)]
+#[derive(Clone, Copy)]
 struct Depth {
     /// How many parentheses are open.
     parentheses: u32,

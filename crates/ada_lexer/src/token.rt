@@ -197,7 +197,7 @@ impl Lexeme {
 
 /// A token: what it is, the place of its first byte, and its text, which is the bytes `from..to` of
 /// its source.
-#[derive(Debug, Drop)]
+#[derive(Drop)]
 pub struct Token {
     pub lexeme: Lexeme,
     /// The place of its first byte.

@@ -7,7 +7,7 @@ use std::alloc::{AllocError, AllocFailed};
 
 /// Why a call has no value: a named fault of what it was given, or want of memory, which is merged
 /// with nothing.
-#[derive(Clone, Copy, Debug, PartialEq, Eq)]
+#[derive(Clone, Copy)]
 pub enum Failure<F> {
     /// The fault.
     Fault(F),

@@ -1,7 +1,7 @@
 //! The levels of coverage, and the forms of a report.
 
 /// How much is asked of a program's runs, each level more than the one before.
-#[derive(Clone, Copy, Debug, PartialEq, Eq, PartialOrd, Ord)]
+#[derive(Clone, Copy, PartialEq, Eq)]
 pub enum Level {
     /// Each statement is executed.
     Stmt,
@@ -14,7 +14,7 @@ pub enum Level {
 }
 
 /// The form in which coverage is shown.
-#[derive(Clone, Copy, Debug, PartialEq, Eq, PartialOrd, Ord)]
+#[derive(Clone, Copy, PartialEq, Eq)]
 pub enum Annotation {
     /// Violations and totals, as lines of text.
     Report,

@@ -18,7 +18,7 @@ pub struct SourceFile {
 }
 
 /// A statement obligation: where the statement begins.
-#[derive(Clone, Copy, PartialEq, Eq, PartialOrd, Ord)]
+#[derive(Clone, Copy, PartialEq, Eq)]
 pub struct StmtEntry {
     pub file: u32,
     pub line: u32,
@@ -26,7 +26,7 @@ pub struct StmtEntry {
 }
 
 /// A line and a column of a file that is known from elsewhere.
-#[derive(Clone, Copy, PartialEq, Eq, PartialOrd, Ord)]
+#[derive(Clone, Copy, PartialEq, Eq)]
 pub struct Place {
     pub line: u32,
     pub column: u32,

@@ -24,17 +24,17 @@ impl Pos {
 }
 
 /// The number of a statement obligation, from 0 in the order of file, line and column.
-#[derive(Clone, Copy, Debug, PartialEq, Eq, PartialOrd, Ord)]
+#[derive(Clone, Copy, PartialEq, Eq, PartialOrd, Ord)]
 pub struct StmtId(pub u32);
 
 /// The number of a decision, from 0 in the order of file, line and column.
-#[derive(Clone, Copy, Debug, PartialEq, Eq, PartialOrd, Ord)]
+#[derive(Clone, Copy, PartialEq, Eq, PartialOrd, Ord)]
 pub struct DecId(pub u32);
 
 /// The number of an instance. Number 0 is all that stands in no generic.
-#[derive(Clone, Copy, Debug, PartialEq, Eq, PartialOrd, Ord)]
+#[derive(Clone, Copy, PartialEq, Eq, PartialOrd, Ord)]
 pub struct InstId(pub u32);
 
 /// The place of a condition in its decision, from 0 to 31.
-#[derive(Clone, Copy, Debug, PartialEq, Eq, PartialOrd, Ord)]
+#[derive(Clone, Copy, PartialEq, Eq, PartialOrd, Ord)]
 pub struct CondIx(pub u8);

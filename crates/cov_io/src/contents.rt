@@ -10,14 +10,14 @@ use crate::files::FileFault;
 use std::marker::Model;
 
 /// A file by its name and bytes.
-#[derive(Debug, Drop, PartialEq, Eq)]
+#[derive(Drop)]
 pub struct Entry {
     pub name: String,
     pub bytes: Vec<u8>,
 }
 
 /// Files in memory, seen as the map from each name to the bytes of its first entry.
-#[derive(Debug, Drop)]
+#[derive(Drop)]
 pub struct Contents {
     entries: Vec<Entry>,
 }

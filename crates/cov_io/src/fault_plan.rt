@@ -3,7 +3,7 @@
 ghost use Rattle.std.specs.Prelude.{◌≡◌, ◌↔◌, ◌+◌, ◌-◌, ◌^◌, min, Contains, IsTrue};
 
 /// The calls that are to fail, by their numbers from 0, and how many calls there were.
-#[derive(Debug, Drop)]
+#[derive(Drop)]
 pub struct FaultPlan {
     failing: Vec<u64>,
     calls: u64,

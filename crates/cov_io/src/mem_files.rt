@@ -13,7 +13,7 @@ use crate::files::{FileFault, Files};
 /// Files in memory, which tell all that they hold and fail at the calls that they were told.
 ///
 /// A write that is to fail leaves the file as it was.
-#[derive(Debug, Drop)]
+#[derive(Drop)]
 pub struct MemFiles {
     contents: Contents,
     plan: FaultPlan,

@@ -10,7 +10,7 @@ use std::alloc::{AllocError, Global};
 /// A sink in memory, which tells all that it has taken and fails at the puts that it was told.
 ///
 /// A put that is to fail takes nothing. One that passes the sink's room takes as much as fits.
-#[derive(Debug, Drop)]
+#[derive(Drop)]
 pub struct MemSink {
     bytes: Vec<u8>,
     plan: FaultPlan,

@@ -22,7 +22,7 @@ impl RoleKind {
 /// The conditional branch at `address` has this kind. Where it is a condition, it is taken exactly
 /// if that condition has `value`: 1 for True, 0 for False. The other kinds have zeros for decision,
 /// condition, value and instance.
-#[derive(Clone, Copy, PartialEq, Eq)]
+#[derive(Clone, Copy)]
 pub struct Role {
     pub address: u32,
     pub kind: RoleKind,

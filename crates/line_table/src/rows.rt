@@ -7,7 +7,7 @@ use cov_base::{InstId, StmtId};
 use std::marker::Model;
 
 /// The instruction at `address` is executed once for each start of the statement in the instance.
-#[derive(Clone, Copy, PartialEq, Eq)]
+#[derive(Clone, Copy)]
 pub struct Row {
     pub address: u32,
     pub statement: StmtId,

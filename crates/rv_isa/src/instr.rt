@@ -2,7 +2,7 @@ use crate::operands::{Imm12, Imm20, Reg, ShiftAmount};
 use crate::ops::{BranchOp, ImmediateOp, LoadOp, RegisterOp, ShiftOp, StoreOp, UpperOp};
 
 /// An instruction of RV32I or of the M extension.
-#[derive(Clone, Copy, PartialEq, Eq)]
+#[derive(Clone, Copy)]
 pub enum Instr {
     /// RV32I, integer register-immediate instructions: a constant in the upper 20 bits.
     Upper {

@@ -86,7 +86,7 @@ impl Reg {
 }
 
 /// How far a shift by a constant goes, below 32.
-#[derive(Clone, Copy, PartialEq, Eq)]
+#[derive(Clone, Copy)]
 pub struct ShiftAmount {
     amount: u8,
 }
@@ -119,7 +119,7 @@ impl ShiftAmount {
 
 /// The raw 12 bits of an immediate: a signed number in forms I and S, and a signed number of
 /// half-words in form B.
-#[derive(Clone, Copy, PartialEq, Eq)]
+#[derive(Clone, Copy)]
 pub struct Imm12 {
     bits: u16,
 }
@@ -193,7 +193,7 @@ impl Imm12 {
 
 /// The raw 20 bits of an immediate: the upper bits of a value in form U, and a signed number of
 /// half-words in form J.
-#[derive(Clone, Copy, PartialEq, Eq)]
+#[derive(Clone, Copy)]
 pub struct Imm20 {
     bits: u32,
 }

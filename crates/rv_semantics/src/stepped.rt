@@ -47,7 +47,7 @@ impl fmt::Display for TrapWhy {
 }
 
 /// What a recorder sees of an executed instruction.
-#[derive(Clone, Copy, Debug, PartialEq, Eq)]
+#[derive(Clone, Copy)]
 pub struct Seen {
     /// Where the instruction stands: a byte address.
     pub pc: u32,
@@ -58,7 +58,7 @@ pub struct Seen {
 }
 
 /// What one step of the machine came to.
-#[derive(Clone, Copy, Debug, PartialEq, Eq)]
+#[derive(Clone, Copy)]
 pub enum Stepped {
     /// An instruction was executed.
     Went(Seen),
