@@ -1,6 +1,6 @@
 -- Copies of expressions mean what the generic's text means in the instance.
 use Rattle.std.proofs.Common.{◌≡◌, ℕ, true, false, List, refl, ap}
-use Rattle.decision_meaning.specs.Path.{Step}
+use Rattle.cov_base.specs.Path.{Step}
 use Rattle.ada_meaning.specs.Types.{Subtype, scalar, array, fields, subtype_of, Components, no_component, and_component}
 use Rattle.ada_meaning.specs.Tree.{Object, library_object, local_object, Callee, Expr, literal, constant, attribute, read, signed, operation, relation, complement, conversion, call, decision, Parts, whole, component, element, Actuals, no_actual, by_expression, by_variable, by_composite, Test, condition, negation, operator, shape_of, Label}
 use Rattle.ada_meaning.specs.Program.{Target, get_target, put_target, body_target, Program}

@@ -1,13 +1,13 @@
 -- The steps of a decision's evaluation are a path of its graph, to the leaf of its outcome.
 use Rattle.std.proofs.Common.{◌≡◌, ◌<◌, ◌≤◌, ℕ, ◌+◌, Bool, true, false, not, List, [], ◌∷◌, ◌++◌, if◌then◌else◌, eq-eqb, refl, sym, ap, subst, ◌∙◌, arith}
 use Rattle.cov_base.specs.declared.event.Event.TheVariants.{Done}
-use Rattle.decision_meaning.specs.Expr.{size}
-use Rattle.decision_meaning.specs.Expr as logic
-use Rattle.decision_meaning.specs.Graph.{Next, node, leaf, Edges, nodes, graph, next_from, next_in}
-use Rattle.decision_meaning.specs.Path.{Step, LeadsTo, vector_of}
-use Rattle.decision_meaning.proofs.Follows.{outcome_law as path_law}
-use Rattle.decision_meaning.proofs.Edges.{length-nodes}
-use Rattle.decision_meaning.proofs.Reached.{next_left, next_right}
+use Rattle.cov_base.specs.Expr.{size}
+use Rattle.cov_base.specs.Expr as logic
+use Rattle.cov_base.specs.Graph.{Next, node, leaf, Edges, nodes, graph, next_from, next_in}
+use Rattle.cov_base.specs.Path.{Step, LeadsTo, vector_of}
+use Rattle.cov_base.proofs.Follows.{outcome_law as path_law}
+use Rattle.cov_base.proofs.Edges.{length-nodes}
+use Rattle.cov_base.proofs.Reached.{next_left, next_right}
 use Rattle.ada_meaning.specs.Tree.{Label, Test, condition, negation, operator, shape_of}
 use Rattle.ada_meaning.specs.Program.{Program}
 use Rattle.ada_meaning.specs.Arithmetic.{is_true}

@@ -3,8 +3,8 @@ use Rattle.std.proofs.Common.{◌≡◌, ℕ, zero, suc, ℤ, List, [], ◌∷�
 use Rattle.std.proofs.lemmas.List.{reverse-append}
 use Rattle.cov_base.specs.declared.event.Event.{Event}
 use Rattle.cov_base.specs.Lists.{Everywhere, Somewhere}
-use Rattle.decision_meaning.specs.Graph.{graph}
-use Rattle.decision_meaning.specs.Path.{IsPathVector}
+use Rattle.cov_base.specs.Graph.{graph}
+use Rattle.cov_base.specs.Path.{IsPathVector}
 use Rattle.ada_meaning.specs.Tree.{shape_of}
 use Rattle.ada_meaning.specs.Program.{Subprogram, Program}
 use Rattle.ada_meaning.specs.Resolved.{storage_error, parameter_in}

@@ -3,8 +3,8 @@ use Rattle.std.proofs.Common.{ℕ, ◌+◌, pos, true, false, not, List, [], ◌
 use Rattle.cov_base.specs.declared.event.Event.{Event}
 use Rattle.cov_base.specs.declared.event.Event.TheVariants.{Done}
 use Rattle.cov_base.specs.declared.event.Vector.{Vector}
-use Rattle.decision_meaning.specs.Graph.{graph}
-use Rattle.decision_meaning.specs.Path.{Step, IsPathVector, vector_of}
+use Rattle.cov_base.specs.Graph.{graph}
+use Rattle.cov_base.specs.Path.{Step, IsPathVector, vector_of}
 use Rattle.cov_base.specs.Lists.{Everywhere}
 use Rattle.ada_meaning.specs.Tree.{Object, Expr, literal, constant, attribute, read, signed, operation, relation, complement, conversion, call, decision, Parts, whole, component, element, Actuals, no_actual, by_expression, by_variable, by_composite, Test, condition, negation, operator, shape_of, conditions_of, Label}
 use Rattle.ada_meaning.specs.Program.{Target, get_target, put_target, body_target, Program}

@@ -1,6 +1,6 @@
 -- Expressions with more fuel for calls.
 use Rattle.std.proofs.Common.{ℕ, ◌+◌, pos, true, false, not, List, [], ◌∷◌, drop, None}
-use Rattle.decision_meaning.specs.Path.{Step}
+use Rattle.cov_base.specs.Path.{Step}
 use Rattle.ada_meaning.specs.Tree.{Object, Expr, literal, constant, attribute, read, signed, operation, relation, complement, conversion, call, decision, Parts, whole, component, element, Actuals, no_actual, by_expression, by_variable, by_composite, Test, condition, negation, operator, conditions_of, Label}
 use Rattle.ada_meaning.specs.Program.{Target, get_target, put_target, body_target, Program}
 use Rattle.ada_meaning.specs.Arithmetic.{base_range, sign_of, holds, number_of_truth, is_true}

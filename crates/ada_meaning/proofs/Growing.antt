@@ -2,7 +2,7 @@
 use Rattle.std.proofs.Common.{ℕ, suc, Bool, true, false, [], ◌∷◌, ◌++◌, append_assoc, le_trans, le_refl, if◌then◌else◌, refl, sym, ap, ◌∙◌}
 use Rattle.cov_base.specs.declared.event.Event.{Event}
 use Rattle.cov_base.specs.declared.event.Event.TheVariants.{Start, Done}
-use Rattle.decision_meaning.specs.Path.{vector_of}
+use Rattle.cov_base.specs.Path.{vector_of}
 use Rattle.ada_meaning.specs.State.{world_of, Seen, World, Outcome, Gives, Raises, OutOfFuel, Action, goes_to, ◌>>=◌, ◌>>◌, out_of_fuel, caught, catch, happens, left, framed, at_depth}
 use Rattle.ada_meaning.specs.Tree.{Label}
 use Rattle.ada_meaning.specs.Program.{Program}

@@ -14,4 +14,5 @@ pub mod CopyExpressions
 pub mod CopyStatements
 pub mod CopyExecution
 pub mod StaticValues
+pub mod SeenShapes
 pub mod BodyLaws

@@ -1,10 +1,10 @@
 -- Where a static expression has a value, it is the exact one.
-use Rattle.std.proofs.Common.{◌≡◌, ℕ, ℤ, pos, ◌+ℤ◌, ◌-ℤ◌, Bool, true, false, ◌&&◌, int_eq, Option, Some, None, IfSome, option_map, refl, ap, ◌∙◌}
+use Rattle.std.proofs.Common.{◌≡◌, ℕ, ℤ, pos, Bool, true, false, ◌&&◌, int_eq, Option, Some, None, IfSome, option_map, refl, ap, ◌∙◌}
 use Rattle.std.specs.Prelude.{unwrap_or, if◌then◌else◌}
 use Rattle.std.specs.Option.{option_and_then}
 use Rattle.ada_meaning.specs.Types.{Operator, Static, static_number, static_formal, static_constant, static_first, static_last, static_length, static_sign, static_operation, static_of, Range, between, formal_range, range_of}
 use Rattle.ada_meaning.specs.Program.{Bounds, FormalActual, actual_object, actual_type, actual_subprogram, Program}
-use Rattle.ada_meaning.specs.Arithmetic.{is_within, base_range, sign_of, exact, divides}
+use Rattle.ada_meaning.specs.Arithmetic.{is_within, base_range, count_between, sign_of, exact, divides}
 use Rattle.ada_meaning.specs.Resolved.{formal_of, formal_number, formal_bounds, constant_of, number_in, bounds_in}
 use Rattle.ada_meaning.specs.Statics.{in_base, computed, static_value, static_bounds, value_of_formal, bounds_of_formal, values_of}
 
@@ -70,7 +70,7 @@ module _ (p : Program) where
         if_map (Are inst r) (Is inst (static_last r)) _ _ (bounds_exact inst r) (λ b h. ap (λ c. c.high) h)
     value_exact inst (static_length r) =
         if_then (Are inst r) (Is inst (static_length r)) _ _ (bounds_exact inst r)
-        (λ b h. in_base_of _ _ (ap (λ c. c.high -ℤ c.low +ℤ pos 1) h))
+        (λ b h. in_base_of _ _ (ap (λ c. pos (count_between c.low c.high)) h))
     value_exact inst (static_sign s e) =
         if_then (Is inst e) (Is inst (static_sign s e)) _ _ (value_exact inst e) (λ x h. in_base_of _ _ (ap (sign_of s) h))
     value_exact inst (static_operation o e f) =

@@ -3,9 +3,9 @@ use Rattle.std.specs.Prelude.{◌≡◌, ℕ, Bool, List, ◌∷◌}
 use Rattle.cov_base.specs.declared.event.Event.{Event}
 use Rattle.cov_base.specs.declared.event.Event.TheVariants.{Start, Done}
 use Rattle.cov_base.specs.declared.event.Vector.{Vector}
-use Rattle.decision_meaning.specs.Graph.{graph}
-use Rattle.decision_meaning.specs.Marks.{marks, outcome}
-use Rattle.decision_meaning.specs.Path.{IsPathVector}
+use Rattle.cov_base.specs.Graph.{graph}
+use Rattle.cov_base.specs.Marks.{marks, outcome}
+use Rattle.cov_base.specs.Path.{IsPathVector}
 use Rattle.cov_base.specs.Lists.{Somewhere}
 use Rattle.ada_meaning.specs.Tree.{Label, Test, shape_of}
 use Rattle.ada_meaning.specs.Program.{Program}

@@ -2,7 +2,7 @@
 use Rattle.std.specs.Prelude.{ℕ, ◌+◌, ℤ, pos, Bool, true, false, not, ◌&&◌, List, [], ◌∷◌, drop, Option, None, if◌then◌else◌}
 use Rattle.std.specs.Ordering.{int_eq}
 use Rattle.cov_base.specs.declared.event.Event.TheVariants.{Done}
-use Rattle.decision_meaning.specs.Path.{Step, vector_of}
+use Rattle.cov_base.specs.Path.{Step, vector_of}
 use Rattle.ada_meaning.specs.Types.{Operator}
 use Rattle.ada_meaning.specs.Tree.{Label, Object, Expr, literal, constant, attribute, read, signed, operation, relation, complement, conversion, call, decision, Parts, whole, component, element, Actuals, no_actual, by_expression, by_variable, by_composite, Test, condition, negation, operator, conditions_of}
 use Rattle.ada_meaning.specs.Program.{Target, get_target, put_target, body_target, Program}

@@ -1,4 +1,5 @@
 pub mod Types
+pub mod Seen
 pub mod Tree
 pub mod Program
 pub mod Arithmetic

@@ -8,7 +8,7 @@ use Rattle.cov_base.specs.declared.obligations.InstanceEntry.{InstanceEntry}
 use Rattle.cov_base.specs.declared.obligations.Place.{Place}
 use Rattle.cov_base.specs.declared.obligations.Region.{Region}
 use Rattle.cov_base.specs.declared.obligations.Obligations.{Obligations}
-use Rattle.decision_meaning.specs.Expr.{postfix_of}
+use Rattle.cov_base.specs.Expr.{postfix_of}
 use Rattle.cov_base.specs.Lists.{Everywhere}
 use Rattle.ada_meaning.specs.Tree.{Label, shape_of}
 use Rattle.ada_meaning.specs.Program.{FormalActual, actual_object, actual_type, actual_subprogram, Instance, ExceptionDeclaration, Raisable, Program}

@@ -1,10 +1,10 @@
 -- What names of the typed program are in an instance: values of static expressions, bounds, shapes of types, places of objects,
 -- subprograms, exceptions.
-use Rattle.std.specs.Prelude.{ℕ, zero, suc, ◌+◌, nat_eq, ℤ, pos, ◌+ℤ◌, ◌-ℤ◌, ◌&&◌, List, [], ◌∷◌, map, Option, Some, None, slice_get, unwrap_or, if◌then◌else◌}
+use Rattle.std.specs.Prelude.{ℕ, zero, suc, ◌+◌, nat_eq, ℤ, pos, ◌&&◌, List, [], ◌∷◌, map, Option, Some, None, slice_get, unwrap_or, if◌then◌else◌}
 use Rattle.ada_meaning.specs.Types.{Owner, here, of_instance, Static, static_number, static_formal, static_constant, static_first, static_last, static_length, static_sign, static_operation, static_of, Range, between, formal_range, range_of, Subtype, scalar, array, fields, subtype_of, Components, no_component, and_component}
 use Rattle.ada_meaning.specs.Tree.{Object, library_object, local_object, Callee, test_get, test_put, subprogram, formal_subprogram, ExceptionName, predefined, declared}
 use Rattle.ada_meaning.specs.Program.{Bounds, Mode, in_mode, out_mode, Parameter, Subprogram, Target, get_target, put_target, body_target, FormalActual, actual_object, actual_type, actual_subprogram, Instance, Raisable, Program}
-use Rattle.ada_meaning.specs.Arithmetic.{base_range, sign_of, exact}
+use Rattle.ada_meaning.specs.Arithmetic.{base_range, count_between, sign_of, exact}
 use Rattle.ada_meaning.specs.State.{Place}
 use Rattle.ada_meaning.specs.Shape.{Shape, word, row, group, Shapes, no_shape, and_shape}
 
@@ -89,7 +89,7 @@ module _ (p : Program) where
     number_in inst (static_constant k) = unwrap_or (constant_of p inst k) (pos 0)
     number_in inst (static_first r) = (bounds_in inst r).low
     number_in inst (static_last r) = (bounds_in inst r).high
-    number_in inst (static_length r) = (bounds_in inst r).high -ℤ (bounds_in inst r).low +ℤ pos 1
+    number_in inst (static_length r) = pos (count_between (bounds_in inst r).low (bounds_in inst r).high)
     number_in inst (static_sign s e) = sign_of s (number_in inst e)
     number_in inst (static_operation o e f) = exact o (number_in inst e) (number_in inst f)
     number_in inst (static_of i e) = number_in i e

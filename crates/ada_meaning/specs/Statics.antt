@@ -1,10 +1,10 @@
 -- The values of static expressions (RM 4.9): computed exactly. There is none where a part leaves the base range, or has a divisor of 0.
-use Rattle.std.specs.Prelude.{ℕ, nat_eq, ℤ, pos, ◌+ℤ◌, ◌-ℤ◌, ◌&&◌, List, [], ◌∷◌, ◌++◌, Option, Some, None, option_map, slice_get, unwrap_or, if◌then◌else◌}
+use Rattle.std.specs.Prelude.{ℕ, nat_eq, ℤ, pos, ◌&&◌, List, [], ◌∷◌, ◌++◌, Option, Some, None, option_map, slice_get, unwrap_or, if◌then◌else◌}
 use Rattle.std.specs.Option.{option_and_then}
 use Rattle.std.specs.Ordering.{int_eq}
 use Rattle.ada_meaning.specs.Types.{Operator, Static, static_number, static_formal, static_constant, static_first, static_last, static_length, static_sign, static_operation, static_of, Range, between, formal_range, range_of}
 use Rattle.ada_meaning.specs.Program.{Bounds, GenericConstant, FormalActual, actual_object, actual_type, Program}
-use Rattle.ada_meaning.specs.Arithmetic.{is_within, base_range, sign_of, exact, divides}
+use Rattle.ada_meaning.specs.Arithmetic.{is_within, base_range, count_between, sign_of, exact, divides}
 use Rattle.ada_meaning.specs.Resolved.{formal_of, constant_of}
 
 -- a number of the base range (RM 3.5.4)
@@ -34,7 +34,7 @@ module _ (v : InstanceValues) where
     static_value inst (static_constant k) = v.constant inst k
     static_value inst (static_first r) = option_map (λ b. b.low) (static_bounds inst r)
     static_value inst (static_last r) = option_map (λ b. b.high) (static_bounds inst r)
-    static_value inst (static_length r) = option_and_then (λ b. in_base (b.high -ℤ b.low +ℤ pos 1)) (static_bounds inst r)
+    static_value inst (static_length r) = option_and_then (λ b. in_base (pos (count_between b.low b.high))) (static_bounds inst r)
     static_value inst (static_sign s e) = option_and_then (λ x. in_base (sign_of s x)) (static_value inst e)
     static_value inst (static_operation o e f) =
         option_and_then (λ x. option_and_then (computed o x) (static_value inst f)) (static_value inst e)

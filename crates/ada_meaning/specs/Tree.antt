@@ -1,7 +1,7 @@
 -- Expressions and statements of the typed program, as trees. Declarations, subprograms and exceptions are known by number.
 use Rattle.std.specs.Prelude.{ℕ, ℤ, Bool, List}
 use Rattle.cov_base.specs.declared.position.Pos.{Pos}
-use Rattle.decision_meaning.specs.Expr as logic
+use Rattle.cov_base.specs.Expr as logic
 use Rattle.ada_meaning.specs.Types.{Sign, Operator, Relation, Owner, Static, Range, Subtype}
 
 -- the number of a statement obligation or of a decision, and the place of its first token

@@ -1,7 +1,7 @@
 //! What programs of the source language mean: typed programs as pure trees, their executions with
 //! events, output and cost, and their obligations. The definitions stand in `specs/`, by layers:
 //!
-//! - `Types`, `Tree`, `Program`: the typed program;
+//! - `Types`, `Tree`, `Program`: the typed program; `Seen`: a generic's text, from outside it;
 //! - `State`: states, outcomes and actions; `Arithmetic`; `Shape`: scalar parts of objects;
 //! - `Resolved`: what names are in an instance; `Statics`: the values of static expressions;
 //!   `Bodies`: subprograms in the instances of their generics; `Calls`: what calls hand over;
@@ -18,9 +18,9 @@
 ghost use Rattle.std.specs.Prelude.{◌≡◌, ◌≤◌, ◌↔◌, ◌++◌, ℕ, ℤ, Bool, List, [], Option};
 ghost use Rattle.std.specs.Option.{IfSome};
 ghost use Rattle.cov_base.specs.declared.event.Event.{Event};
-ghost use Rattle.decision_meaning.specs.Graph.{graph, leaf};
+ghost use Rattle.cov_base.specs.Graph.{graph, leaf};
 ghost use Rattle.cov_base.specs.Lists.{Everywhere, Somewhere};
-ghost use Rattle.decision_meaning.specs.Path.{LeadsTo};
+ghost use Rattle.cov_base.specs.Path.{LeadsTo};
 ghost use Rattle.ada_meaning.specs.Bodies.{Body, bodies_of, IsBody};
 ghost use Rattle.ada_meaning.specs.Calls.{Calls};
 ghost use Rattle.ada_meaning.specs.Copies.{block_copy, exec_copies};
@@ -29,12 +29,13 @@ ghost use Rattle.ada_meaning.specs.Execution.{exec, events_at, output_at, Execut
 ghost use Rattle.ada_meaning.specs.Expressions.{test, decides, Evaluation};
 ghost use Rattle.ada_meaning.specs.Program.{Program};
 ghost use Rattle.ada_meaning.specs.Refines.{Refines};
-ghost use Rattle.ada_meaning.specs.Resolved.{number_in, bounds_in};
+ghost use Rattle.ada_meaning.specs.Resolved.{number_in, bounds_in, shape_in};
+ghost use Rattle.ada_meaning.specs.Seen.{range_seen, subtype_seen};
 ghost use Rattle.ada_meaning.specs.State.{World, Gives};
 ghost use Rattle.ada_meaning.specs.Statements.{does_block};
 ghost use Rattle.ada_meaning.specs.Statics.{static_value, static_bounds, values_of};
 ghost use Rattle.ada_meaning.specs.Tree.{Block, Label, Test, shape_of};
-ghost use Rattle.ada_meaning.specs.Types.{Static, Range};
+ghost use Rattle.ada_meaning.specs.Types.{Static, Range, Subtype};
 
 /// With more fuel an execution that ended is the same, and one that was cut off goes on.
 #[tactic(auto, using(crate::proofs::FuelExecution::more_fuel_law))]
@@ -90,6 +91,12 @@ pub fn static_values_are_exact()
         → IfSome (static_value (values_of p) inst e) (λ x. number_in p inst e ≡ x) }
     ensures bounds { (p : Program) (inst : ℕ) (r : Range)
         → IfSome (static_bounds (values_of p) inst r) (λ b. bounds_in p inst r ≡ b) }
+{}
+
+/// What is seen of a generic's text through an instance is, from everywhere, what it is in that instance.
+pub fn text_is_seen_through_instances()
+    ensures bounds { (p : Program) (inst i : ℕ) (r : Range) → bounds_in p inst (range_seen i r) ≡ bounds_in p i r }
+    ensures shapes { (p : Program) (inst i : ℕ) (t : Subtype) → shape_in p inst (subtype_seen i t) ≡ shape_in p i t }
 {}
 
 /// The bodies of a program are its subprograms, each in the instances of the generic whose text it

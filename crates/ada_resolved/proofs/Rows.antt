@@ -1,24 +1,27 @@
 -- What the table of sizes says.
-use Rattle.std.proofs.Common.{◌≡◌, ℕ, zero, suc, ◌+◌, ◌*◌, ◌≤◌, ◌<◌, Bool, true, false, pos, ◌+ℤ◌, ◌-ℤ◌, List, [], ◌∷◌, ◌++◌, map, length, Option, Some, None, IfSome, option_map, option_and_then, slice_get, if◌then◌else◌, refl, sym, ap, ◌∙◌, arith, nat_lt}
+use Rattle.std.proofs.Common.{◌≡◌, ℕ, zero, suc, ◌+◌, ◌*◌, ◌≤◌, ◌<◌, Bool, true, false, pos, List, [], ◌∷◌, ◌++◌, map, length, Option, Some, None, IfSome, option_map, option_and_then, slice_get, if◌then◌else◌, refl, sym, ap, ◌∙◌, arith, nat_lt}
 use Rattle.std.specs.Prelude.{unwrap_or, nat_le}
 use Rattle.std.proofs.lemmas.Bool.Decides.{nat_tests}
 use Rattle.std.proofs.lemmas.Option.{slice_get-map, slice_get_past}
 use Rattle.std.proofs.lemmas.List.{map-append, append_assoc}
 use Rattle.ada_meaning.specs.Arithmetic.{sign_of, count_between}
+use Rattle.ada_meaning.proofs.SeenShapes.{seen_bounds}
 use Rattle.ada_meaning.specs.Resolved.{formal_among, constant_among}
+use Rattle.ada_meaning.specs.Seen.{subtype_seen, components_seen}
 use Rattle.ada_meaning.specs.Statics.{InstanceValues, in_base, computed, bounds_between, static_value, static_bounds, value_of_formal, bounds_of_formal, values_of}
 use Rattle.ada_meaning.specs.Types as type
 use Rattle.ada_meaning.specs.Types.{Static, static_number, static_formal, static_constant, static_first, static_last, static_length, static_sign, static_operation, static_of, Range, between, formal_range, range_of, scalar, array, fields, subtype_of, Components, no_component, and_component}
 use Rattle.ada_tree.specs.declared.program.Program.{Program}
 use Rattle.ada_tree.specs.declared.types.CompositeType.{CompositeType}
 use Rattle.ada_tree.specs.declared.types.CompositeType.TheVariants as composite
+use Rattle.ada_tree.specs.declared.types.TypeDeclaration.{TypeDeclaration}
 use Rattle.ada_tree.specs.declared.types.Owner.TheVariants.{Here, Instance}
 use Rattle.ada_tree.specs.declared.types.Subtype.{Subtype}
 use Rattle.ada_tree.specs.declared.types.Subtype.TheVariants as subtype
 use Rattle.ada_tree.specs.Programs.{instance_of, program_of, types_behind, unfolded, unfolded_components}
 use Rattle.ada_tree.specs.View.{numbered, owner_of, components_of, composite_of}
 use Rattle.ada_tree.specs.View as view
-use Rattle.ada_resolved.specs.Sizes.{with_component, word_limit, limited, type_size, components_size}
+use Rattle.ada_resolved.specs.Sizes.{array_size, with_component, word_limit, limited, type_size, components_size}
 use Rattle.ada_resolved.specs.Table.{sizes_from, row_of, table_of, entry_of, numbered_size, subtype_size, sum_behind, composite_size, entries_from, rows_behind}
 use Rattle.ada_resolved.proofs.SizeLaws.{components_small}
 
@@ -36,7 +39,7 @@ module _ (v : InstanceValues) (i j : ℕ) (a : Alike v i j) where
     same_value (static_constant k) = a.constant k
     same_value (static_first r) = ap (option_map (λ b. b.low)) (same_bounds r)
     same_value (static_last r) = ap (option_map (λ b. b.high)) (same_bounds r)
-    same_value (static_length r) = ap (option_and_then (λ b. in_base (b.high -ℤ b.low +ℤ pos 1))) (same_bounds r)
+    same_value (static_length r) = ap (option_and_then (λ b. in_base (pos (count_between b.low b.high)))) (same_bounds r)
     same_value (static_sign s e) = ap (option_and_then (λ x. in_base (sign_of s x))) (same_value e)
     same_value (static_operation o e f) = λ t. option_and_then (λ x. option_and_then (computed o x) (same_value f t)) (same_value e t)
     same_value (static_of n e) = refl
@@ -119,6 +122,20 @@ past : (words n m : ℕ) → word_limit < words + n → (b : Bool) → nat_le (n
 past words n m more true e = beyond_limit (words + (n + m)) (omega (arith, more))
 past words n m more false e = refl
 
+-- a type that is seen through an instance has its size there
+module _ (v : InstanceValues) (inst i : ℕ) where
+  mutual
+    seen_size : (t : type.Subtype) → type_size v inst (subtype_seen i t) ≡ type_size v i t
+    seen_size (type.scalar r) = ap (option_map (λ b. 1)) (seen_bounds v inst i r)
+    seen_size (type.array r t) = λ s. array_size (seen_bounds v inst i r s) (seen_size t s)
+    seen_size (type.fields cs) = seen_components cs
+    seen_size (type.subtype_of j t) = refl
+
+    seen_components : (cs : type.Components) → components_size v inst (components_seen i cs) ≡ components_size v i cs
+    seen_components type.no_component = refl
+    seen_components (type.and_component t cs) =
+        λ s. option_and_then (λ n. with_component n (seen_components cs s)) (seen_size t s)
+
 module _ (p : Program) (types : List type.Subtype) where
   numbered_is : (i n : ℕ) → numbered_size (table_of p types) i n ≡ type_size (values_of (program_of p)) i (unwrap_or (slice_get types n) (numbered n))
   numbered_is i n = ap (λ o. unwrap_or (option_map (λ row. entry_of row i) o) (Some 0)) (slice_get-map (row_of p) types n) ∙ by_case (slice_get types n)
@@ -132,7 +149,12 @@ module _ (p : Program) (types : List type.Subtype) where
     pub subtype_is : (t : Subtype) → subtype_size p (table_of p types) inst t ≡ type_size (values_of (program_of p)) inst (unfolded types (view.subtype_of t))
     subtype_is (subtype.Scalar r) = refl
     subtype_is (subtype.Composite Here n) = numbered_is inst n
-    subtype_is (subtype.Composite (Instance i) n) = numbered_is i n
+    subtype_is (subtype.Composite (Instance i) n) = numbered_is i n ∙ by_case (slice_get types n)
+      where
+        by_case : (o : Option type.Subtype) → type_size (values_of (program_of p)) i (unwrap_or o (numbered n))
+            ≡ type_size (values_of (program_of p)) inst (unwrap_or (option_map (subtype_seen i) o) (type.subtype_of i (numbered n)))
+        by_case None = refl
+        by_case (Some t) = sym (seen_size (values_of (program_of p)) inst i t)
 
     -- sums from the left are sums from the right
     abbrev Behind : ℕ → Option ℕ → Option ℕ
@@ -180,12 +202,12 @@ entries_are : (p : Program) (types : List type.Subtype) (t : CompositeType) (n i
 entries_are p types t zero i = refl
 entries_are p types t (suc n) i = λ s. composite_is p types i t s ∷ entries_are p types t n (i + 1) s
 
-pub rows_are : (p : Program) (types : List type.Subtype) (ts : List CompositeType) → rows_behind p (table_of p types) ts ≡ table_of p (types_behind types ts)
+pub rows_are : (p : Program) (types : List type.Subtype) (ts : List TypeDeclaration) → rows_behind p (table_of p types) ts ≡ table_of p (types_behind types ts)
 rows_are p types [] = refl
 rows_are p types (t ∷ ts) =
-    ap (λ row. rows_behind p (table_of p types ++ row ∷ []) ts) (entries_are p types t (length p.instances + 1) 0)
-    ∙ ap (λ rows. rows_behind p rows ts) (sym (map-append (row_of p) types (unfolded types (composite_of t) ∷ [])))
-    ∙ rows_are p (types ++ unfolded types (composite_of t) ∷ []) ts
+    ap (λ row. rows_behind p (table_of p types ++ row ∷ []) ts) (entries_are p types t.definition (length p.instances + 1) 0)
+    ∙ ap (λ rows. rows_behind p rows ts) (sym (map-append (row_of p) types (unfolded types (composite_of t.definition) ∷ [])))
+    ∙ rows_are p (types ++ unfolded types (composite_of t.definition) ∷ []) ts
 
 -- one more entry of a row
 next_entry : (p : Program) (rows : List (List (Option ℕ))) (t : CompositeType) (n m i : ℕ) → n ≡ m + 1

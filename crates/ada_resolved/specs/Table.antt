@@ -7,6 +7,7 @@ use Rattle.ada_meaning.specs.Types as type
 use Rattle.ada_tree.specs.declared.program.Program.{Program}
 use Rattle.ada_tree.specs.declared.types.CompositeType.{CompositeType}
 use Rattle.ada_tree.specs.declared.types.CompositeType.TheVariants as composite
+use Rattle.ada_tree.specs.declared.types.TypeDeclaration.{TypeDeclaration}
 use Rattle.ada_tree.specs.declared.types.Subtype.{Subtype}
 use Rattle.ada_tree.specs.declared.types.Subtype.TheVariants as subtype
 use Rattle.ada_tree.specs.Programs.{program_of}
@@ -59,6 +60,6 @@ abbrev pub entries_of : Program → List (List (Option ℕ)) → CompositeType �
 entries_of p rows t = entries_from p rows t (length p.instances + 1) 0
 
 -- the rows of types behind others, each by those before it
-abbrev pub rows_behind : Program → List (List (Option ℕ)) → List CompositeType → List (List (Option ℕ))
+abbrev pub rows_behind : Program → List (List (Option ℕ)) → List TypeDeclaration → List (List (Option ℕ))
 rows_behind p rows [] = rows
-rows_behind p rows (t ∷ ts) = rows_behind p (rows ++ entries_of p rows t ∷ []) ts
+rows_behind p rows (t ∷ ts) = rows_behind p (rows ++ entries_of p rows t.definition ∷ []) ts

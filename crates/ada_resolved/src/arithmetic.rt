@@ -1,6 +1,6 @@
 //! The operators of static expressions (Ada RM 2012, 4.5): none where a result leaves the base range.
 
-ghost use Rattle.std.specs.Prelude.{◌≡◌, ◌+ℤ◌, ◌-ℤ◌, pos};
+ghost use Rattle.std.specs.Prelude.{◌≡◌, pos};
 ghost use Rattle.ada_meaning.specs.Arithmetic as arithmetic;
 ghost use Rattle.ada_meaning.specs.Statics as statics;
 ghost use Rattle.ada_meaning.specs.Types as type;
@@ -65,10 +65,16 @@ fn modulus(left: i32, right: i32) -> Option<i32>
     Some(rest)
 }
 
-/// How many values a range has, as `Length` of an array with this index gives it (RM 3.6.2).
-pub fn length(range: Range) -> Option<i32>
-    ensures { result ≡ statics.in_base (range.last -ℤ range.first +ℤ pos 1) }
+/// How many values a range has; none in a null range (RM 3.5).
+pub fn values_in(range: Range) -> u64
+    ensures { result ≡ arithmetic.count_between range.first range.last }
 {
-    let count = i64::from(range.last) - i64::from(range.first) + 1;
-    i32::try_from(count).ok()
+    u64::try_from(i64::from(range.last) - i64::from(range.first) + 1).unwrap_or(0)
+}
+
+/// `Length` of an array with this index (RM 3.6.2).
+pub fn length(range: Range) -> Option<i32>
+    ensures { result ≡ statics.in_base (pos (arithmetic.count_between range.first range.last)) }
+{
+    i32::try_from(values_in(range)).ok()
 }

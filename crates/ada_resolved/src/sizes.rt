@@ -14,6 +14,7 @@ ghost use Rattle.ada_resolved.specs.Sizes as sizes;
 ghost use Rattle.ada_resolved.specs.Sizes.{type_size};
 ghost use Rattle.ada_resolved.specs.Table.{composite_size, entries_of, entry_of, numbered_size, rows_behind, subtype_size, sum_behind, table_of};
 
+use crate::arithmetic::values_in;
 use crate::known::{instance_at, owner_in};
 use crate::values::bounds_in;
 use ada_tree::{CompositeType, Instance, LibraryObject, Program, Range, Subtype};
@@ -31,13 +32,6 @@ fn limited(words: u64) -> Option<u32>
         return None;
     }
     Some(words as u32)
-}
-
-/// How many values a range has; none in a null range (RM 3.5).
-fn values_in(range: Range) -> u64
-    ensures { result ≡ count_between range.first range.last }
-{
-    u64::try_from(i64::from(range.last) - i64::from(range.first) + 1).unwrap_or(0)
 }
 
 /// So many components of one size.
@@ -170,8 +164,8 @@ fn table_of(alloc: Global, program: &Program) -> Result<Vec<Seq<Option<u32>>>, A
     ensures { IfOk result (λ rows. rows.items ≡ rows_behind program.now [] program.now.types) }
 {
     let mut rows = Vec::new(alloc);
-    for composite in program.types.as_slice() {
-        let row = row_of(alloc, program, rows.as_slice(), composite)?;
+    for declaration in program.types.as_slice() {
+        let row = row_of(alloc, program, rows.as_slice(), &declaration.definition)?;
         rows.push(row)?;
     }
     Ok(rows)

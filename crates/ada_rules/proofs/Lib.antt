@@ -1,3 +1,4 @@
+pub mod Seen
 pub mod Laws
 pub mod Verdicts
 pub mod Examples

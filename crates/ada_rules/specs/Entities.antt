@@ -8,7 +8,8 @@ use Rattle.ada_syntax.specs.declared.name.Identifier.{Identifier}
 use Rattle.ada_meaning.specs.Program.{Mode, in_mode, out_mode}
 use Rattle.ada_meaning.specs.Resolved.{constraint_error, program_error, storage_error, end_error}
 use Rattle.ada_meaning.specs.Tree.{Object, library_object, local_object, Parts, Callee, test_get, test_put, subprogram, ExceptionName, predefined, declared}
-use Rattle.ada_meaning.specs.Types.{Owner, here, of_instance, Static, static_of, Range, range_of}
+use Rattle.ada_meaning.specs.Seen.{range_seen}
+use Rattle.ada_meaning.specs.Types.{Owner, here, of_instance, Static, static_of}
 use Rattle.ada_rules.specs.Types.{Identity, integer, natural, positive, boolean, declared_in, AdaType, integer_type, enumeration, formal_type, array_type, record_type, AdaSubtype, of_type, Fields, no_field, and_field, range_in, numbers, integer_subtype, boolean_type, boolean_subtype}
 use Rattle.ada_rules.specs.Statics.{Spans, within, formal_values}
 
@@ -154,11 +155,6 @@ module _ (inst : ℕ) (actuals : List Actual) where
   identity_seen (declared_in o u n) = declared_in (owner_seen o) u n
   identity_seen i = i
 
-  -- a range that another instance has stays that instance's
-  abbrev pub range_seen : Range → Range
-  range_seen (range_of i r) = range_of i r
-  range_seen r = range_of inst r
-
   abbrev mutual
     pub type_seen : AdaType → AdaType
     type_seen (integer_type i) = integer_type (identity_seen i)
@@ -168,7 +164,7 @@ module _ (inst : ℕ) (actuals : List Actual) where
     type_seen (record_type i fs) = record_type (identity_seen i) (fields_seen fs)
 
     pub subtype_seen : AdaSubtype → AdaSubtype
-    subtype_seen (of_type t r) = of_type (type_seen t) (range_seen r)
+    subtype_seen (of_type t r) = of_type (type_seen t) (range_seen inst r)
 
     pub fields_seen : Fields → Fields
     fields_seen no_field = no_field
@@ -186,7 +182,7 @@ module _ (inst : ℕ) (actuals : List Actual) where
     is_writable = v.is_writable;
     is_indexed = v.is_indexed;
     known = option_map (static_of inst) v.known;
-    values = within (range_seen (range_in v.subtype));
+    values = within (range_seen inst (range_in v.subtype));
   }
 
   abbrev pub parameter_seen : Parameter → Parameter
@@ -199,7 +195,7 @@ module _ (inst : ℕ) (actuals : List Actual) where
 
   abbrev pub result_values_seen : Option Parameter → Spans
   result_values_seen None = within (range_in integer_subtype)
-  result_values_seen (Some q) = within (range_seen (range_in q.subtype))
+  result_values_seen (Some q) = within (range_seen inst (range_in q.subtype))
 
   abbrev pub routine_seen : Routine → Routine
   routine_seen r = record {

@@ -1,13 +1,15 @@
 -- Unfolding the types of a program: without a type nothing changes, and the obligations and the objects of a body stay what they are.
-use Rattle.std.proofs.Common.{◌≡◌, ℕ, zero, suc, List, [], ◌∷◌, ◌++◌, map, slice_get, refl, ap, ◌∙◌}
+use Rattle.std.proofs.Common.{◌≡◌, ℕ, zero, suc, List, [], ◌∷◌, ◌++◌, map, option_map, slice_get, refl, ap}
 use Rattle.std.specs.Prelude.{unwrap_or}
 use Rattle.cov_base.specs.Lists.{Everywhere}
 use Rattle.ada_meaning.specs.Collected.{in_value, in_decision, in_expr, in_parts, in_turns, in_declarations, in_stmt, in_stmts, in_branches, in_alternatives, in_handlers, in_block, declaration_labels, labels, all_labels, branch_labels, alternative_labels, handler_labels, block_labels, after_if, after_while}
 use Rattle.ada_meaning.specs.Objects.{number_of, objects, all_objects, branch_objects, alternative_objects, handler_objects, block_objects}
+use Rattle.ada_meaning.specs.Seen.{subtype_seen}
 use Rattle.ada_meaning.specs.Types.{Subtype, scalar, array, fields, subtype_of, Components, no_component, and_component}
 use Rattle.ada_meaning.specs.Tree as tree
 use Rattle.ada_tree.specs.declared.types.CompositeType.{CompositeType}
 use Rattle.ada_tree.specs.declared.types.CompositeType.TheVariants as composite
+use Rattle.ada_tree.specs.declared.types.TypeDeclaration.{TypeDeclaration}
 use Rattle.ada_tree.specs.View.{numbered, composite_of}
 use Rattle.ada_tree.specs.Programs.{types_behind, types_of, unfolded, unfolded_components, unfolded_value, unfolded_declaration, unfolded_statement, unfolded_statements, unfolded_branches, unfolded_alternatives, unfolded_handlers, unfolded_block}
 
@@ -21,7 +23,11 @@ mutual
   type_stays (subtype_of n (fields (and_component t cs))) = ap (λ ds. subtype_of n (fields ds)) (components_stay (and_component t cs))
   type_stays (subtype_of n (scalar r)) = refl
   type_stays (subtype_of n (array r t)) = ap (λ u. subtype_of n (array r u)) (type_stays t)
-  type_stays (subtype_of n (subtype_of i t)) = ap (subtype_of n) (type_stays (subtype_of i t))
+  type_stays (subtype_of n (subtype_of i (fields no_component))) = refl
+  type_stays (subtype_of n (subtype_of i (fields (and_component t cs)))) = ap (λ ds. subtype_of n (subtype_of i (fields ds))) (components_stay (and_component t cs))
+  type_stays (subtype_of n (subtype_of i (scalar r))) = refl
+  type_stays (subtype_of n (subtype_of i (array r t))) = ap (λ u. subtype_of n (subtype_of i (array r u))) (type_stays t)
+  type_stays (subtype_of n (subtype_of i (subtype_of j t))) = ap (subtype_of n) (type_stays (subtype_of i (subtype_of j t)))
 
   components_stay : (cs : Components) → unfolded_components [] cs ≡ cs
   components_stay no_component = refl
@@ -221,12 +227,12 @@ all_and_one : {X : Type 0} (P : X → Type 0) (xs : List X) (x : X) → Everywhe
 all_and_one P [] x all one = (one, tt)
 all_and_one P (y ∷ xs) x all one = (all.0, all_and_one P xs x all.1 one)
 
-behind_composites : (types : List Subtype) (ts : List CompositeType) → Everywhere IsComposite types → Everywhere IsComposite (types_behind types ts)
+behind_composites : (types : List Subtype) (ts : List TypeDeclaration) → Everywhere IsComposite types → Everywhere IsComposite (types_behind types ts)
 behind_composites types [] all = all
 behind_composites types (t ∷ ts) all =
-    behind_composites (types ++ unfolded types (composite_of t) ∷ []) ts (all_and_one IsComposite types _ all (unfolded_composite types t))
+    behind_composites (types ++ unfolded types (composite_of t.definition) ∷ []) ts (all_and_one IsComposite types _ all (unfolded_composite types t.definition))
 
-pub composites : (ts : List CompositeType) → Everywhere IsComposite (types_of ts)
+pub composites : (ts : List TypeDeclaration) → Everywhere IsComposite (types_of ts)
 composites ts = behind_composites [] ts tt
 
 -- so is what a number stands for
@@ -234,3 +240,16 @@ pub named_composite : (types : List Subtype) (n m : ℕ) → Everywhere IsCompos
 named_composite [] n m all = tt
 named_composite (t ∷ types) zero m all = all.0
 named_composite (t ∷ types) (suc n) m all = named_composite types n m all.1
+
+-- and what it stands for in an instance
+seen_composite : (i : ℕ) (t : Subtype) → IsComposite t → IsComposite (subtype_seen i t)
+seen_composite i (scalar r) h = absurd h
+seen_composite i (array r t) h = tt
+seen_composite i (fields cs) h = tt
+seen_composite i (subtype_of j t) h = tt
+
+pub instance_composite : (types : List Subtype) (i n m : ℕ) → Everywhere IsComposite types
+    → IsComposite (unwrap_or (option_map (subtype_seen i) (slice_get types n)) (subtype_of i (numbered m)))
+instance_composite [] i n m all = tt
+instance_composite (t ∷ types) i zero m all = seen_composite i t all.0
+instance_composite (t ∷ types) i (suc n) m all = instance_composite types i n m all.1

@@ -6,3 +6,4 @@ pub mod View
 pub mod Programs
 pub mod Objects
 pub mod SizeLaws
+pub mod Weights

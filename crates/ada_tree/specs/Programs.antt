@@ -1,11 +1,12 @@
 -- The plain data that a typed program is seen as: its composite types are unfolded from their table.
 use Rattle.std.specs.Prelude.{ℕ, zero, suc, List, [], ◌∷◌, ◌++◌, map, option_map, slice_get, unwrap_or}
+use Rattle.ada_meaning.specs.Seen.{subtype_seen}
 use Rattle.ada_meaning.specs.Types.{Subtype, scalar, array, fields, subtype_of, Components, no_component, and_component}
 use Rattle.ada_meaning.specs.Tree as tree
 use Rattle.ada_meaning.specs.Program as meaning
 use Rattle.ada_tree.specs.View.{static_of, range_of, scalar_range_of, numbered, composite_of}
 use Rattle.ada_tree.specs.View as view
-use Rattle.ada_tree.specs.declared.types.CompositeType.{CompositeType}
+use Rattle.ada_tree.specs.declared.types.TypeDeclaration.{TypeDeclaration}
 use Rattle.ada_tree.specs.declared.program.Mode.{Mode}
 use Rattle.ada_tree.specs.declared.program.Mode.TheVariants as mode
 use Rattle.ada_tree.specs.declared.program.Parameter.{Parameter}
@@ -27,12 +28,14 @@ use Rattle.ada_tree.specs.declared.types.Range.{Range}
 -- unfolding by a table of types, those that stand so far
 module _ (types : List Subtype) where
   abbrev mutual
-    -- a type, with those that it names by number; a number without a type stays
+    -- A type, with those that it names by number; a number without a type stays. One of an instance's text is as it is seen through the
+    -- instance.
     pub unfolded : Subtype → Subtype
     unfolded (scalar r) = scalar r
     unfolded (array r t) = array r (unfolded t)
     unfolded (fields cs) = fields (unfolded_components cs)
     unfolded (subtype_of n (fields no_component)) = unwrap_or (slice_get types n) (numbered n)
+    unfolded (subtype_of i (subtype_of n (fields no_component))) = unwrap_or (option_map (subtype_seen i) (slice_get types n)) (subtype_of i (numbered n))
     unfolded (subtype_of i t) = subtype_of i (unfolded t)
 
     pub unfolded_components : Components → Components
@@ -86,11 +89,11 @@ module _ (types : List Subtype) where
     unfolded_block (tree.block ds ss hs) = tree.block (map unfolded_declaration ds) (unfolded_statements ss) (unfolded_handlers hs)
 
 -- the types of a table behind others, each unfolded by those before it
-abbrev pub types_behind : List Subtype → List CompositeType → List Subtype
+abbrev pub types_behind : List Subtype → List TypeDeclaration → List Subtype
 types_behind types [] = types
-types_behind types (t ∷ ts) = types_behind (types ++ unfolded types (composite_of t) ∷ []) ts
+types_behind types (t ∷ ts) = types_behind (types ++ unfolded types (composite_of t.definition) ∷ []) ts
 
-abbrev pub types_of : List CompositeType → List Subtype
+abbrev pub types_of : List TypeDeclaration → List Subtype
 types_of ts = types_behind [] ts
 
 abbrev pub mode_of : Mode → meaning.Mode

@@ -4,7 +4,7 @@ use Rattle.std.proofs.Common.{arith}
 use Rattle.std.proofs.lemmas.Bool.{false≢true}
 use denote.Param.Weighed.{most}
 use Rattle.std.specs.Prelude.{Bool}
-use Rattle.ada_meaning.specs.Tree.{Expr, Test, operator, Stmt, Stmts, Handlers}
+use Rattle.ada_meaning.specs.Tree.{Expr, Test, operator, Stmt, Stmts}
 use Rattle.ada_tree.specs.Sizes.{expr_size, parts_size, actuals_size, test_size, stmt_size, stmts_size, branches_size, alternatives_size, handlers_size, block_size}
 use Rattle.ada_tree.specs.View.{with_operand, with_operands, with_tests, neutral_of, is_filled, has_operators, has_forms, parts_of, actuals_of, expr_at, expr_of, test_at, test_of, statements_of, branches_of, alternatives_of, handlers_of, statement_at, statement_of, block_of}
 use Rattle.ada_tree.specs.declared.expr.Expr.TheInside.{Inside}

@@ -29,8 +29,8 @@ pub use laws::{
     views_keep_their_parts,
 };
 pub use program::{
-    ExceptionDeclaration, FormalActual, GenericConstant, Initial, Instance, LibraryObject, Mode,
-    Parameter, Program, Raisable, Subprogram, Target, UnitEntry, UnitRole,
+    BodyEntry, ExceptionDeclaration, FormalActual, GenericConstant, Initial, Instance,
+    LibraryObject, Mode, Parameter, Program, Raisable, Subprogram, Target, UnitEntry, UnitRole,
 };
 pub use statement::{
     Alternative, Block, Branch, Choice, Decision, Declaration, Direction, ExceptionChoice,
@@ -38,5 +38,5 @@ pub use statement::{
 };
 pub use types::{
     CompositeType, Operator, Owner, Range, Relation, ScalarRange, Sign, Static, StaticValue,
-    Subtype,
+    Subtype, TypeDeclaration,
 };

@@ -1,7 +1,7 @@
 //! Programs (Ada RM 2012, 6.1, 6.3, 7, 10.1, 11.1, 12).
 
 use crate::statement::Block;
-use crate::types::{CompositeType, Owner, Range, ScalarRange, Static, Subtype};
+use crate::types::{Owner, Range, ScalarRange, Static, Subtype, TypeDeclaration};
 use cov_base::{Bytes, Pos, Seq};
 
 /// The mode of a parameter (RM 6.2).
@@ -20,11 +20,20 @@ pub struct Parameter {
     pub subtype: Subtype,
 }
 
+/// What the limits ask of a subprogram's body: the place of its first token, and its weight. That is how
+/// many of its tokens count as nodes.
+#[derive(Clone, Copy)]
+pub struct BodyEntry {
+    pub pos: Pos,
+    pub nodes: u32,
+}
+
 /// A subprogram with its body (RM 6.3).
 #[derive(Drop)]
 pub struct Subprogram {
     /// The number of the generic whose text it stands in.
     pub generic: Option<u32>,
+    pub entry: BodyEntry,
     pub parameters: Seq<Parameter>,
     pub body: Block,
 }
@@ -124,7 +133,7 @@ pub enum UnitRole {
 }
 
 /// What the limits ask of a library unit: the place of its first token, and its weight. That is how many
-/// of its tokens count as nodes, and what the layouts of its types are charged.
+/// of its tokens count as nodes; those of its bodies and of the declarations of its types are among them.
 #[derive(Clone, Copy)]
 pub struct UnitEntry {
     pub pos: Pos,
@@ -140,7 +149,7 @@ pub struct Program {
     pub subprograms: Seq<Subprogram>,
     /// The number of the main procedure.
     pub main: u32,
-    pub types: Seq<CompositeType>,
+    pub types: Seq<TypeDeclaration>,
     pub objects: Seq<LibraryObject>,
     pub constants: Seq<GenericConstant>,
     pub instances: Seq<Instance>,

@@ -67,13 +67,21 @@ pub enum Subtype {
     Composite(Owner, u32),
 }
 
-/// A composite type. It is built of scalar types, and of types that stand before it in the table.
+/// A composite type. It is built of scalar types, and of types that stand before it in the table of types.
 #[derive(Drop)]
 pub enum CompositeType {
     /// An array: the values of its index, and the type of its components (RM 3.6).
     Array(ScalarRange, Subtype),
     /// A record: the types of its components, in order (RM 3.8).
     Record(Seq<Subtype>),
+}
+
+/// A declaration of a composite type (RM 3.2.1). The layout of the type's objects is charged to it.
+#[derive(Drop)]
+pub struct TypeDeclaration {
+    /// The number of the generic whose text it stands in.
+    pub generic: Option<u32>,
+    pub definition: CompositeType,
 }
 
 /// An operator on one integer (RM 4.5.4, 4.5.6).

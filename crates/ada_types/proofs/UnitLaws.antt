@@ -1,10 +1,11 @@
 -- Refusals of units, and how the code goes through them.
-use Rattle.std.proofs.Common.{◌≡◌, ℕ, ◌+◌, ◌<◌, length, Result, Ok, Err, true, List, [], ◌∷◌, ◌++◌, map, drop, Option, Some, None, option_map, is_some, refl, sym, ap, ◌∙◌, subst, if◌then◌else◌}
+use Rattle.std.proofs.Common.{◌≡◌, IfOk, IfSome, ℕ, ◌+◌, ◌<◌, length, Result, Ok, Err, true, List, [], ◌∷◌, ◌++◌, map, drop, take, Option, Some, None, option_map, is_some, refl, sym, ap, ◌∙◌, subst, if◌then◌else◌}
 use Rattle.std.specs.Option.{option_and_then, ok_or}
 use Rattle.std.specs.declared.vec.Vec.{Vec}
 use Rattle.std.specs.declared.alloc.Global.{Global}
 use Rattle.std.proofs.Math.ListN.{get_or}
 use Rattle.std.proofs.lemmas.Bool.{false≢true}
+use Rattle.std.proofs.lemmas.List.{map-append, take_more}
 use Rattle.cov_base.specs.declared.failure.Failure.{Failure}
 use Rattle.ada_syntax.specs.StatementTree.{Statements}
 use Rattle.ada_syntax.specs.declared.declaration.Declaration.{Declaration}
@@ -12,6 +13,7 @@ use Rattle.ada_syntax.specs.declared.unit.LibraryItem.{LibraryItem}
 use Rattle.ada_syntax.specs.declared.unit.Unit.{Unit as LibraryUnit}
 use Rattle.ada_meaning.specs.Tree as tree
 use Rattle.ada_meaning.specs.Program as meaning
+use Rattle.ada_tree.specs.declared.program.BodyEntry.{BodyEntry}
 use Rattle.ada_tree.specs.declared.program.Subprogram.{Subprogram}
 use Rattle.ada_names.specs.Names.{Region}
 use Rattle.ada_names.specs.Library.{regions_in, declarations_of_item, statements_of_item}
@@ -29,7 +31,8 @@ use Rattle.ada_tree.specs.declared.program.Instance.{Instance}
 use Rattle.ada_tree.specs.declared.program.LibraryObject.{LibraryObject}
 use Rattle.ada_tree.specs.declared.program.Parameter.{Parameter}
 use Rattle.ada_tree.specs.declared.program.Raisable.{Raisable}
-use Rattle.ada_tree.specs.declared.types.CompositeType.{CompositeType}
+use Rattle.ada_tree.specs.declared.types.TypeDeclaration.{TypeDeclaration}
+use Rattle.ada_types.specs.Checked.{body_of, entries_of}
 use Rattle.ada_types.specs.Typing.{Context, Elaborated, outside_loops, context_of, block_of, typed_declarations, typed_statements, procedure_of, typed_body, is_plain_item, typed_unit, typed_units}
 use Rattle.ada_types.specs.Legal.{typed, program_with}
 use Rattle.ada_types.specs.declared.context.Declared.{Declared}
@@ -45,16 +48,28 @@ abbrev pub procedure_with : tree.Block → meaning.Subprogram
 procedure_with b = record { generic = None; parameters = []; body = b }
 
 -- as a typed subprogram, whose types there are none to unfold
-procedure_made : (b : tree.Block) (qs : List Parameter) → qs ≡ []
-    → Some (procedure_with b) ≡ Some (subprogram_of [] (record { generic = None; parameters = qs; body = b }))
-procedure_made b qs none = λ i. Some (record { generic = None; parameters = map (parameter_of []) (sym none i); body = sym (block_stays b) i })
+procedure_made : (e : BodyEntry) (b : tree.Block) (qs : List Parameter) → qs ≡ []
+    → Some (procedure_with b) ≡ Some (subprogram_of [] (record { generic = None; entry = e; parameters = qs; body = b }))
+procedure_made e b qs none = λ i. Some (record { generic = None; parameters = map (parameter_of []) (sym none i); body = sym (block_stays b) i })
 
-pub plain_made : (item : LibraryItem) (b : tree.Block) (qs : List Parameter) → qs ≡ [] → is_plain_item item ≡ true →
-    Some (subprogram_of [] (record { generic = None; parameters = qs; body = b })) ≡ plain_procedure item b
-plain_made item b qs none plain = sym (procedure_made b qs none) ∙ sym (ap (λ p. if p then Some (procedure_with b) else None) plain)
+pub plain_made : (item : LibraryItem) (e : BodyEntry) (b : tree.Block) (qs : List Parameter) → qs ≡ [] → is_plain_item item ≡ true →
+    Some (subprogram_of [] (record { generic = None; entry = e; parameters = qs; body = b })) ≡ plain_procedure item b
+plain_made item e b qs none plain = sym (procedure_made e b qs none) ∙ sym (ap (λ p. if p then Some (procedure_with b) else None) plain)
+
+-- what the limits ask of a body stays where the subprogram is there
+pub entry_kept : (e : BodyEntry) (o : Option Subprogram) (f : Failure TypeFault) → IfSome o (λ s. s.entry ≡ e) → IfOk (ok_or o f) (λ s. s.entry ≡ e)
+entry_kept e None f h = tt
+entry_kept e (Some s) f h = h
+
+-- one more body, with its entry
+pub entries_more : (us : List LibraryUnit) (i : ℕ) (u : LibraryUnit) (old new : List Subprogram) (x : Subprogram) → i < length us → u ≡ get_or us i u
+    → x.entry ≡ body_of u → new ≡ old ++ x ∷ [] → entries_of old ≡ map body_of (take i us) → entries_of new ≡ map body_of (take (i + 1) us)
+entries_more us i u old new x inside is entry grown so_far =
+    ap entries_of grown ∙ map-append (λ s. s.entry) old (x ∷ []) ∙ (λ k. so_far k ++ (entry ∙ ap body_of is) k ∷ [])
+    ∙ sym (map-append body_of (take i us) (get_or us i u ∷ [])) ∙ ap (map body_of) (sym (take_more us i u inside))
 
 -- a program without packages, of its parts
-pub program_made : (main : ℕ) (subprograms ss : List Subprogram) (types : List CompositeType) (objects : List LibraryObject) (constants : List GenericConstant)
+pub program_made : (main : ℕ) (subprograms ss : List Subprogram) (types : List TypeDeclaration) (objects : List LibraryObject) (constants : List GenericConstant)
     (instances : List Instance) (exceptions : List ExceptionDeclaration) (raisable : List Raisable)
     → ss ≡ subprograms → types ≡ [] → objects ≡ [] → constants ≡ [] → instances ≡ [] → exceptions ≡ [] → raisable ≡ []
     → record {

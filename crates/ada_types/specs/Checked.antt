@@ -1,11 +1,13 @@
 -- Refusals of whole programs.
-use Rattle.std.specs.Prelude.{◌≡◌, ℕ, true, List, Some}
+use Rattle.std.specs.Prelude.{◌≡◌, ℕ, true, List, map, Some}
 use Rattle.cov_base.specs.declared.position.Pos.{Pos}
 use Rattle.cov_base.specs.declared.failure.Failure.{Failure}
 use Rattle.cov_base.specs.declared.failure.Failure.TheVariants.{Fault, WantOfMemory}
-use Rattle.ada_syntax.specs.Nodes.{capped, unit_nodes}
+use Rattle.ada_syntax.specs.Nodes.{capped, item_nodes, unit_nodes}
 use Rattle.ada_syntax.specs.declared.unit.Unit.{Unit as LibraryUnit}
 use Rattle.ada_meaning.specs.Program.{Subprogram}
+use Rattle.ada_tree.specs.declared.program.BodyEntry.{BodyEntry}
+use Rattle.ada_tree.specs.declared.program.Subprogram.{Subprogram as TypedSubprogram}
 use Rattle.ada_tree.specs.declared.program.UnitEntry.{UnitEntry}
 use Rattle.ada_tree.specs.declared.program.UnitRole.TheVariants.{Once}
 use Rattle.ada_names.specs.Naming.{named}
@@ -26,3 +28,11 @@ pub data Refuses (units : List LibraryUnit) (main : List ℕ) : Failure CheckFau
 -- what the limits ask of a unit
 abbrev pub entry_of : LibraryUnit → UnitEntry
 entry_of u = record { pos = u.pos; nodes = capped (unit_nodes u); role = Once }
+
+-- and of the body that it is, without its context clauses
+abbrev pub body_of : LibraryUnit → BodyEntry
+body_of u = record { pos = u.item_pos; nodes = capped (item_nodes u.item) }
+
+-- what the limits ask of the bodies of subprograms
+abbrev pub entries_of : List TypedSubprogram → List BodyEntry
+entries_of ss = map (λ s. s.entry) ss

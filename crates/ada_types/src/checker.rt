@@ -13,7 +13,7 @@ ghost use Rattle.cov_base.specs.TextOrder.{precedes};
 ghost use Rattle.ada_places.specs.Places.{all_places_of};
 ghost use Rattle.ada_types.specs.Legal as legal;
 ghost use Rattle.ada_types.specs.Legal.{elaborated, typed, earlier, past_limits, program_with};
-ghost use Rattle.ada_types.specs.Checked.{Refuses, entry_of};
+ghost use Rattle.ada_types.specs.Checked.{Refuses, body_of, entries_of, entry_of};
 ghost use Rattle.ada_types.specs.CheckCode.{naming_of, typing_of};
 
 use crate::fault::{CheckFault, LimitFault};
@@ -71,6 +71,7 @@ fn subprograms(
     requires library { library.now ≡ library_of units.now }
     requires places { places.now ≡ all_places_of units.now }
     ensures typed { IfOk result (λ ss. typed units.now ≡ Some (map (subprogram_of []) ss.items)) }
+    ensures entries { IfOk result (λ ss. entries_of ss.items ≡ map body_of units.now) }
     ensures refused { IfErr result (λ f. (main : List ℕ) → naming.named units.now main ≡ true → Refuses units.now main f) }
 {
     match typed_program(alloc, library, places, units) {
@@ -155,6 +156,7 @@ fn within_limits(
 ) -> Result<Vec<Subprogram>, Failure<CheckFault>>
     requires { library.now ≡ library_of units.now }
     ensures typed { IfOk result (λ ss. typed units.now ≡ Some (map (subprogram_of []) ss.items)) }
+    ensures entries { IfOk result (λ ss. entries_of ss.items ≡ map body_of units.now) }
     ensures limits { IfOk result (λ ss. past_limits units.now (map (subprogram_of []) ss.items) ≡ None) }
     ensures refused { IfErr result (λ f. (main : List ℕ) → naming.named units.now main ≡ true → Refuses units.now main f) }
 {
@@ -176,6 +178,7 @@ fn program_of_main(
 ) -> Program
     ensures program { program_of result ≡ program_with main (map (subprogram_of []) subprograms.items) }
     ensures units { result.units ≡ units.items }
+    ensures bodies { entries_of result.subprograms ≡ entries_of subprograms.items }
 {
     Program {
         subprograms: Seq::from(subprograms),
@@ -200,6 +203,7 @@ fn program_of_named(
     requires { named.now.library ≡ library_of units.now }
     ensures program { IfOk result (λ p. legal.program_of_main units.now named.now.main ≡ Some (program_of p)) }
     ensures units { IfOk result (λ p. p.units ≡ map entry_of units.now) }
+    ensures bodies { IfOk result (λ p. entries_of p.subprograms ≡ map body_of units.now) }
     ensures refused { IfErr result (λ f. (main : List ℕ) → naming.named units.now main ≡ true → Refuses units.now main f) }
 {
     let subprograms = within_limits(alloc, &named.library, units)?;
@@ -213,6 +217,7 @@ fn check_lower(alloc: Global, units: &[Unit], main: &[u8]) -> Result<Program, Fa
     ensures named { IfOk result (λ _. naming.named units.now main.now ≡ true) }
     ensures program { IfOk result (λ p. legal.typed_program units.now main.now ≡ Some (program_of p)) }
     ensures units { IfOk result (λ p. p.units ≡ map entry_of units.now) }
+    ensures bodies { IfOk result (λ p. entries_of p.subprograms ≡ map body_of units.now) }
     ensures refused { IfErr result (Refuses units.now main.now) }
 {
     let named = named(alloc, units, main)?;
@@ -225,6 +230,7 @@ fn check_lower(alloc: Global, units: &[Unit], main: &[u8]) -> Result<Program, Fa
 pub fn check(alloc: Global, units: &[Unit], main: &str) -> Result<Program, Failure<CheckFault>>
     ensures program { IfOk result (λ p. elaborated units.now main.now ≡ Some (program_of p)) }
     ensures units { IfOk result (λ p. p.units ≡ map entry_of units.now) }
+    ensures bodies { IfOk result (λ p. entries_of p.subprograms ≡ map body_of units.now) }
     ensures refused { IfErr result (Refuses units.now (str_to_ascii_lowercase main.now)) }
 {
     let lower = main.as_bytes().to_ascii_lowercase(alloc)?;

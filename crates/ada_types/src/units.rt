@@ -1,6 +1,6 @@
 //! Library units (Ada RM 2012, 6.3, 10.1).
 
-ghost use Rattle.std.specs.Prelude.{◌≡◌, [], option_map};
+ghost use Rattle.std.specs.Prelude.{◌≡◌, [], map, option_map, IfOk, IfSome};
 ghost use Rattle.ada_tree.specs.Programs.{subprogram_of};
 ghost use Rattle.ada_names.specs.Naming.{library_of};
 ghost use Rattle.ada_places.specs.Places.{all_places_of};
@@ -8,6 +8,7 @@ ghost use Rattle.ada_types.specs.Legal.{typed};
 ghost use Rattle.ada_types.specs.Typing as spec;
 ghost use Rattle.ada_types.specs.Rules as rules;
 ghost use Rattle.ada_types.specs.Answer.{Shows};
+ghost use Rattle.ada_types.specs.Checked.{body_of, entries_of};
 ghost use Rattle.ada_types.specs.TypingCode.{ShowsBlock, ShowsUnits, plain_procedure, subprograms_view};
 
 use crate::bodies::{has_no_handlers, typed_body};
@@ -17,8 +18,8 @@ use ada_names::{
     Library, Locals, Region, declarations_of, is_bare_procedure, numbered, seen, statements_of,
 };
 use ada_places::Places;
-use ada_syntax::{LibraryItem, Unit};
-use ada_tree::{Block, Subprogram};
+use ada_syntax::{LibraryItem, Unit, item_node_count};
+use ada_tree::{Block, BodyEntry, Subprogram};
 use cov_base::{Failure, Seq};
 use std::alloc::Global;
 
@@ -58,13 +59,30 @@ fn unit_block(
     typed_body(alloc, &around, &mut declared, declarations, statements)
 }
 
+/// What the limits ask of the body that a unit is.
+fn body_entry(unit: &Unit) -> BodyEntry
+    ensures { result ≡ body_of unit.now }
+{
+    BodyEntry {
+        pos: unit.item_pos,
+        nodes: item_node_count(&unit.item),
+    }
+}
+
 /// The subprogram of a unit with this block, which is plain so far.
-fn plain_subprogram(alloc: Global, item: &LibraryItem, body: Block) -> Option<Subprogram>
-    ensures { option_map (subprogram_of []) result ≡ plain_procedure item.now body }
+fn plain_subprogram(
+    alloc: Global,
+    item: &LibraryItem,
+    entry: BodyEntry,
+    body: Block,
+) -> Option<Subprogram>
+    ensures procedure { option_map (subprogram_of []) result ≡ plain_procedure item.now body }
+    ensures entry { IfSome result (λ s. s.entry ≡ entry) }
 {
     if is_plain(item) {
         Some(Subprogram {
             generic: None,
+            entry,
             parameters: Seq::from(Vec::new(alloc)),
             body,
         })
@@ -82,11 +100,12 @@ fn typed_unit(
     number: u32,
     unit: &Unit,
 ) -> Result<Subprogram, Failure<TypeFault>>
-    ensures { Shows (subprogram_of []) (spec.typed_unit library.now places.now number unit.now) (rules.unit library.now places.now number unit.now) result }
+    ensures typed { Shows (subprogram_of []) (spec.typed_unit library.now places.now number unit.now) (rules.unit library.now places.now number unit.now) result }
+    ensures entry { IfOk result (λ s. s.entry ≡ body_of unit.now) }
 {
     let seen = seen(alloc, library, number, unit)?;
     let block = unit_block(alloc, &seen, places, &unit.item)?;
-    plain_subprogram(alloc, &unit.item, block).ok_or(mistyped(unit.pos))
+    plain_subprogram(alloc, &unit.item, body_entry(unit), block).ok_or(mistyped(unit.pos))
 }
 
 /// All units, of which all obligations stand at these places.
@@ -97,7 +116,8 @@ fn typed_units(
     places: &Places,
     units: &[Unit],
 ) -> Result<Vec<Subprogram>, Failure<TypeFault>>
-    ensures { ShowsUnits library.now places.now units.now result }
+    ensures typed { ShowsUnits library.now places.now units.now result }
+    ensures entries { IfOk result (λ ss. entries_of ss.items ≡ map body_of units.now) }
 {
     let mut typed = Vec::new(alloc);
     for (index, unit) in units.iter().enumerate() {
@@ -117,7 +137,8 @@ pub fn typed_program(
 ) -> Result<Vec<Subprogram>, Failure<TypeFault>>
     requires library { library.now ≡ library_of units.now }
     requires places { places.now ≡ all_places_of units.now }
-    ensures { Shows subprograms_view (typed units.now) (rules.program units.now) result }
+    ensures typed { Shows subprograms_view (typed units.now) (rules.program units.now) result }
+    ensures entries { IfOk result (λ ss. entries_of ss.items ≡ map body_of units.now) }
 {
     typed_units(alloc, &library.region, places, units)
 }

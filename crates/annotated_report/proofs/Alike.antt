@@ -6,8 +6,8 @@ use Rattle.cov_base.specs.declared.event.Vector.{Vector}
 use Rattle.cov_base.specs.declared.level.Level.{Level}
 use Rattle.cov_base.specs.declared.obligations.DecEntry.{DecEntry}
 use Rattle.cov_base.specs.declared.obligations.Obligations.{Obligations}
-use Rattle.decision_meaning.specs.Expr.{Expr, size}
-use Rattle.decision_meaning.specs.Marks.{Marks, marks, same, outcome}
+use Rattle.cov_base.specs.Expr.{Expr, size}
+use Rattle.cov_base.specs.Marks.{Marks, marks, same, outcome}
 use Rattle.cov_base.specs.Lists.{Everywhere}
 use Rattle.decision_meaning.specs.Pair.{Pair, IsLeastPair, pair_precedes}
 use Rattle.mcdc_verdicts.proofs.Lists.{everywhere-map, everywhere-item}

@@ -4,8 +4,8 @@ use Rattle.cov_base.specs.declared.event.Event.{Event}
 use Rattle.cov_base.specs.declared.event.Event.TheVariants.{Start, Done}
 use Rattle.cov_base.specs.declared.event.Vector.{Vector}
 use Rattle.cov_base.specs.declared.position.StmtId.{StmtId}
-use Rattle.decision_meaning.specs.Expr.{Expr}
-use Rattle.decision_meaning.specs.Marks.{marks, same, outcome}
+use Rattle.cov_base.specs.Expr.{Expr}
+use Rattle.cov_base.specs.Marks.{marks, same, outcome}
 use Rattle.decision_meaning.specs.Verdict.{IsStarted, Gives, GivesBoth}
 use Rattle.annotated_report.specs.Verdicts.{gives, is_covered, is_started, starts_of}
 

@@ -3,7 +3,7 @@ use Rattle.std.proofs.Common.{◌≡◌, ℕ, zero, suc, Bool, true, false, not,
 use Rattle.std.proofs.lemmas.Bool.{cond-true, cond-false, cases_Bool}
 use Rattle.std.proofs.lemmas.Bool.Decides.{nat_tests}
 use Rattle.cov_base.specs.declared.event.Vector.{Vector}
-use Rattle.decision_meaning.specs.Marks.{Marks, marks, rank, precedes_from, precedes}
+use Rattle.cov_base.specs.Marks.{Marks, marks, rank, precedes_from, precedes}
 use Rattle.cov_base.specs.Lists.{Everywhere, Somewhere}
 use Rattle.decision_meaning.specs.Pair.{Pair, pair_precedes, IsLeastPair}
 use Rattle.mcdc_verdicts.proofs.Lists.{everywhere-map, everywhere-item}

@@ -10,8 +10,8 @@ use Rattle.cov_base.specs.declared.level.Level.{Level}
 use Rattle.cov_base.specs.declared.obligations.DecEntry.{DecEntry}
 use Rattle.cov_base.specs.declared.obligations.Obligations.{Obligations}
 use Rattle.cov_base.specs.declared.obligations.Place.{Place}
-use Rattle.decision_meaning.specs.Expr.{size}
-use Rattle.decision_meaning.specs.Marks.{marks}
+use Rattle.cov_base.specs.Expr.{size}
+use Rattle.cov_base.specs.Marks.{marks}
 use Rattle.cov_base.specs.Lists.{Somewhere, Everywhere}
 use Rattle.decision_meaning.specs.Pair.{Pair, IsLeastPair}
 use Rattle.mcdc_verdicts.proofs.Lists.{everywhere-item}

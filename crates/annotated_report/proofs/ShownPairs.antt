@@ -2,7 +2,7 @@
 use Rattle.std.proofs.Common.{◌≡◌, ℕ, Bool, List, ◌++◌, Option, ap, ◌∙◌}
 use Rattle.cov_base.specs.declared.event.Vector.{Vector}
 use Rattle.cov_base.specs.declared.level.Level.{Level}
-use Rattle.decision_meaning.specs.Expr.{Expr, size}
+use Rattle.cov_base.specs.Expr.{Expr, size}
 use Rattle.decision_meaning.specs.Pair.{Pair, IsLeastPair}
 use Rattle.annotated_report.specs.declared.finding.Finding.{Finding}
 use Rattle.annotated_report.specs.declared.finding.Key.{Key}

@@ -1,13 +1,13 @@
 -- What a caller says of decisions holds of the expressions that their bytes spell.
 use Rattle.std.proofs.Common.{◌≡◌, ℕ, ◌<◌, List, length, sym, ap, ◌∙◌, subst, get_or, slice_get, Some}
-use Rattle.decision_meaning.specs.Expr.{Expr, size, IsPostfixOf}
-use Rattle.decision_meaning.proofs.Postfix.{read_postfix}
+use Rattle.cov_base.specs.Expr.{Expr, size, IsPostfixOf}
+use Rattle.cov_base.proofs.Postfix.{read_postfix}
 use Rattle.std.proofs.lemmas.Option.{slice_get-get_or}
 use Rattle.cov_base.specs.declared.event.Vector.{Vector}
 use Rattle.cov_base.specs.declared.obligations.DecEntry.{DecEntry}
-use Rattle.decision_meaning.specs.Graph.{graph}
+use Rattle.cov_base.specs.Graph.{graph}
 use Rattle.cov_base.specs.Lists.{Everywhere}
-use Rattle.decision_meaning.specs.Path.{IsPathVector}
+use Rattle.cov_base.specs.Path.{IsPathVector}
 use Rattle.annotated_report.specs.Caller.{IsEvaluated}
 use Rattle.annotated_report.specs.Findings.{expr_of}
 

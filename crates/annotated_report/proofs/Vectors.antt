@@ -1,7 +1,7 @@
 -- The letters of a vector, one after another.
 use Rattle.std.proofs.Common.{◌≡◌, ℕ, suc, ◌+◌, ◌-◌, ◌<◌, List, [], ◌∷◌, ◌++◌, sym, ap, ◌∙◌, arith}
 use Rattle.std.proofs.lemmas.List.{append_assoc}
-use Rattle.decision_meaning.specs.Marks.{Marks, rank}
+use Rattle.cov_base.specs.Marks.{Marks, rank}
 use Rattle.annotated_report.specs.Shown.{letter_of, vector_from}
 
 turn : (n c : ℕ) (v : Marks) → c < n → vector_from c (n - c) v ≡ letter_of (rank v c) ∷ vector_from (c + 1) (n - (c + 1)) v

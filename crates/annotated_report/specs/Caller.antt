@@ -3,10 +3,10 @@ use Rattle.std.specs.Prelude.{◌≡◌, ◌<◌, ℕ, List, length, Some, slice
 use Rattle.cov_base.specs.declared.event.Event.{Event}
 use Rattle.cov_base.specs.declared.event.Vector.{Vector}
 use Rattle.cov_base.specs.declared.obligations.DecEntry.{DecEntry}
-use Rattle.decision_meaning.specs.Expr.{Expr, size, IsPostfixOf}
-use Rattle.decision_meaning.specs.Graph.{graph}
+use Rattle.cov_base.specs.Expr.{Expr, size, IsPostfixOf}
+use Rattle.cov_base.specs.Graph.{graph}
 use Rattle.cov_base.specs.Lists.{Everywhere}
-use Rattle.decision_meaning.specs.Path.{IsPathVector}
+use Rattle.cov_base.specs.Path.{IsPathVector}
 use Rattle.annotated_report.specs.Verdicts.{vectors_of}
 
 -- the bytes of a decision spell an expression of at most 32 conditions, each condition has a place, and the vectors are of paths of its graph

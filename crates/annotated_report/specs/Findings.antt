@@ -8,8 +8,8 @@ use Rattle.cov_base.specs.declared.obligations.DecEntry.{DecEntry}
 use Rattle.cov_base.specs.declared.obligations.Obligations.{Obligations}
 use Rattle.cov_base.specs.declared.obligations.Place.{Place}
 use Rattle.cov_base.specs.declared.obligations.StmtEntry.{StmtEntry}
-use Rattle.decision_meaning.specs.Expr.{Expr}
-use Rattle.decision_meaning.specs.Expression.{expression_of}
+use Rattle.cov_base.specs.Expr.{Expr}
+use Rattle.cov_base.specs.Expression.{expression_of}
 use Rattle.decision_meaning.specs.Pair.{Pair}
 use Rattle.annotated_report.specs.declared.finding.Finding.{Finding}
 use Rattle.annotated_report.specs.declared.finding.Key.{Key}

@@ -4,8 +4,8 @@ use Rattle.std.specs.List.{filter, flat_map}
 use Rattle.cov_base.specs.declared.event.Vector.{Vector}
 use Rattle.cov_base.specs.declared.level.Level.{Level}
 use Rattle.cov_base.specs.declared.level.Level.TheVariants.{UcMcdc}
-use Rattle.decision_meaning.specs.Expr.{Expr, size}
-use Rattle.decision_meaning.specs.Marks.{Marks, marks}
+use Rattle.cov_base.specs.Expr.{Expr, size}
+use Rattle.cov_base.specs.Marks.{Marks, marks}
 use Rattle.decision_meaning.specs.Pair.{Pair, pair_precedes, is_unique_cause, is_masking}
 
 -- the pair with this first vector, and that second one

@@ -7,8 +7,8 @@ use Rattle.cov_base.specs.declared.level.Level.{Level}
 use Rattle.cov_base.specs.declared.obligations.DecEntry.{DecEntry}
 use Rattle.cov_base.specs.declared.obligations.Place.{Place}
 use Rattle.cov_base.specs.declared.position.InstId.{InstId}
-use Rattle.decision_meaning.specs.Expr.{size}
-use Rattle.decision_meaning.specs.Marks.{marks}
+use Rattle.cov_base.specs.Expr.{size}
+use Rattle.cov_base.specs.Marks.{marks}
 use Rattle.cov_base.specs.Lists.{Everywhere, Somewhere}
 use Rattle.decision_meaning.specs.Pair.{Pair, IsLeastPair}
 use Rattle.annotated_report.specs.declared.finding.PairLine.{PairLine}

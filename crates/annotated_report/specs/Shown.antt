@@ -5,8 +5,8 @@ use Rattle.cov_base.specs.declared.event.Vector.{Vector}
 use Rattle.cov_base.specs.declared.level.Level.{Level}
 use Rattle.cov_base.specs.declared.obligations.DecEntry.{DecEntry}
 use Rattle.cov_base.specs.declared.obligations.Place.{Place}
-use Rattle.decision_meaning.specs.Expr.{size}
-use Rattle.decision_meaning.specs.Marks.{Marks, marks, rank}
+use Rattle.cov_base.specs.Expr.{size}
+use Rattle.cov_base.specs.Marks.{Marks, marks, rank}
 use Rattle.decision_meaning.specs.Pair.{Pair}
 use Rattle.annotated_report.specs.declared.finding.Key.{Key}
 use Rattle.annotated_report.specs.declared.finding.PairLine.{PairLine}

@@ -5,8 +5,8 @@ use Rattle.cov_base.specs.declared.event.Event.{Event}
 use Rattle.cov_base.specs.declared.event.Event.TheVariants.{Start, Done}
 use Rattle.cov_base.specs.declared.event.Vector.{Vector}
 use Rattle.cov_base.specs.declared.position.StmtId.{StmtId}
-use Rattle.decision_meaning.specs.Expr.{Expr}
-use Rattle.decision_meaning.specs.Marks.{marks, same, outcome}
+use Rattle.cov_base.specs.Expr.{Expr}
+use Rattle.cov_base.specs.Marks.{marks, same, outcome}
 use Rattle.annotated_report.specs.declared.finding.Missing.{Missing}
 use Rattle.annotated_report.specs.declared.finding.Missing.TheVariants.{Evaluation, Outcome}
 

@@ -1,9 +1,9 @@
 //! Conditions, and the pairs of vectors that show them to matter.
 
 ghost use Rattle.std.specs.Prelude.{◌≡◌, ◌<◌, ◌≤◌, ◌++◌, length, OnOk};
-ghost use Rattle.decision_meaning.specs.Graph.{graph};
+ghost use Rattle.cov_base.specs.Graph.{graph};
 ghost use Rattle.cov_base.specs.Lists.{Everywhere};
-ghost use Rattle.decision_meaning.specs.Path.{IsPathVector};
+ghost use Rattle.cov_base.specs.Path.{IsPathVector};
 ghost use Rattle.mcdc_verdicts.specs.View.{pair_view};
 ghost use Rattle.annotated_report.specs.Findings.{expr_of, condition_key, pair_finding, finding_of_condition, unpaired};
 ghost use Rattle.annotated_report.specs.Shown.{pair_line, line_of_condition, paired};

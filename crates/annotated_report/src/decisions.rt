@@ -2,10 +2,10 @@
 
 ghost use Rattle.std.specs.Prelude.{◌≡◌, ◌++◌, ℕ, [], Some, length, slice_get, IfOk, OnOk, if◌then◌else◌};
 ghost use Rattle.cov_base.specs.declared.obligations.DecEntry.{DecEntry};
-ghost use Rattle.decision_meaning.specs.Expr.{size, IsPostfixOf};
-ghost use Rattle.decision_meaning.specs.Graph.{graph};
+ghost use Rattle.cov_base.specs.Expr.{size, IsPostfixOf};
+ghost use Rattle.cov_base.specs.Graph.{graph};
 ghost use Rattle.cov_base.specs.Lists.{Everywhere};
-ghost use Rattle.decision_meaning.specs.Path.{IsPathVector};
+ghost use Rattle.cov_base.specs.Path.{IsPathVector};
 ghost use Rattle.annotated_report.specs.Caller.{IsEvaluated};
 ghost use Rattle.annotated_report.specs.Findings.{
   asks_pairs,

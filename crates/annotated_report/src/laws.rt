@@ -8,7 +8,7 @@ ghost use Rattle.cov_base.specs.declared.level.Level.{Level};
 ghost use Rattle.cov_base.specs.declared.obligations.DecEntry.{DecEntry};
 ghost use Rattle.cov_base.specs.declared.obligations.Obligations.{Obligations};
 ghost use Rattle.cov_base.specs.declared.position.StmtId.{StmtId};
-ghost use Rattle.decision_meaning.specs.Expr.{Expr, size};
+ghost use Rattle.cov_base.specs.Expr.{Expr, size};
 ghost use Rattle.cov_base.specs.Lists.{Everywhere, Somewhere};
 ghost use Rattle.decision_meaning.specs.Pair.{IsLeastPair};
 ghost use Rattle.decision_meaning.specs.Verdict.{IsStarted, Gives, GivesBoth};

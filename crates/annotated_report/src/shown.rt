@@ -1,7 +1,7 @@
 //! Vectors, and the pairs of them that are shown, as text.
 
 ghost use Rattle.std.specs.Prelude.{◌≡◌, ◌<◌, ◌≤◌, ◌++◌, IfOk, OnOk, Some};
-ghost use Rattle.decision_meaning.specs.Marks.{bit, marks, rank};
+ghost use Rattle.cov_base.specs.Marks.{bit, marks, rank};
 ghost use Rattle.annotated_report.specs.Shown.{letter_of, vector_text, pair_text};
 
 use cov_base::{Bytes, Vector};

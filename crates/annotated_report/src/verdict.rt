@@ -1,11 +1,11 @@
 //! What the vectors of a decision show of it, and of its conditions.
 
 ghost use Rattle.std.specs.Prelude.{◌≡◌, Bool, true, false};
-ghost use Rattle.decision_meaning.specs.Expr.{Expr, size};
-ghost use Rattle.decision_meaning.specs.Graph.{graph};
+ghost use Rattle.cov_base.specs.Expr.{Expr, size};
+ghost use Rattle.cov_base.specs.Graph.{graph};
 ghost use Rattle.cov_base.specs.Lists.{Everywhere};
 ghost use Rattle.decision_meaning.specs.Pair.{IsLeastPair};
-ghost use Rattle.decision_meaning.specs.Path.{IsPathVector};
+ghost use Rattle.cov_base.specs.Path.{IsPathVector};
 ghost use Rattle.mcdc_verdicts.specs.View.{pair_view};
 ghost use Rattle.annotated_report.specs.LeastPair.{kind_of};
 ghost use Rattle.annotated_report.specs.Verdicts.{gives, lacks, lacks_outcome};

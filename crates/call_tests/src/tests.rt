@@ -4,7 +4,6 @@
 mod faltering;
 mod faults;
 mod outside;
-mod runs;
 
 use commands::{FileRef, Status, gnatcov};
 use cov_io::{Entry, Files, MemFiles, MemSink};
@@ -36,6 +35,9 @@ const RUN: &str = "gnatcov run --input=empty -o new p1.obj";
 /// Two traces, of which the second has the bytes of the first.
 const COVERAGE: &str =
     "gnatcov coverage --level=stmt --annotate=report --object=p1.obj p1.trace copy.trace";
+
+/// The same traces.
+const CONSOLIDATE: &str = "gnatcov consolidate --object=p1.obj -o new p1.trace copy.trace";
 
 /// All names of files but `new`.
 const NAMES: [&str; 5] = ["p1.adb", "empty", "p1.obj", "p1.trace", "copy.trace"];

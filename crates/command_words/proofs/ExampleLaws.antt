@@ -1,9 +1,9 @@
 -- Shown by computing.
 use Rattle.std.proofs.Common.{refl}
 use Rattle.clap.proofs.OnLiterals.{clap_on_literals}
-use Rattle.command_words.specs.Examples.{Compiles, Runs, Covers, Asks, Lacks, Exceeds}
+use Rattle.command_words.specs.Examples.{Compiles, Runs, Covers, Consolidates, Asks, Lacks, Exceeds}
 use Rattle.command_words.specs.Lines.{given}
-use Rattle.command_words.specs.Task.{compile_of, coverage_of, run_of}
+use Rattle.command_words.specs.Task.{compile_of, consolidate_of, coverage_of, run_of}
 
 pub compiles : Compiles
 unfolding clap_on_literals given compile_of
@@ -17,13 +17,17 @@ pub covers : Covers
 unfolding clap_on_literals given coverage_of
 covers = (refl, refl, refl, refl, refl)
 
+pub consolidates : Consolidates
+unfolding clap_on_literals given consolidate_of
+consolidates = (refl, refl)
+
 pub asks : Asks
 unfolding clap_on_literals given run_of
 asks = (refl, refl, refl, refl, refl)
 
 pub lacks : Lacks
-unfolding clap_on_literals given compile_of run_of
-lacks = (refl, refl, refl, refl, refl, refl)
+unfolding clap_on_literals given compile_of run_of consolidate_of
+lacks = (refl, refl, refl, refl, refl, refl, refl, refl)
 
 pub exceeds : Exceeds
 unfolding clap_on_literals given compile_of run_of coverage_of

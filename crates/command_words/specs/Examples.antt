@@ -2,9 +2,9 @@
 use Rattle.std.specs.Prelude.{◌≡◌, ℕ, List, [], ◌∷◌, Option, Some, None, codes}
 use Rattle.cov_base.specs.declared.level.Level.TheVariants.{Stmt, Decision, Mcdc, UcMcdc}
 use Rattle.cov_base.specs.declared.level.Annotation.TheVariants.{Report}
-use Rattle.command_words.specs.Task.{Task, Compile, Run, Coverage, task_of}
+use Rattle.command_words.specs.Task.{Task, Compile, Run, Coverage, Consolidate, task_of}
 
--- the words of `gnatcov compile`, of `gnatcov run` and of `gnatcov coverage`, with more words after them
+-- the words of `gnatcov compile` and of each other command, with more words after them
 abbrev pub compile : List (List ℕ) → List (List ℕ)
 compile words = codes "gnatcov" ∷ codes "compile" ∷ words
 
@@ -13,6 +13,9 @@ run words = codes "gnatcov" ∷ codes "run" ∷ words
 
 abbrev pub coverage : List (List ℕ) → List (List ℕ)
 coverage words = codes "gnatcov" ∷ codes "coverage" ∷ words
+
+abbrev pub consolidate : List (List ℕ) → List (List ℕ)
+consolidate words = codes "gnatcov" ∷ codes "consolidate" ∷ words
 
 abbrev pub ran : ℕ → Option Task
 ran budget = Some (Run (codes "I") budget (codes "T") (codes "O"))
@@ -44,6 +47,13 @@ Covers =
     × (task_of (coverage (codes "--level=stmt+mcdc" ∷ codes "--annotate=report" ∷ codes "--object=O" ∷ [])) ≡ Some (Coverage Mcdc Report (codes "O") []))
     × (task_of (coverage (codes "--level=stmt+uc_mcdc" ∷ codes "--annotate=report" ∷ codes "--object=O" ∷ [])) ≡ Some (Coverage UcMcdc Report (codes "O") []))
 
+-- no trace, and two, one of them twice
+abbrev pub Consolidates : Type 0
+Consolidates =
+    (task_of (consolidate (codes "--object=O" ∷ codes "-o" ∷ codes "F" ∷ [])) ≡ Some (Consolidate (codes "O") (codes "F") []))
+    × (task_of (consolidate (codes "T" ∷ codes "-oF" ∷ codes "T" ∷ codes "--object" ∷ codes "O" ∷ codes "U" ∷ []))
+    ≡ Some (Consolidate (codes "O") (codes "F") (codes "T" ∷ codes "T" ∷ codes "U" ∷ [])))
+
 -- help and version, in any form
 abbrev pub Asks : Type 0
 Asks =
@@ -62,6 +72,8 @@ Lacks =
     × (task_of (compile (codes "-o" ∷ codes "O" ∷ codes "S" ∷ [])) ≡ None)
     × (task_of (compile (codes "--main=M" ∷ codes "-o" ∷ codes "O" ∷ [])) ≡ None)
     × (task_of (run (codes "--input=I" ∷ codes "--input=I" ∷ codes "-o" ∷ codes "T" ∷ codes "O" ∷ [])) ≡ None)
+    × (task_of (consolidate (codes "--object=O" ∷ codes "T" ∷ [])) ≡ None)
+    × (task_of (consolidate (codes "-o" ∷ codes "F" ∷ codes "T" ∷ [])) ≡ None)
 
 -- two sources, a budget out of its range, a level that there is not, and a form that there is not yet
 abbrev pub Exceeds : Type 0

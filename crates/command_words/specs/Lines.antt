@@ -53,6 +53,12 @@ coverage_app =
     (required_option (codes "object")))
     (any_names (codes "trace"))
 
+-- consolidate --object=OBJECT -o OUT [TRACE...]
+abbrev pub consolidate_app : App
+consolidate_app =
+    with_rule (with_rule (with_rule (new_app (codes "consolidate")) (required_option (codes "object"))) (output_option (codes "out")))
+    (any_names (codes "trace"))
+
 -- ---- what is found
 
 -- the rows, where there is no fault

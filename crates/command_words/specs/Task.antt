@@ -7,13 +7,14 @@ use Rattle.cov_base.specs.declared.level.Level.{Level}
 use Rattle.cov_base.specs.declared.level.Level.TheVariants.{Stmt, Decision, Mcdc, UcMcdc}
 use Rattle.cov_base.specs.declared.level.Annotation.{Annotation}
 use Rattle.cov_base.specs.declared.level.Annotation.TheVariants.{Report}
-use Rattle.command_words.specs.Lines.{compile_app, coverage_app, given, number_of, run_app}
+use Rattle.command_words.specs.Lines.{compile_app, consolidate_app, coverage_app, given, number_of, run_app}
 
 -- what the words ask for, each name as its bytes; the budget is a number of instructions
 pub data Task : Type 0 where
   Compile : (main object source : List ℕ) → Task
   Run : (input : List ℕ) (budget : ℕ) (trace object : List ℕ) → Task
   Coverage : (level : Level) (annotation : Annotation) (object : List ℕ) (traces : List (List ℕ)) → Task
+  Consolidate : (object out : List ℕ) (traces : List (List ℕ)) → Task
 
 -- ---- words
 
@@ -81,6 +82,21 @@ coverage_from rows =
 unfoldable pub coverage_of : List Text → Option Task
 coverage_of words = option_and_then coverage_from (given coverage_app words)
 
+-- ---- consolidate
+
+-- each part has to be there, and at most 4096 traces are named
+abbrev pub consolidate_with : Option Text → Option Text → List Text → Option Task
+consolidate_with (Some object) (Some out) traces = if nat_le (length traces) 4096 then Some (Consolidate object out traces) else None
+consolidate_with _ _ traces = None
+
+abbrev pub consolidate_from : List Row → Option Task
+consolidate_from rows =
+    consolidate_with (first_of (codes "object") rows) (first_of (codes "out") rows) (unwrap_or (all_of (codes "trace") rows) [])
+
+-- what the words ask for, of which the first is `consolidate`
+unfoldable pub consolidate_of : List Text → Option Task
+consolidate_of words = option_and_then consolidate_from (given consolidate_app words)
+
 -- ---- the commands
 
 -- what the words ask for, of which the first is this name
@@ -89,6 +105,7 @@ named name words =
     if bytes_eq name (codes "compile") then compile_of words
     else if bytes_eq name (codes "run") then run_of words
     else if bytes_eq name (codes "coverage") then coverage_of words
+    else if bytes_eq name (codes "consolidate") then consolidate_of words
     else None
 
 -- what the words after the program's name ask for
@@ -106,3 +123,4 @@ abbrev pub IsWithinLimits : Task → Type 0
 IsWithinLimits (Compile main object source) = length source ≤ 4096
 IsWithinLimits (Run input budget trace object) = (1 ≤ budget) × (budget < 2 ^ 32)
 IsWithinLimits (Coverage level annotation object traces) = length traces ≤ 4096
+IsWithinLimits (Consolidate object out traces) = length traces ≤ 4096

@@ -26,6 +26,12 @@ pub enum Command<'a> {
         object: &'a str,
         traces: Seq<&'a str>,
     },
+    /// `consolidate --object=OBJECT -o OUT [TRACE...]`
+    Consolidate {
+        object: &'a str,
+        out: &'a str,
+        traces: Seq<&'a str>,
+    },
 }
 
 /// The words are no command.

@@ -1,13 +1,14 @@
 //! Worked examples of command lines, as clauses. They are shown by computing what the definitions of
 //! `specs/Task.antt` make of the words.
 
-ghost use Rattle.command_words.specs.Examples.{Compiles, Runs, Covers, Asks, Lacks, Exceeds};
+ghost use Rattle.command_words.specs.Examples.{Compiles, Runs, Covers, Consolidates, Asks, Lacks, Exceeds};
 
 /// Words that are commands.
 pub fn accepted()
     ensures compile { Compiles }
     ensures run { Runs }
     ensures coverage { Covers }
+    ensures consolidate { Consolidates }
 {}
 
 /// Words that are no command: they ask for help, lack something that has to be given or give it

@@ -7,7 +7,7 @@ ghost use Rattle.command_words.specs.Task.{IsWithinLimits, asked, is_short, name
 ghost use Rattle.command_words.specs.Command.{task_view};
 
 use crate::command::{Command, Usage};
-use crate::commands::{compile, coverage, run};
+use crate::commands::{compile, consolidate, coverage, run};
 use crate::limits::is_short;
 use cov_base::Failure;
 use std::alloc::Global;
@@ -47,6 +47,7 @@ fn named<'a>(alloc: Global, name: &str, words: &'a [String]) -> Result<Command<'
         "compile" => compile(alloc, words),
         "run" => run(alloc, words),
         "coverage" => coverage(alloc, words),
+        "consolidate" => consolidate(alloc, words),
         _ => Err(Failure::Fault(Usage)),
     }
 }

@@ -2,14 +2,14 @@
 use Rattle.std.proofs.Common.{◌≡◌, ◌≢◌, ◌⊎◌, ℕ, ◌+◌, List, [], ◌∷◌, Option, None, Some, IsSome, IfSome, MatchOption, Result, Ok, Err, inl, inr, refl, sym, ◌∙◌, ap, subst}
 use Rattle.std.specs.FinMap as finmap
 use Rattle.std.specs.List.{AllByRecursion}
-use Rattle.command_words.specs.Task.{Task, Compile, Run, Coverage}
+use Rattle.command_words.specs.Task.{Task, Compile, Run, Coverage, Consolidate}
 use Rattle.cov_io.specs.Outside.{Held, WhereTold, Replaces, SameBut}
 use Rattle.commands.specs.declared.status.Status.{Status}
 use Rattle.commands.specs.declared.status.Status.TheVariants.{Done, Usage, SourceRefused, ObjectRefused, TraceRefused, InputRefused, OverBudget, Trap, ReadFault, WriteFault, WantOfMemory}
 use Rattle.commands.specs.Clauses.{UsageIsExact, AreThere, DoneIsWhole, RefusalsLeaveFiles, OthersStay, RefusalsPutOneLine, RisenReadsAreTold, ReadFaultHasCause, WriteFaultHasCause}
 use Rattle.commands.specs.Outcome.{Call, Answers, Because, HasFile, HasSpoilt, IsNamed, Delivered}
 use Rattle.commands.specs.TaskFiles.{output_of}
-use Rattle.commands.specs.Verdict.{NewFile, Output, AfterTraces, Covers, ComesTo}
+use Rattle.commands.specs.Verdict.{NewFile, Output, AfterTraces, Covers, Consolidates, ComesTo}
 use Rattle.object_format.specs.declared.object.Object.{Object}
 
 -- an output, as a verdict
@@ -53,6 +53,10 @@ there held (Run input budget trace object) output h =
 there held (Coverage level annotation object traces) output h =
     let first = read_there (finmap.get held object) _ output _ h in
     let others = some_there (finmap.get held object) _ _ first.0 (passed (finmap.get held object) (λ _. ⊥) _ first.1) (λ bytes next. traces_there held next.0 1 traces (Covers level annotation next.0) output next.2) in
+    (first.0, others)
+there held (Consolidate object name traces) output h =
+    let first = read_there (finmap.get held object) _ output _ h in
+    let others = some_there (finmap.get held object) _ _ first.0 (passed (finmap.get held object) (λ _. ⊥) _ first.1) (λ bytes next. traces_there held next.0 1 traces (Consolidates name next.0) output next.2) in
     (first.0, others)
 
 -- the same where the files may not tell

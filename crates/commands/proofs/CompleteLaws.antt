@@ -1,23 +1,35 @@
 -- When commands do their work.
-use Rattle.std.proofs.Common.{◌≡◌, inl, inr, ⊎_elim, ℕ, ◌+◌, ◌&&◌, Bool, true, ℤ, List, [], ◌∷◌, IfSome, MatchOption, Option, Some, None, Result, Ok, Err, refl, sym, subst, ◌∙◌}
+use Rattle.std.proofs.Common.{◌≡◌, inl, inr, ⊎_elim, ℕ, ◌+◌, ◌&&◌, Bool, true, false, ℤ, List, [], ◌∷◌, IfSome, MatchOption, Option, Some, None, Result, Ok, Err, refl, sym, subst, ◌∙◌}
 use Rattle.std.specs.FinMap as finmap
-use Rattle.command_words.specs.Task.{Task, Compile, Run, Coverage}
+use Rattle.ada_meaning.specs.Program.{Program}
+use Rattle.command_words.specs.Task.{Task, Compile, Run, Coverage, Consolidate}
 use Rattle.compiler.proofs.Refusals.{not_refused}
 use Rattle.compiler.specs.Behaves.{number_of}
+use Rattle.compiler.specs.Source.{IsObjectOf}
+use Rattle.cov_base.specs.declared.obligations.SourceFile.{SourceFile}
 use Rattle.cov_io.specs.Outside.{Held}
+use Rattle.cov_base.specs.declared.event.Event.{Event}
+use Rattle.coverage_set.proofs.OneFile.{taken}
 use Rattle.coverage_set.proofs.OwnTraces.{own_fits, own_follows}
+use Rattle.coverage_set.proofs.Possible.{said_possible}
+use Rattle.coverage_set.proofs.RunLaw as transcripts
+use Rattle.coverage_set.specs.Consolidated.{events_in, IsPossibleEvent}
 use Rattle.decision_map.specs.Fits.{fault_of}
-use Rattle.cov_base.specs.Lists.{Everywhere}
-use Rattle.commands.specs.Complete.{NothingFails, IsDone, LegalSourcesCompile, ProgramsRun, ProgramsDoNotTrap, TracesAreCovered}
-use Rattle.commands.specs.Content.{IsFileOf, IsTraceFor, sources_of, IsInputOf, RefusesSource, RefusesTrace, StopsRun, trace_file, Follows}
+use Rattle.cov_base.specs.Lists.{Everywhere, Somewhere}
+use Rattle.commands.specs.Complete.{NothingFails, IsDone, LegalSourcesCompile, ProgramsRun, ProgramsDoNotTrap, TracesAreCovered, TracesAreConsolidated}
+use Rattle.commands.specs.Content.{IsFileOf, is_consolidated, IsConsolidatedFor, IsRunTraceFor, IsTraceFor, sources_of, IsInputOf, RefusesSource, RefusesConsolidated, RefusesRunTrace, RefusesTrace, StopsRun, trace_file, Follows}
 use Rattle.commands.specs.declared.status.FileRef.TheVariants.{Word}
 use Rattle.commands.specs.declared.status.Status.{Status}
 use Rattle.commands.specs.declared.status.Status.TheVariants.{Done, Usage, SourceRefused, ObjectRefused, TraceRefused, InputRefused, OverBudget, Trap, ReadFault, WriteFault, WantOfMemory}
 use Rattle.commands.specs.Outcome.{Call, Because, Answers}
-use Rattle.commands.specs.RunsCovered.{ARun, transcript_of, IsTraceOf, AreTracesOf, digest_of_run}
-use Rattle.commands.specs.Verdict.{Output, AfterRead, AfterObject, AfterInput, AfterTrace, AfterTraces, Compiles, RunsOn, Covers, ComesTo}
+use Rattle.commands.specs.RunsCovered.{ARun, transcript_of, IsTraceOf, IsFileOfRuns, IsWrittenOf, AreTracesOf, digest_of_run}
+use Rattle.commands.specs.Verdict.{Output, AfterRead, AfterObject, AfterInput, AfterTrace, AfterTraces, Compiles, RunsOn, Covers, Consolidates, ComesTo}
+use Rattle.commands.proofs.CoveringLaws.{as_consolidated, as_trace}
+use Rattle.commands.proofs.FileLaws.{file_fits, file_kind}
 use Rattle.commands.proofs.HeadlineLaws.{is_file, all_fair}
 use Rattle.commands.proofs.InputLaws.{numbers_fit}
+use Rattle.commands.proofs.RunsLaw.{parted, trace_kind}
+use Rattle.kernel_code.specs.Whole.{IsInput}
 use Rattle.object_facts.specs.Object.{facts_of}
 use Rattle.object_format.proofs.FileLaws.{one_object, structured_only}
 use Rattle.object_format.specs.Checked.{IsSound, FailsFirst}
@@ -32,8 +44,9 @@ use Rattle.rv_semantics.specs.declared.stepped.TrapWhy.{TrapWhy}
 use Rattle.rv_semantics.specs.Run.Outcome.{Ended, Trapped}
 use Rattle.trace_format.specs.declared.fault.TraceFault.{TraceFault}
 use Rattle.trace_format.specs.Trace.{TraceFile}
+use Rattle.trace_record.specs.Written.{traced}
 use Rattle.transcript.proofs.Broken.{whole_law, broken_law}
-use Rattle.transcript.specs.Reading.{AllFollow, IsDisciplined}
+use Rattle.transcript.specs.Reading.{AllFollow, Tells, IsDisciplined}
 use Rattle.vector_rebuild.specs.Rebuilt.{visits_of}
 
 -- a refusal, as a verdict
@@ -193,13 +206,13 @@ trap_law task call status answers = λ held input trace object budget holds is f
     let stopped = of_trap held input trace object budget o pc why (is_file files main p o of) there (told_of held call.held _ holds b.0.1) in
     of.behaves.no_trap budget stopped.1 (numbers_fit stopped.0 stopped.1 stopped.2) pc why stopped.3
 
--- ---- coverage
+-- ---- coverage and consolidate
 
 abbrev fine_trace : TraceFile → Result TraceFile TraceFault
 fine_trace t = Ok t
 
 -- the trace of a run of an object passes all checks
-own_trace : (o : Object) (r : ARun) (bytes : List ℕ) → IsSound o → IsDisciplined (facts_of o) (transcript_of o r) → IsTraceOf o r bytes → IsTraceFor o bytes
+own_trace : (o : Object) (r : ARun) (bytes : List ℕ) → IsSound o → IsDisciplined (facts_of o) (transcript_of o r) → IsTraceOf o r bytes → IsRunTraceFor o bytes
 own_trace o r bytes sound disciplined is = record {
   trace = trace_file o (transcript_of o r) r.ending;
   read = is.reads_back;
@@ -207,15 +220,40 @@ own_trace o r bytes sound disciplined is = record {
   follows = own_follows o (transcript_of o r) r.ending (digest_of_run o r) disciplined;
 }
 
--- what passes all checks is not refused
-trace_unrefused : (o : Object) (number : ℕ) (bytes : List ℕ) (s : Status) → IsTraceFor o bytes → RefusesTrace number o bytes s → ⊥
-trace_unrefused o number bytes s is (inl alone) = let x : ⊥ = cc (is.read, alone.1) in x
-trace_unrefused o number bytes s is (inr (inl beside)) =
+-- runs of the object can have what its runs tell
+told_possible : (o : Object) (runs : List ARun) (e : Event) → IsSound o → Everywhere (λ r. (object_run o r.budget r.input).outcome ≡ Ended r.ending) runs
+    → Everywhere (λ r. IsDisciplined (facts_of o) (transcript_of o r)) runs → Somewhere (λ r. Tells (facts_of o) (transcript_of o r) e) runs → IsPossibleEvent o e
+told_possible o [] e sound ended fair tells = absurd tells
+told_possible o (r ∷ rs) e sound ended fair tells =
+    ⊎_elim
+    (λ here. said_possible o sound (trace_file o (transcript_of o r) r.ending) e
+    ((transcripts.run_law o r.budget r.input r.ending (digest_of_run o r) e sound ended.0 fair.0).1 here))
+    (λ there. told_possible o rs e sound ended.1 fair.1 there) tells
+
+-- so does the consolidated file of runs
+own_file : (o : Object) (runs : List ARun) (bytes : List ℕ) → IsSound o → Everywhere (λ r. IsDisciplined (facts_of o) (transcript_of o r)) runs
+    → IsFileOfRuns o runs bytes → IsConsolidatedFor o bytes
+own_file o runs bytes sound fair is =
+    file_fits o is.covered bytes is.stands.object (λ e has. told_possible o runs e sound is.ended fair ((is.stands.events e).0 has)) is.file
+
+-- either passes all checks
+own_fine : (o : Object) (runs : List ARun) (bytes : List ℕ) → IsSound o → Everywhere (λ r. IsDisciplined (facts_of o) (transcript_of o r)) runs
+    → IsWrittenOf o runs bytes → IsTraceFor o bytes
+own_fine o runs bytes sound fair (inl (r, only, trace)) =
+    let one = subst (λ (rs : List ARun). Everywhere (λ r. IsDisciplined (facts_of o) (transcript_of o r)) rs) only fair in
+    as_trace bytes (trace_kind bytes (traced o (transcript_of o r) r.ending) trace.traced) (own_trace o r bytes sound one.0 trace)
+own_fine o runs bytes sound fair (inr file) =
+    as_consolidated bytes (file_kind file.covered bytes file.file) (own_file o runs bytes sound fair file)
+
+-- a trace that passes all checks is not refused
+run_unrefused : (o : Object) (number : ℕ) (bytes : List ℕ) (s : Status) → IsRunTraceFor o bytes → RefusesRunTrace number o bytes s → ⊥
+run_unrefused o number bytes s is (inl alone) = let x : ⊥ = cc (is.read, alone.1) in x
+run_unrefused o number bytes s is (inr (inl beside)) =
     let same : fine_trace beside.1.0 ≡ fine_trace is.trace = sym beside.1.1 ∙ is.read in
     let one : beside.1.0 ≡ is.trace = cc same in
     let fits : fault_of o beside.1.0 ≡ None = subst (λ (t : TraceFile). fault_of o t ≡ None) (sym one) is.fits in
     let x : ⊥ = cc (fits, beside.1.2) in x
-trace_unrefused o number bytes s is (inr (inr breaks)) =
+run_unrefused o number bytes s is (inr (inr breaks)) =
     let same : fine_trace breaks.1.0 ≡ fine_trace is.trace = sym breaks.1.1 ∙ is.read in
     let one : breaks.1.0 ≡ is.trace = cc same in
     let follows : AllFollow (facts_of o) [] (visits_of (facts_of o) breaks.1.0.history) = subst (λ (t : TraceFile). Follows o t) (sym one) is.follows in
@@ -223,30 +261,60 @@ trace_unrefused o number bytes s is (inr (inr breaks)) =
     let broken = (broken_law (facts_of o) (visits_of (facts_of o) breaks.1.0.history) breaks.0.at).1 breaks.1.3 in
     let x : ⊥ = cc (whole, broken) in x
 
+-- a consolidated file likewise
+list_unrefused : (o : Object) (number : ℕ) (bytes : List ℕ) (s : Status) → IsConsolidatedFor o bytes → RefusesConsolidated number o bytes s → ⊥
+list_unrefused o number bytes s is refuses =
+    taken o bytes (record { object = o; runs = is.file.runs; events = events_in is.file }) refuses.0
+    (record { file = is.file; is = is.read; fits = is.fits; object = refl; runs = λ d. (λ x. x, λ x. x); events = λ e. (λ x. x, λ x. x) })
+    refuses.1
+
+-- either
+trace_unrefused : (o : Object) (number : ℕ) (bytes : List ℕ) (s : Status) → IsTraceFor o bytes → RefusesTrace number o bytes s → ⊥
+trace_unrefused o number bytes s is refuses = by_kind (is_consolidated bytes) refl
+  where
+    by_kind : (b : Bool) → is_consolidated bytes ≡ b → ⊥
+    by_kind true kind = list_unrefused o number bytes s (is.consolidated kind) (refuses.consolidated kind)
+    by_kind false kind = run_unrefused o number bytes s (is.trace kind) (refuses.trace kind)
+
 one_passes : (o : Object) (number : ℕ) (bytes : List ℕ) (Then : Result Output Status → Type 0) (s : Status) → IsTraceFor o bytes → AfterTrace number o bytes Then (refused s) → Then (refused s)
 one_passes o number bytes Then s is (inl refuses) = absurd (trace_unrefused o number bytes s is refuses)
 one_passes o number bytes Then s is (inr next) = next.1
 
--- the traces of runs all pass
+-- the traces and consolidated files of runs all pass
 all_pass : (held : Held) (o : Object) (number : ℕ) (names : List (List ℕ)) (runs : List ARun) (Then : List (List ℕ) → Result Output Status → Type 0) (s : Status)
     → IsSound o → AreTracesOf held o names runs → Everywhere (λ r. IsDisciplined (facts_of o) (transcript_of o r)) runs
     → AfterTraces held o number names Then (refused s) → (traces : List (List ℕ)) × Then traces (refused s)
-all_pass held o number [] [] Then s sound are fair says = ([], says)
-all_pass held o number [] (r ∷ rs) Then s sound are fair says = absurd are
-all_pass held o number (name ∷ names) [] Then s sound are fair says = absurd are
-all_pass held o number (name ∷ names) (r ∷ rs) Then s sound are fair says =
+all_pass held o number [] runs Then s sound are fair says = ([], says)
+all_pass held o number (name ∷ names) runs Then s sound are fair says =
+    let parts = parted (λ r. IsDisciplined (facts_of o) (transcript_of o r)) are.0 are.1
+    (subst (λ (rs : List ARun). Everywhere (λ r. IsDisciplined (facts_of o) (transcript_of o r)) rs) are.2 fair) in
     let After : List ℕ → Result Output Status → Type 0 = λ trace. AfterTraces held o (number + 1) names (λ traces. Then (trace ∷ traces)) in
-    let next = one_passes o number are.0 (After are.0) s (own_trace o r are.0 sound fair.0 are.2)
-    (of_read held number name are.0 (λ trace. AfterTrace number o trace (After trace)) s are.1 says) in
-    let rest = all_pass held o (number + 1) names rs (λ traces. Then (are.0 ∷ traces)) s sound are.3 fair.1 next in
-    (are.0 ∷ rest.0, rest.1)
+    let next = one_passes o number are.3 (After are.3) s (own_fine o are.0 are.3 sound parts.0 are.5)
+    (of_read held number name are.3 (λ trace. AfterTrace number o trace (After trace)) s are.4 says) in
+    let rest = all_pass held o (number + 1) names are.1 (λ traces. Then (are.3 ∷ traces)) s sound are.6 parts.1 next in
+    (are.3 ∷ rest.0, rest.1)
+
+-- nothing stops a command after the object of a program and traces of its runs, where nothing fails
+unstopped_traces : (held : Held) (object : List ℕ) (names : List (List ℕ)) (Then : Object → List (List ℕ) → Result Output Status → Type 0) (s : Status)
+    → (files : List SourceFile) (main : List ℕ) (p : Program) (o : Object) → IsObjectOf files main p o → finmap.get held object ≡ Some (object_bytes o)
+    → (runs : List ARun) → AreTracesOf held o names runs → Everywhere (λ r. IsInput r.input) runs
+    → AfterRead held 0 object (λ bytes. AfterObject bytes (λ o. AfterTraces held o 1 names (Then o))) (refused s)
+    → (traces : List (List ℕ)) × Then o traces (refused s)
+unstopped_traces held object names Then s files main p o of there runs are inputs comes =
+    all_pass held o 1 names runs (Then o) s of.checked.sound are (all_fair p o of.behaves held names runs inputs are)
+    (of_object o (object_bytes o) (λ o. AfterTraces held o 1 names (Then o)) s (is_file files main p o of)
+    (of_read held 0 object (object_bytes o) (λ bytes. AfterObject bytes (λ o. AfterTraces held o 1 names (Then o))) s there comes))
 
 pub coverage_law : (task : Option Task) (call : Call) (status : Status) → Answers task call status → TracesAreCovered task call status
 unfolding TracesAreCovered
 coverage_law task call status answers = λ held level annotation object names holds is fine files main p o of there runs are inputs.
     done_unless held (Coverage level annotation object names) call status holds fine
-    (λ s comes.
-    (all_pass held o 1 names runs (Covers level annotation o) s of.checked.sound are (all_fair p o of.behaves held names runs inputs are)
-    (of_object o (object_bytes o) (λ o. AfterTraces held o 1 names (Covers level annotation o)) s (is_file files main p o of)
-    (of_read held 0 object (object_bytes o) (λ bytes. AfterObject bytes (λ o. AfterTraces held o 1 names (Covers level annotation o))) s there comes))).1)
+    (λ s comes. (unstopped_traces held object names (Covers level annotation) s files main p o of there runs are inputs comes).1)
     (asked (Coverage level annotation object names) task call status is answers)
+
+pub consolidate_law : (task : Option Task) (call : Call) (status : Status) → Answers task call status → TracesAreConsolidated task call status
+unfolding TracesAreConsolidated
+consolidate_law task call status answers = λ held object name names holds is fine files main p o of there runs are inputs.
+    done_unless held (Consolidate object name names) call status holds fine
+    (λ s comes. (unstopped_traces held object names (Consolidates name) s files main p o of there runs are inputs comes).1)
+    (asked (Consolidate object name names) task call status is answers)

@@ -1,16 +1,29 @@
--- What adding traces makes of a coverage, and what is reported of it.
-use Rattle.std.proofs.Common.{◌≡◌, ◌↔◌, ◌⊎◌, inl, inr, ⊎_elim, ℕ, List, [], ◌∷◌, ◌++◌, length, map, Result, Ok, refl, sym, ap, subst, ◌∙◌}
+-- What adding traces makes of a coverage, and what is made of it.
+use Rattle.std.proofs.Common.{◌≡◌, ◌↔◌, ◌⊎◌, inl, inr, ⊎_elim, ℕ, Bool, true, false, List, [], ◌∷◌, ◌++◌, length, map, Result, Ok, Err, refl, sym, ap, subst, ◌∙◌}
+use Rattle.std.specs.Prelude.{OnOk}
 use Rattle.annotated_report.specs.Report.{report_text}
 use Rattle.cov_base.specs.declared.event.Event.{Event}
+use Rattle.cov_base.specs.declared.failure.Failure.{Failure}
+use Rattle.cov_base.specs.declared.failure.Failure.TheVariants.{Fault}
+use Rattle.cov_base.specs.declared.failure.Failure.TheVariants as failures
 use Rattle.cov_base.specs.declared.level.Level.{Level}
-use Rattle.coverage_set.specs.Covered.{Covered, Has, HasRun, IsCountOfRuns}
+use Rattle.coverage_set.specs.Consolidated.{events_in, IsReadOf, IsRefused}
+use Rattle.coverage_set.specs.Covered.{Covered, Has, HasRun, IsCountOfRuns, IsUnion}
 use Rattle.cov_base.specs.Lists.{Somewhere}
-use Rattle.commands.specs.Content.{RefusesTrace, Shows, ClosesWith, IsReport}
-use Rattle.commands.specs.Covering.{Adds, IsBadFit}
+use Rattle.commands.specs.Content.{ByMagic, is_consolidated, RefusesTrace, RefusesConsolidated, RefusesRunTrace, Shows, Counts, IsReport, StandsFor}
+use Rattle.commands.specs.Covering.{Adds, AddsListed, AddsRun, IsBadFit}
+use Rattle.commands.specs.Failures.{consolidated_status}
+use Rattle.commands.specs.Reading.{UnlessMemory}
 use Rattle.commands.specs.declared.status.Status.{Status}
+use Rattle.commands.specs.declared.status.Status.TheVariants.{TraceRefused}
+use Rattle.commands.specs.declared.status.TraceWhy.{TraceWhy}
+use Rattle.commands.specs.declared.status.TraceWhy.TheVariants.{File, Fit, Broken, Consolidated}
 use Rattle.object_facts.specs.Object.{facts_of}
 use Rattle.object_format.specs.declared.object.Object.{Object}
 use Rattle.trace_format.specs.Checks.{trace_of}
+use Rattle.trace_format.specs.Consolidated.{ConsolidatedFile}
+use Rattle.trace_format.specs.ConsolidatedChecks.{consolidated_of}
+use Rattle.trace_format.specs.declared.consolidated.fault.ConsFault.{ConsFault}
 use Rattle.trace_format.specs.declared.fault.TraceFault.{TraceFault}
 use Rattle.trace_format.specs.Trace.{TraceFile}
 use Rattle.transcript.proofs.Lists.{in_append, in_left, in_right}
@@ -32,26 +45,93 @@ of_read P bytes t read u again holds = subst P (fine_is u t (sym again ∙ read)
 only : {X : Type 0} (P : X → Type 0) (x : X) → Somewhere P (x ∷ []) → P x
 only P x s = ⊎_elim (λ here. here) (λ there. absurd there) s
 
-pub one_added : (o : Object) (old new : Covered) (bytes : List ℕ) (t : TraceFile) → trace_of bytes ≡ Ok t → new.object ≡ old.object
+-- ---- one file is added
+
+pub run_added : (o : Object) (old new : Covered) (bytes : List ℕ) (t : TraceFile) → trace_of bytes ≡ Ok t → new.object ≡ old.object
     → ((e : Event) → Has new e ↔ (Has old e ⊎ Says (facts_of o) (trace_in t) e)) → ((d : List ℕ) → HasRun new d ↔ (HasRun old d ⊎ (t.closing ≡ d)))
-    → Adds o old new (bytes ∷ [])
-one_added o old new bytes t read same events runs = record {
+    → AddsRun o old new bytes
+run_added o old new bytes t read same events runs = record {
   object = same;
   events = λ e. (
-    λ has. ⊎_elim (λ before. inl before) (λ says. inr (inl (t, read, says))) ((events e).0 has),
-    λ either. (events e).1 (⊎_elim (λ before. inl before) (λ shown. inr (said e (only (λ trace. Shows o trace e) bytes shown))) either),
+    λ has. ⊎_elim (λ before. inl before) (λ says. inr (t, read, says)) ((events e).0 has),
+    λ either. (events e).1 (⊎_elim (λ before. inl before) (λ s. inr (of_read (λ u. Says (facts_of o) (trace_in u) e) bytes t read s.0 s.1 s.2)) either),
   );
   runs = λ d. (
-    λ has. ⊎_elim (λ before. inl before) (λ is. inr (inl (t, read, is))) ((runs d).0 has),
-    λ either. (runs d).1 (⊎_elim (λ before. inl before) (λ shown. inr (closed d (only (ClosesWith d) bytes shown))) either),
+    λ has. ⊎_elim (λ before. inl before) (λ is. inr (t, read, is)) ((runs d).0 has),
+    λ either. (runs d).1 (⊎_elim (λ before. inl before) (λ s. inr (of_read (λ u. u.closing ≡ d) bytes t read s.0 s.1 s.2)) either),
   );
 }
-  where
-    said : (e : Event) → Shows o bytes e → Says (facts_of o) (trace_in t) e
-    said e s = of_read (λ u. Says (facts_of o) (trace_in u) e) bytes t read s.0 s.1 s.2
 
-    closed : (d : List ℕ) → ClosesWith d bytes → t.closing ≡ d
-    closed d s = of_read (λ u. u.closing ≡ d) bytes t read s.0 s.1 s.2
+-- what is read is one consolidated file
+abbrev pub listed : ConsolidatedFile → Result ConsolidatedFile ConsFault
+listed f = Ok f
+
+pub listed_is : (f g : ConsolidatedFile) → listed f ≡ listed g → f ≡ g
+listed_is f g e = cc e
+
+of_listed : (P : ConsolidatedFile → Type 0) (bytes : List ℕ) (f : ConsolidatedFile) → consolidated_of bytes ≡ Ok f
+    → (g : ConsolidatedFile) → consolidated_of bytes ≡ Ok g → P g → P f
+of_listed P bytes f read g again holds = subst P (listed_is g f (sym again ∙ read)) holds
+
+pub listed_added : (o : Object) (old other new : Covered) (bytes : List ℕ) → IsReadOf o bytes other → IsUnion old other new → AddsListed old new bytes
+listed_added o old other new bytes read union = record {
+  object = union.object;
+  events = λ e. (
+    λ has. ⊎_elim (λ before. inl before) (λ joined. inr (read.file, read.is, (read.events e).0 joined)) ((union.events e).0 has),
+    λ either. (union.events e).1 (⊎_elim (λ before. inl before)
+        (λ s. inr ((read.events e).1 (of_listed (λ f. Somewhere (λ x. x ≡ e) (events_in f)) bytes read.file read.is s.0 s.1 s.2))) either),
+  );
+  runs = λ d. (
+    λ has. ⊎_elim (λ before. inl before) (λ joined. inr (read.file, read.is, (read.runs d).0 joined)) ((union.runs d).0 has),
+    λ either. (union.runs d).1 (⊎_elim (λ before. inl before)
+        (λ s. inr ((read.runs d).1 (of_listed (λ f. Somewhere (λ x. x ≡ d) f.runs) bytes read.file read.is s.0 s.1 s.2))) either),
+  );
+}
+
+-- ---- what its first bytes say
+
+pub as_consolidated : {M T : Type 0} (bytes : List ℕ) → is_consolidated bytes ≡ true → M → ByMagic bytes M T
+as_consolidated bytes kind m = record { consolidated = λ _. m; trace = λ other. let x : ⊥ = cc (kind, other) in absurd x }
+
+pub as_trace : {M T : Type 0} (bytes : List ℕ) → is_consolidated bytes ≡ false → T → ByMagic bytes M T
+as_trace bytes kind t = record { consolidated = λ other. let x : ⊥ = cc (kind, other) in absurd x; trace = λ _. t }
+
+-- what follows where a call answers Ok
+pub on_ok : {A E P Q : Type 0} (r : Result A E) → (P → Q) → OnOk r P → OnOk r Q
+on_ok (Ok x) f p = f p
+on_ok (Err e) f p = tt
+
+-- a union with what one file shows, as one with what a list of one shows
+of_one : {A B F : Type 0} (P : F → Type 0) (x : F) → B ↔ (A ⊎ P x) → B ↔ (A ⊎ Somewhere P (x ∷ []))
+of_one P x both = (
+  λ b. ⊎_elim (λ a. inl a) (λ p. inr (inl p)) (both.0 b),
+  λ either. both.1 (⊎_elim (λ a. inl a) (λ s. inr (only P x s)) either),
+)
+
+-- the same where another word is used of the file
+with_word : {A B S T : Type 0} → (S → T) → (T → S) → B ↔ (A ⊎ S) → B ↔ (A ⊎ T)
+with_word to back both = (
+  λ b. ⊎_elim (λ a. inl a) (λ s. inr (to s)) (both.0 b),
+  λ either. both.1 (⊎_elim (λ a. inl a) (λ t. inr (back t)) either),
+)
+
+pub consolidated_adds : (o : Object) (old new : Covered) (bytes : List ℕ) → is_consolidated bytes ≡ true → AddsListed old new bytes
+    → Adds o old new (bytes ∷ [])
+consolidated_adds o old new bytes kind adds = record {
+  object = adds.object;
+  events = λ e. of_one (λ trace. Shows o trace e) bytes (with_word (λ s. as_consolidated bytes kind s) (λ t. t.consolidated kind) (adds.events e));
+  runs = λ d. of_one (Counts d) bytes (with_word (λ s. as_consolidated bytes kind s) (λ t. t.consolidated kind) (adds.runs d));
+}
+
+pub trace_adds : (o : Object) (old new : Covered) (bytes : List ℕ) → is_consolidated bytes ≡ false → AddsRun o old new bytes
+    → Adds o old new (bytes ∷ [])
+trace_adds o old new bytes kind adds = record {
+  object = adds.object;
+  events = λ e. of_one (λ trace. Shows o trace e) bytes (with_word (λ s. as_trace bytes kind s) (λ t. t.trace kind) (adds.events e));
+  runs = λ d. of_one (Counts d) bytes (with_word (λ s. as_trace bytes kind s) (λ t. t.trace kind) (adds.runs d));
+}
+
+-- ---- many files
 
 pub nothing_added : (o : Object) (c : Covered) → Adds o c c []
 nothing_added o c = record {
@@ -71,7 +151,7 @@ pub more_added : (o : Object) (a b c : Covered) (ts us : List (List ℕ)) → Ad
 more_added o a b c ts us first second = record {
   object = second.object ∙ first.object;
   events = λ e. joined (λ trace. Shows o trace e) ts us (first.events e) (second.events e);
-  runs = λ d. joined (ClosesWith d) ts us (first.runs d) (second.runs d);
+  runs = λ d. joined (Counts d) ts us (first.runs d) (second.runs d);
 }
 
 -- what is added to nothing
@@ -84,7 +164,7 @@ through first second = (λ a. second.0 (first.0 a), λ c. first.1 (second.1 c))
 -- the report of a coverage is that of the traces that were added to an empty one
 pub reports_added : (level : Level) (o : Object) (old new : Covered) (traces : List (List ℕ)) (text : List ℕ)
     → ((e : Event) → Has old e → ⊥) → ((d : List ℕ) → HasRun old d → ⊥) → Adds o old new traces → IsReport level o (Has new) (HasRun new) text
-    → IsReport level o (λ e. Somewhere (λ trace. Shows o trace e) traces) (λ digest. Somewhere (ClosesWith digest) traces) text
+    → IsReport level o (λ e. Somewhere (λ trace. Shows o trace e) traces) (λ digest. Somewhere (Counts digest) traces) text
 reports_added level o old new traces text no_event no_run adds report = record {
   events = report.events;
   digests = report.digests;
@@ -92,6 +172,16 @@ reports_added level o old new traces text no_event no_run adds report = record {
   all_digests = λ d. through (report.all_digests d) (of_nothing (no_run d) (adds.runs d));
   each_once = report.each_once;
   told = report.told;
+}
+
+-- the coverage stands for the traces that were added to an empty one
+pub stands_added : (o : Object) (old new : Covered) (traces : List (List ℕ)) → old.object ≡ o
+    → ((e : Event) → Has old e → ⊥) → ((d : List ℕ) → HasRun old d → ⊥) → Adds o old new traces
+    → StandsFor o (λ e. Somewhere (λ trace. Shows o trace e) traces) (λ digest. Somewhere (Counts digest) traces) new
+stands_added o old new traces own no_event no_run adds = record {
+  object = adds.object ∙ own;
+  events = λ e. of_nothing (no_event e) (adds.events e);
+  runs = λ d. of_nothing (no_run d) (adds.runs d);
 }
 
 -- the report is made of the events and of the count of runs
@@ -107,6 +197,39 @@ report_made level o c count events names text all counted are told = record {
   told = told ∙ ap (λ (n : ℕ). report_text level o.obligations n events names) counted.long ∙ ap (λ (ns : List (List ℕ)). report_text level o.obligations (length counted.digests) events ns) are;
 }
 
+-- ---- refusals
+
 -- a trace that fails a check beside the object
-pub bad_fit : (number : ℕ) (o : Object) (bytes : List ℕ) (t : TraceFile) (status : Status) → trace_of bytes ≡ Ok t → IsBadFit number o t status → RefusesTrace number o bytes status
+pub bad_fit : (number : ℕ) (o : Object) (bytes : List ℕ) (t : TraceFile) (status : Status) → trace_of bytes ≡ Ok t → IsBadFit number o t status
+    → RefusesRunTrace number o bytes status
 bad_fit number o bytes t status read bad = inr (inl (bad.0, (t, read, bad.1), bad.2))
+
+-- a consolidated file that was not read
+pub bad_list : (number : ℕ) (o : Object) (bytes : List ℕ) (failure : Failure ConsFault) (status : Status) → IsRefused o bytes failure
+    → status ≡ consolidated_status number failure → UnlessMemory (RefusesConsolidated number o bytes) status
+bad_list number o bytes (Fault why) status refused is = inr (why, refused, is)
+bad_list number o bytes failures.WantOfMemory status refused is = inl is
+
+pub consolidated_refused : (number : ℕ) (o : Object) (bytes : List ℕ) (status : Status) → is_consolidated bytes ≡ true
+    → UnlessMemory (RefusesConsolidated number o bytes) status → UnlessMemory (RefusesTrace number o bytes) status
+consolidated_refused number o bytes status kind (inl memory) = inl memory
+consolidated_refused number o bytes status kind (inr refused) = inr (as_consolidated bytes kind refused)
+
+pub trace_refused : (number : ℕ) (o : Object) (bytes : List ℕ) (status : Status) → is_consolidated bytes ≡ false
+    → UnlessMemory (RefusesRunTrace number o bytes) status → UnlessMemory (RefusesTrace number o bytes) status
+trace_refused number o bytes status kind (inl memory) = inl memory
+trace_refused number o bytes status kind (inr refused) = inr (as_trace bytes kind refused)
+
+-- a refusal is of the trace with its number, for some reason
+pub is_refusal : (number : ℕ) (o : Object) (bytes : List ℕ) (status : Status) → RefusesTrace number o bytes status
+    → (why : TraceWhy) × (status ≡ TraceRefused number why)
+is_refusal number o bytes status refused = by_kind (is_consolidated bytes) refl
+  where
+    of_run : RefusesRunTrace number o bytes status → (why : TraceWhy) × (status ≡ TraceRefused number why)
+    of_run (inl r) = (File r.0, r.2)
+    of_run (inr (inl r)) = (Fit r.0, r.2)
+    of_run (inr (inr r)) = (Broken r.0, r.2)
+
+    by_kind : (b : Bool) → is_consolidated bytes ≡ b → (why : TraceWhy) × (status ≡ TraceRefused number why)
+    by_kind true kind = let r = refused.consolidated kind in (Consolidated r.0, r.2)
+    by_kind false kind = of_run (refused.trace kind)

@@ -1,5 +1,5 @@
 -- What a report asks of the decisions of an object that was checked, and of the events of its traces.
-use Rattle.std.proofs.Common.{◌≡◌, inl, inr, ⊎_elim, ℕ, zero, suc, ◌<◌, Bool, true, false, cond, ◌==◌, List, [], ◌∷◌, length, Option, Some, None, refl, sym, ap, subst, ◌∙◌, slice_get, eqb-true}
+use Rattle.std.proofs.Common.{◌≡◌, inl, inr, ℕ, zero, suc, ◌<◌, Bool, true, false, cond, ◌==◌, List, [], ◌∷◌, length, Option, Some, None, refl, sym, ap, subst, ◌∙◌, slice_get, eqb-true}
 use Rattle.std.proofs.lemmas.Bool.{and_parts, ltb-true}
 use Rattle.std.specs.List.{list_all, filter_map, cons_option, AllByRecursion}
 use Rattle.annotated_report.specs.Caller.{AreEvaluated, AreOfStatements}
@@ -8,23 +8,18 @@ use Rattle.cov_base.specs.declared.event.Event.{Event}
 use Rattle.cov_base.specs.declared.event.Event.TheVariants.{Start, Done}
 use Rattle.cov_base.specs.declared.event.Vector.{Vector}
 use Rattle.cov_base.specs.declared.obligations.DecEntry.{DecEntry}
-use Rattle.cov_base.specs.declared.position.DecId.{DecId}
-use Rattle.cov_base.specs.declared.position.InstId.{InstId}
+use Rattle.coverage_set.specs.Consolidated.{IsPossibleEvent}
 use Rattle.coverage_set.specs.Covered.{Covered, Has}
 use Rattle.decision_map.proofs.Needed.{graph_of_spelled}
 use Rattle.decision_map.specs.Decisions.{graph_at}
-use Rattle.decision_meaning.specs.Graph.{Edges}
+use Rattle.cov_base.specs.Graph.{Edges}
 use Rattle.cov_base.specs.Lists.{Somewhere, Everywhere}
-use Rattle.decision_meaning.specs.Path.{IsPathVector}
-use Rattle.commands.specs.Content.{Shows}
-use Rattle.commands.specs.Covering.{Adds, HasPaths}
-use Rattle.object_facts.specs.Object.{facts_of}
+use Rattle.cov_base.specs.Path.{IsPathVector}
+use Rattle.commands.specs.Covering.{HasPaths}
 use Rattle.object_format.specs.Checked.{IsSound}
 use Rattle.object_format.specs.declared.object.Object.{Object}
 use Rattle.object_format.specs.Decisions.{AreExpression}
 use Rattle.object_format.specs.Fields.{is_decision, passes_field}
-use Rattle.transcript.proofs.Vectors.{said_path}
-use Rattle.vector_rebuild.specs.Entries.{trace_in}
 
 -- ---- what holds of all holds of the one in a place
 
@@ -59,16 +54,10 @@ statements_known o sound = λ d entry there.
 
 -- ---- vectors
 
-shown_path : (o : Object) (traces : List (List ℕ)) (d : DecId) (i : InstId) (vector : Vector) → Somewhere (λ trace. Shows o trace (Done d i vector)) traces
-    → IsPathVector (graph_at o d.0) vector
-shown_path o [] d i vector shown = absurd shown
-shown_path o (trace ∷ traces) d i vector shown =
-    ⊎_elim (λ here. said_path (facts_of o) (trace_in here.0) d i vector here.2) (λ there. shown_path o traces d i vector there) shown
-
--- a coverage that began without events has vectors of paths alone
-pub added_paths : (o : Object) (old new : Covered) (traces : List (List ℕ)) → ((e : Event) → Has old e → ⊥) → Adds o old new traces → HasPaths o new
-added_paths o old new traces none adds = λ d i vector has.
-    ⊎_elim (λ before. absurd (none (Done d i vector) before)) (λ shown. shown_path o traces d i vector shown) ((adds.events (Done d i vector)).0 has)
+-- a coverage of an object whose runs can have its events has vectors of paths alone
+pub possible_paths : (o : Object) (c : Covered) → c.object ≡ o → ((e : Event) → Has c e → IsPossibleEvent c.object e) → HasPaths o c
+possible_paths o c own possible = λ d i vector has.
+    subst (λ (x : Object). IsPathVector (graph_at x d.0) vector) own (possible (Done d i vector) has).path
 
 -- the vectors that events give a decision are so, where each of them that an event gives is
 all_given : (P : Vector → Type 0) (d : ℕ) (events : List Event) → ((e : Event) (v : Vector) → Somewhere (λ x. x ≡ e) events → vector_in d e ≡ Some v → P v)

@@ -1,5 +1,5 @@
 -- What coverage prints of a program's own executions.
-use Rattle.std.proofs.Common.{◌≡◌, ◌↔◌, inl, inr, ⊎_elim, ℕ, List, [], ◌∷◌, length, map, Option, refl, sym, ap, subst, ◌∙◌}
+use Rattle.std.proofs.Common.{◌≡◌, ◌↔◌, inl, inr, ⊎_elim, ℕ, List, [], ◌∷◌, ◌++◌, length, map, Option, refl, sym, ap, subst, ◌∙◌}
 use Rattle.ada_meaning.specs.Execution.{Execution, Ends}
 use Rattle.ada_meaning.specs.Obligations.{obligations_of}
 use Rattle.ada_meaning.specs.Program.{Program}
@@ -18,7 +18,7 @@ use Rattle.commands.specs.Content.{IsFileOf}
 use Rattle.commands.specs.declared.status.Status.{Status}
 use Rattle.commands.specs.Headline.{Occurs, CoverageTellsTheSource}
 use Rattle.commands.specs.Outcome.{Call, Answers}
-use Rattle.commands.specs.RunsCovered.{ARun, transcript_of, AreTracesOf, RunsAreCovered}
+use Rattle.commands.specs.RunsCovered.{ARun, transcript_of, IsWrittenOf, AreTracesOf, RunsAreCovered}
 use Rattle.commands.proofs.RunsLaw.{runs_law}
 use Rattle.kernel_code.specs.Whole.{IsInput}
 use Rattle.object_facts.proofs.Fair.{fair}
@@ -35,11 +35,19 @@ use Rattle.transcript.specs.Reading.{Tells, IsDisciplined}
 abbrev Ended_all : Object → List ARun → Type 0
 Ended_all o runs = Everywhere (λ r. (object_run o r.budget r.input).outcome ≡ Ended r.ending) runs
 
+both_ended : (o : Object) (xs ys : List ARun) → Ended_all o xs → Ended_all o ys → Ended_all o (xs ++ ys)
+both_ended o [] ys first second = second
+both_ended o (x ∷ xs) ys first second = (first.0, both_ended o xs ys first.1 second)
+
+file_ended : (o : Object) (runs : List ARun) (bytes : List ℕ) → IsWrittenOf o runs bytes → Ended_all o runs
+file_ended o runs bytes (inl (r, only, trace)) = subst (λ (rs : List ARun). Ended_all o rs) (sym only) (trace.ended, tt)
+file_ended o runs bytes (inr file) = file.ended
+
 pub traced_ended : (held : Held) (o : Object) (names : List (List ℕ)) (runs : List ARun) → AreTracesOf held o names runs → Ended_all o runs
-traced_ended held o [] [] are = tt
-traced_ended held o [] (r ∷ rs) are = absurd are
-traced_ended held o (name ∷ names) [] are = absurd are
-traced_ended held o (name ∷ names) (r ∷ rs) are = (are.2.ended, traced_ended held o names rs are.3)
+traced_ended held o [] runs are = subst (λ (rs : List ARun). Ended_all o rs) (sym are) tt
+traced_ended held o (name ∷ names) runs are =
+    subst (λ (rs : List ARun). Ended_all o rs) (sym are.2)
+    (both_ended o are.0 are.1 (file_ended o are.0 are.3 are.5) (traced_ended held o names are.1 are.6))
 
 -- the run of a program's object shows the execution
 shown : (p : Program) (o : Object) → Behaves p o → (r : ARun) → IsInput r.input → (object_run o r.budget r.input).outcome ≡ Ended r.ending

@@ -9,4 +9,7 @@ pub mod RunsLaw
 pub mod HeadlineLaws
 pub mod PairLaws
 pub mod InputLaws
+pub mod ConsolidateLaws
+pub mod FileLaws
+pub mod GroupingLaws
 pub mod CompleteLaws

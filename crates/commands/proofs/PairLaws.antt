@@ -1,7 +1,6 @@
 -- The pairs that coverage shows are the least of those that occurred.
 use Rattle.std.proofs.Common.{◌≡◌, ◌↔◌, ℕ, List, [], length, map, Option, None, Some, sym, subst, ◌∙◌}
 use Rattle.ada_meaning.specs.Obligations.{obligations_of}
-use Rattle.ada_meaning.specs.Program.{Program}
 use Rattle.annotated_report.proofs.PairedEvents.{ends_in_pairs}
 use Rattle.annotated_report.specs.Paired.{EndsInPairs}
 use Rattle.annotated_report.specs.Report.{report_text}
@@ -14,7 +13,6 @@ use Rattle.commands.specs.declared.status.Status.{Status}
 use Rattle.commands.specs.declared.status.Status.TheVariants.{Done}
 use Rattle.commands.specs.Headline.{Occurs}
 use Rattle.commands.specs.Outcome.{Call, Delivered, Because, Answers}
-use Rattle.commands.specs.RunsCovered.{ARun}
 use Rattle.commands.specs.ShownPairs.{PutsLeastPairs, LeastPairsAreShown}
 use Rattle.commands.proofs.HeadlineLaws.{all_fair, is_file, text_kept, through, traced_ended, tells_somewhere}
 use Rattle.commands.proofs.RunsLaw.{report_done}

@@ -1,5 +1,5 @@
 -- What coverage prints of an object's own runs.
-use Rattle.std.proofs.Common.{◌≡◌, ◌≢◌, ◌↔◌, inl, inr, ⊎_elim, ℕ, suc, ◌+◌, ◌<◌, ◌≤◌, arith, List, [], ◌∷◌, length, map, slice_index_or, AllPairs, IfSome, Option, Some, Result, Ok, refl, sym, ap, subst, ◌∙◌}
+use Rattle.std.proofs.Common.{◌≡◌, ◌≢◌, ◌↔◌, inl, inr, ⊎_elim, ℕ, suc, ◌+◌, ◌<◌, ◌≤◌, arith, false, List, [], ◌∷◌, ◌++◌, length, map, slice_index_or, AllPairs, IfSome, Option, Some, Result, Ok, refl, sym, ap, subst, ◌∙◌}
 use Rattle.std.specs.FinMap as finmap
 use Rattle.annotated_report.specs.Report.{report_text}
 use Rattle.annotated_report.proofs.Alike.{same_text}
@@ -10,19 +10,25 @@ use Rattle.cov_base.specs.declared.level.Level.{Level}
 use Rattle.cov_io.specs.Outside.{Held, WhereTold, Appends}
 use Rattle.coverage_set.proofs.RunLaw.{run_law}
 use Rattle.cov_base.specs.Lists.{Everywhere, Somewhere}
-use Rattle.commands.specs.Content.{IsFileOf, Shows, ClosesWith, Reports, trace_file}
+use Rattle.commands.specs.Content.{IsFileOf, is_consolidated, Shows, Counts, Reports, trace_file}
 use Rattle.commands.specs.declared.status.Status.{Status}
 use Rattle.commands.specs.declared.status.Status.TheVariants.{Done}
 use Rattle.commands.specs.Outcome.{Call, Delivered, Because, Answers}
-use Rattle.commands.specs.RunsCovered.{ARun, transcript_of, IsTraceOf, AreTracesOf, digest_of_run, RunsAreCovered}
+use Rattle.commands.specs.RunsCovered.{ARun, transcript_of, IsTraceOf, IsFileOfRuns, IsWrittenOf, AreTracesOf, digest_of_run, RunsAreCovered}
 use Rattle.commands.specs.Verdict.{Output, AfterRead, AfterObject, AfterTrace, AfterTraces, Covers, ComesTo}
+use Rattle.commands.proofs.CoveringLaws.{as_trace}
+use Rattle.commands.proofs.FileLaws.{file_shows, file_lists}
 use Rattle.object_facts.specs.Object.{facts_of}
 use Rattle.object_format.proofs.FileLaws.{one_object}
 use Rattle.object_format.specs.Checked.{IsSound}
 use Rattle.object_format.specs.declared.object.Object.{Object}
 use Rattle.trace_format.specs.Checks.{trace_of}
+use Rattle.trace_format.specs.declared.trace.Trace.{Trace}
+use Rattle.trace_format.specs.Formats.{trace_spelling}
 use Rattle.trace_format.specs.declared.fault.TraceFault.{TraceFault}
 use Rattle.trace_format.specs.Trace.{TraceFile}
+use Rattle.trace_record.specs.Written.{traced}
+use Rattle.transcript.proofs.Lists.{in_append, in_left, in_right}
 use Rattle.transcript.specs.Reading.{Tells, IsDisciplined}
 use Rattle.transcript.specs.Trace.{Says}
 use Rattle.vector_rebuild.specs.Entries.{trace_in}
@@ -83,76 +89,133 @@ no_more (x ∷ xs) ys once within =
     let fewer = no_more xs w.rest (later_differ x xs once) (λ d there. w.others d (first_differs x d xs once there) (within d (inr there))) in
     omega (arith, w.shorter, fewer)
 
-same_count : {X : Type 0} (xs ys : List X) → AllPairs (λ x y. x ≢ y) xs → AllPairs (λ x y. x ≢ y) ys → ((d : X) → Somewhere (λ x. x ≡ d) xs ↔ Somewhere (λ y. y ≡ d) ys) → length xs ≡ length ys
+pub same_count : {X : Type 0} (xs ys : List X) → AllPairs (λ x y. x ≢ y) xs → AllPairs (λ x y. x ≢ y) ys → ((d : X) → Somewhere (λ x. x ≡ d) xs ↔ Somewhere (λ y. y ≡ d) ys) → length xs ≡ length ys
 same_count xs ys once also same = omega (arith, no_more xs ys once (λ d there. (same d).0 there), no_more ys xs also (λ d there. (same d).1 there))
 
 -- ---- traces and their runs
 
-through : {A B C : Type 0} → A ↔ B → B ↔ C → A ↔ C
+pub through : {A B C : Type 0} → A ↔ B → B ↔ C → A ↔ C
 through first second = (λ a. second.0 (first.0 a), λ c. first.1 (second.1 c))
 
-back : {A B : Type 0} → A ↔ B → B ↔ A
+pub back : {A B : Type 0} → A ↔ B → B ↔ A
 back both = (both.1, both.0)
 
--- the bytes are the file of the trace of this run of the object, which ended, with a disciplined transcript
-record IsTold (o : Object) (r : ARun) (bytes : List ℕ) : Type 0 where
-  trace : IsTraceOf o r bytes
-  disciplined : IsDisciplined (facts_of o) (transcript_of o r)
+-- the bytes are the trace or the consolidated file of these runs of the object, which have disciplined transcripts
+pub record IsTold (o : Object) (runs : List ARun) (bytes : List ℕ) : Type 0 where
+  pub written : IsWrittenOf o runs bytes
+  pub disciplined : Everywhere (λ r. IsDisciplined (facts_of o) (transcript_of o r)) runs
 
--- these are the traces of these runs
-abbrev AreOf : Object → List ARun → List (List ℕ) → Type 0
-AreOf o [] [] = Unit {0}
-AreOf o [] (t ∷ ts) = ⊥
-AreOf o (r ∷ rs) [] = ⊥
-AreOf o (r ∷ rs) (t ∷ ts) = IsTold o r t × AreOf o rs ts
+-- these are the files of these runs, which are parted among them in order
+abbrev pub AreOf : Object → List ARun → (files : List (List ℕ)) → Type 0
+AreOf o runs [] = runs ≡ []
+AreOf o runs (t ∷ ts) = (own : List ARun) × (others : List ARun) × (runs ≡ own ++ others) × IsTold o own t × AreOf o others ts
 
--- one of the traces is so just where one of the runs is
-alike : (o : Object) (P : List ℕ → Type 0) (Q : ARun → Type 0) → ((r : ARun) (t : List ℕ) → IsTold o r t → P t ↔ Q r)
-    → (rs : List ARun) (ts : List (List ℕ)) → AreOf o rs ts → Somewhere P ts ↔ Somewhere Q rs
-alike o P Q each [] [] are = (λ none. none, λ none. none)
-alike o P Q each [] (t ∷ ts) are = absurd are
-alike o P Q each (r ∷ rs) [] are = absurd are
-alike o P Q each (r ∷ rs) (t ∷ ts) are =
-    let here = each r t are.0 in
-    let later = alike o P Q each rs ts are.1 in (
-      λ s. ⊎_elim (λ p. inl (here.0 p)) (λ q. inr (later.0 q)) s,
-      λ s. ⊎_elim (λ p. inl (here.1 p)) (λ q. inr (later.1 q)) s,
+-- what is so of all is so of both parts
+pub parted : {X : Type 0} (P : X → Type 0) (xs ys : List X) → Everywhere P (xs ++ ys) → Everywhere P xs × Everywhere P ys
+parted P [] ys all = (tt, all)
+parted P (x ∷ xs) ys all = let rest = parted P xs ys all.1 in ((all.0, rest.0), rest.1)
+
+-- one of the files is so just where one of the runs is
+pub alike : (o : Object) (P : List ℕ → Type 0) (Q : ARun → Type 0) → ((own : List ARun) (t : List ℕ) → IsTold o own t → P t ↔ Somewhere Q own)
+    → (runs : List ARun) (ts : List (List ℕ)) → AreOf o runs ts → Somewhere P ts ↔ Somewhere Q runs
+alike o P Q each runs [] are = (λ none. absurd none, λ some. subst (λ (rs : List ARun). Somewhere Q rs) are some)
+alike o P Q each runs (t ∷ ts) are =
+    let here = each are.0 t are.3 in
+    let later = alike o P Q each are.1 ts are.4 in (
+      λ s. subst (λ (rs : List ARun). Somewhere Q rs) (sym are.2)
+          (⊎_elim (λ p. in_left Q are.0 are.1 (here.0 p)) (λ q. in_right Q are.0 are.1 (later.0 q)) s),
+      λ s. ⊎_elim (λ p. inl (here.1 p)) (λ q. inr (later.1 q))
+          (in_append Q are.0 are.1 (subst (λ (rs : List ARun). Somewhere Q rs) are.2 s)),
     )
 
--- what the trace of a run shows is what the run tells
-shows_tells : (o : Object) → IsSound o → (e : Event) (r : ARun) (t : List ℕ) → IsTold o r t → Shows o t e ↔ Tells (facts_of o) (transcript_of o r) e
-shows_tells o sound e r t is =
-    let law = run_law o r.budget r.input r.ending (digest_of_run o r) e sound is.trace.ended is.disciplined in (
-      λ s. law.0 (subst (λ (u : TraceFile). Says (facts_of o) (trace_in u) e) (same_read t s.0 (trace_file o (transcript_of o r) r.ending) s.1 is.trace.reads_back) s.2),
-      λ tells. (trace_file o (transcript_of o r) r.ending, is.trace.reads_back, law.1 tells),
-    )
+-- ---- traces
 
-closes_digest : (o : Object) (d : List ℕ) (r : ARun) (t : List ℕ) → IsTold o r t → ClosesWith d t ↔ (digest_of_run o r ≡ d)
-closes_digest o d r t is = (
-  λ s. ap (λ (u : TraceFile). u.closing) (sym (same_read t s.0 (trace_file o (transcript_of o r) r.ending) s.1 is.trace.reads_back)) ∙ s.2,
-  λ e. (trace_file o (transcript_of o r) r.ending, is.trace.reads_back, e),
+-- the bytes of a trace don't begin as a consolidated file does
+pub trace_kind : (bytes : List ℕ) (t : Trace) → bytes ≡ trace_spelling t → is_consolidated bytes ≡ false
+trace_kind bytes t is = ap is_consolidated is ∙ other
+  where
+    other : is_consolidated (trace_spelling t) ≡ false
+    other = refl
+
+-- what is so of the only run
+of_only : {X : Type 0} (Q : X → Type 0) (xs : List X) (x : X) → xs ≡ x ∷ [] → Q x ↔ Somewhere Q xs
+of_only {X = X} Q xs x is = (
+  λ q. subst (λ (ys : List X). Somewhere Q ys) (sym is) (inl q),
+  λ s. ⊎_elim (λ q. q) (λ none. absurd none) (subst (λ (ys : List X). Somewhere Q ys) is s),
 )
 
--- one trace was read, and those behind it
-one_read : (held : Held) (o : Object) (number : ℕ) (names : List (List ℕ)) (rs : List ARun) (Then : List (List ℕ) → Result Output Status → Type 0) (r : ARun) (bytes : List ℕ) (output : Output)
-    → IsTold o r bytes → AfterTrace number o bytes (AfterTraces held o (number + 1) names (λ traces. Then (bytes ∷ traces))) (Ok output)
-    → (AfterTraces held o (number + 1) names (λ traces. Then (bytes ∷ traces)) (Ok output) → (traces : List (List ℕ)) × AreOf o rs traces × Then (bytes ∷ traces) (Ok output))
-    → (traces : List (List ℕ)) × AreOf o (r ∷ rs) traces × Then traces (Ok output)
-one_read held o number names rs Then r bytes output is (inl refused) later = absurd refused
-one_read held o number names rs Then r bytes output is (inr fits) later =
-    let rest = later fits.1 in
-    (bytes ∷ rest.0, (is, rest.1), rest.2)
+-- what the trace of a run shows is what the run tells
+run_tells : (o : Object) → IsSound o → (e : Event) (r : ARun) (t : List ℕ) → IsTraceOf o r t → IsDisciplined (facts_of o) (transcript_of o r)
+    → Shows o t e ↔ Tells (facts_of o) (transcript_of o r) e
+run_tells o sound e r t is disciplined =
+    let law = run_law o r.budget r.input r.ending (digest_of_run o r) e sound is.ended disciplined in
+    let kind = trace_kind t (traced o (transcript_of o r) r.ending) is.traced in (
+      λ s. let shown = s.trace kind in
+          law.0 (subst (λ (u : TraceFile). Says (facts_of o) (trace_in u) e) (same_read t shown.0 (trace_file o (transcript_of o r) r.ending) shown.1 is.reads_back) shown.2),
+      λ tells. as_trace t kind (trace_file o (transcript_of o r) r.ending, is.reads_back, law.1 tells),
+    )
 
--- the traces that were read are those of the runs
-read_are : (held : Held) (o : Object) (number : ℕ) (names : List (List ℕ)) (runs : List ARun) (Then : List (List ℕ) → Result Output Status → Type 0) (output : Output)
+run_counts : (o : Object) (d : List ℕ) (r : ARun) (t : List ℕ) → IsTraceOf o r t → Counts d t ↔ (digest_of_run o r ≡ d)
+run_counts o d r t is =
+    let kind = trace_kind t (traced o (transcript_of o r) r.ending) is.traced in (
+      λ s. let closed = s.trace kind in
+          ap (λ (u : TraceFile). u.closing) (sym (same_read t closed.0 (trace_file o (transcript_of o r) r.ending) closed.1 is.reads_back)) ∙ closed.2,
+      λ e. as_trace t kind (trace_file o (transcript_of o r) r.ending, is.reads_back, e),
+    )
+
+-- ---- consolidated files
+
+-- the file of runs shows what they tell
+file_tells : (o : Object) (e : Event) (runs : List ARun) (t : List ℕ) → IsFileOfRuns o runs t
+    → Shows o t e ↔ Somewhere (λ r. Tells (facts_of o) (transcript_of o r) e) runs
+file_tells o e runs t is = through (file_shows o is.covered t e is.file) (is.stands.events e)
+
+file_counts : (o : Object) (d : List ℕ) (runs : List ARun) (t : List ℕ) → IsFileOfRuns o runs t → Counts d t ↔ Somewhere (λ r. digest_of_run o r ≡ d) runs
+file_counts o d runs t is = through (file_lists is.covered t d is.file) (is.stands.runs d)
+
+-- ---- either
+
+-- what the file of runs shows is what they tell
+pub shows_tells : (o : Object) → IsSound o → (e : Event) (runs : List ARun) (t : List ℕ) → IsTold o runs t
+    → Shows o t e ↔ Somewhere (λ r. Tells (facts_of o) (transcript_of o r) e) runs
+shows_tells o sound e runs t is = by_kind is.written
+  where
+    by_kind : IsWrittenOf o runs t → Shows o t e ↔ Somewhere (λ r. Tells (facts_of o) (transcript_of o r) e) runs
+    by_kind (inl (r, only, trace)) =
+        let one = subst (λ (rs : List ARun). Everywhere (λ r. IsDisciplined (facts_of o) (transcript_of o r)) rs) only is.disciplined in
+        through (run_tells o sound e r t trace one.0) (of_only (λ r. Tells (facts_of o) (transcript_of o r) e) runs r only)
+    by_kind (inr file) = file_tells o e runs t file
+
+pub counts_digests : (o : Object) (d : List ℕ) (runs : List ARun) (t : List ℕ) → IsTold o runs t → Counts d t ↔ Somewhere (λ r. digest_of_run o r ≡ d) runs
+counts_digests o d runs t is = by_kind is.written
+  where
+    by_kind : IsWrittenOf o runs t → Counts d t ↔ Somewhere (λ r. digest_of_run o r ≡ d) runs
+    by_kind (inl (r, only, trace)) = through (run_counts o d r t trace) (of_only (λ r. digest_of_run o r ≡ d) runs r only)
+    by_kind (inr file) = file_counts o d runs t file
+
+-- ---- what was read
+
+-- one file was read, and those behind it
+one_read : (held : Held) (o : Object) (number : ℕ) (names : List (List ℕ)) (own others : List ARun) (Then : List (List ℕ) → Result Output Status → Type 0) (bytes : List ℕ) (output : Output)
+    → IsTold o own bytes → AfterTrace number o bytes (AfterTraces held o (number + 1) names (λ traces. Then (bytes ∷ traces))) (Ok output)
+    → (AfterTraces held o (number + 1) names (λ traces. Then (bytes ∷ traces)) (Ok output) → (traces : List (List ℕ)) × AreOf o others traces × Then (bytes ∷ traces) (Ok output))
+    → (traces : List (List ℕ)) × AreOf o (own ++ others) traces × Then traces (Ok output)
+one_read held o number names own others Then bytes output is (inl refused) later = absurd refused
+one_read held o number names own others Then bytes output is (inr fits) later =
+    let rest = later fits.1 in
+    (bytes ∷ rest.0, (own, others, refl, is, rest.1), rest.2)
+
+-- the files that were read are those of the runs
+pub read_are : (held : Held) (o : Object) (number : ℕ) (names : List (List ℕ)) (runs : List ARun) (Then : List (List ℕ) → Result Output Status → Type 0) (output : Output)
     → AreTracesOf held o names runs → Everywhere (λ r. IsDisciplined (facts_of o) (transcript_of o r)) runs → AfterTraces held o number names Then (Ok output)
     → (traces : List (List ℕ)) × AreOf o runs traces × Then traces (Ok output)
-read_are held o number [] [] Then output are fair says = ([], tt, says)
-read_are held o number [] (r ∷ rs) Then output are fair says = absurd are
-read_are held o number (name ∷ names) [] Then output are fair says = absurd are
-read_are held o number (name ∷ names) (r ∷ rs) Then output are fair says =
-    one_read held o number names rs Then r are.0 output (record { trace = are.2; disciplined = fair.0 }) (rw are.1 at says)
-    (λ rest. read_are held o (number + 1) names rs (λ traces. Then (are.0 ∷ traces)) output are.3 fair.1 rest)
+read_are held o number [] runs Then output are fair says = ([], are, says)
+read_are held o number (name ∷ names) runs Then output are fair says =
+    let parts = parted (λ r. IsDisciplined (facts_of o) (transcript_of o r)) are.0 are.1
+    (subst (λ (rs : List ARun). Everywhere (λ r. IsDisciplined (facts_of o) (transcript_of o r)) rs) are.2 fair) in
+    let read = one_read held o number names are.0 are.1 Then are.3 output (record { written = are.5; disciplined = parts.0 }) (rw are.4 at says)
+    (λ rest. read_are held o (number + 1) names are.1 (λ traces. Then (are.3 ∷ traces)) output are.6 parts.1 rest) in
+    (read.0, subst (λ (rs : List ARun). AreOf o rs read.0) (sym are.2) read.1, read.2)
 
 -- The text is the report of an object's runs: of the events that their transcripts tell, and of the digests that close
 -- their traces.
@@ -172,7 +235,7 @@ report_of_runs level annotation o sound runs traces text are reports = record {
   digests = reports.report.digests;
   all_events = λ e.
       through (reports.report.all_events e) (alike o (λ t. Shows o t e) (λ r. Tells (facts_of o) (transcript_of o r) e) (shows_tells o sound e) runs traces are);
-  all_digests = λ d. through (reports.report.all_digests d) (alike o (ClosesWith d) (λ r. digest_of_run o r ≡ d) (closes_digest o d) runs traces are);
+  all_digests = λ d. through (reports.report.all_digests d) (alike o (Counts d) (λ r. digest_of_run o r ≡ d) (counts_digests o d) runs traces are);
   each_once = reports.report.each_once;
   told = reports.report.told;
 }
@@ -190,13 +253,12 @@ runs_told level o runs text report events of_events digests of_digests once =
     ∙ same_text level o.obligations (length report.digests) report.events events (map (λ file. file.name) o.files) (λ e there. (shown e).0 there, λ e there. (shown e).1 there)
     ∙ ap (λ (n : ℕ). report_text level o.obligations n events (map (λ file. file.name) o.files)) (same_count report.digests digests report.each_once once counted)
 
--- what coverage came to, of an object
-came_to : (held : Held) (level : Level) (annotation : Annotation) (o : Object) (names : List (List ℕ)) (output : Output) (bytes : List ℕ) → IsFileOf o bytes
-    → AfterObject bytes (λ o. AfterTraces held o 1 names (Covers level annotation o)) (Ok output)
-    → AfterTraces held o 1 names (Covers level annotation o) (Ok output)
-came_to held level annotation o names output bytes is (inl refused) = absurd refused
-came_to held level annotation o names output bytes is (inr other) =
-    subst (λ (x : Object). AfterTraces held x 1 names (Covers level annotation x) (Ok output))
+-- what a command came to, of an object
+pub came_to : (Next : Object → Result Output Status → Type 0) (o : Object) (output : Output) (bytes : List ℕ) → IsFileOf o bytes
+    → AfterObject bytes Next (Ok output) → Next o (Ok output)
+came_to Next o output bytes is (inl refused) = absurd refused
+came_to Next o output bytes is (inr other) =
+    subst (λ (x : Object). Next x (Ok output))
     (one_object other.0 o other.1.checked.closed is.checked.closed (sym other.1.spelled ∙ is.spelled)) other.2
 
 -- what a call that is done put is the report of the runs
@@ -207,7 +269,7 @@ pub report_done : (held : Held) (level : Level) (annotation : Annotation) (objec
 report_done held level annotation object names call holds done bytes o there is runs are fair =
     let comes : AfterRead held 0 object (λ bytes. AfterObject bytes (λ o. AfterTraces held o 1 names (Covers level annotation o))) (Ok done.output) =
     subst (λ (h : Option Held). IfSome h (λ told. ComesTo told (Coverage level annotation object names) (Ok done.output))) holds done.comes in
-    let after = came_to held level annotation o names done.output bytes is (rw there at comes) in
+    let after = came_to (λ o. AfterTraces held o 1 names (Covers level annotation o)) o done.output bytes is (rw there at comes) in
     let read = read_are held o 1 names runs (Covers level annotation o) done.output are fair after in
     report_of_runs level annotation o is.checked.sound runs read.0 done.output.text read.1 read.2.1
 

@@ -3,24 +3,23 @@ use Rattle.std.proofs.Common.{◌≡◌, ◌⊎◌, ℕ, suc, ◌+◌, ◌<◌, 
 use Rattle.std.specs.FinMap as finmap
 use Rattle.std.specs.List.{AllByRecursion}
 use Rattle.std.proofs.lemmas.List.{length-append, length-map, length-take-le, take-append-drop, drop_more, map-append, map_more}
-use Rattle.command_words.specs.Task.{Task, Run, Coverage}
+use Rattle.command_words.specs.Task.{Task, Run}
 use Rattle.cov_base.specs.declared.event.Event.{Event}
-use Rattle.cov_base.specs.declared.level.Annotation.{Annotation}
-use Rattle.cov_base.specs.declared.level.Level.{Level}
 use Rattle.cov_io.specs.Outside.{Held, Holds, IsAbsent, Rose}
 use Rattle.coverage_set.specs.Covered.{Covered, Has, HasRun}
 use Rattle.commands.specs.Content.{IsFileOf, IsTraceFor, RefusesObject, IsInputOf, RefusesInput, RefusesTrace, RunsTo, StopsRun}
+use Rattle.commands.specs.declared.ready.coverage.Product.{Product}
+use Rattle.commands.specs.declared.ready.coverage.Product.TheVariants as products
 use Rattle.commands.specs.declared.status.FileRef.TheVariants.{Word}
 use Rattle.commands.specs.declared.status.Status.{Status}
-use Rattle.commands.specs.declared.status.Status.TheVariants.{ObjectRefused, TraceRefused, InputRefused, OverBudget, Trap, ReadFault}
-use Rattle.commands.specs.declared.status.TraceWhy.TheVariants.{File, Fit, Broken}
-use Rattle.commands.specs.Outcome.{Prepares, Stops, CannotGet}
+use Rattle.commands.specs.declared.status.Status.TheVariants.{ObjectRefused, TraceRefused, InputRefused, OverBudget, Trap, ReadFault, WantOfMemory}
+use Rattle.commands.specs.Outcome.{IsNamed, Prepares, Stops, CannotGet}
 use Rattle.commands.specs.Prepared.{PreparesFrom, StopsOnInput}
 use Rattle.commands.specs.Reading.{IsUnread, IsNoTrace, UnlessMemory, AreRead, StopsAt, StopsAmong}
-use Rattle.commands.specs.Covering.{Adds, IsReportOf}
-use Rattle.commands.specs.Verdict.{NewFile, Output, AfterRead, AfterObject, AfterInput, AfterTrace, AfterTraces, RunsOn, Covers, ComesTo}
+use Rattle.commands.specs.Covering.{Adds, IsMadeOf, Yields, task_for}
+use Rattle.commands.specs.Verdict.{NewFile, Output, AfterRead, AfterObject, AfterInput, AfterTrace, AfterTraces, RunsOn, ComesTo}
 use Rattle.object_format.specs.declared.object.Object.{Object}
-use Rattle.commands.proofs.CoveringLaws.{reports_added, more_added}
+use Rattle.commands.proofs.CoveringLaws.{is_refusal, reports_added, stands_added, more_added}
 
 -- what holds whatever is held
 always : (held : Option Held) {P : Type 0} → P → IfSome held (λ told. P)
@@ -137,25 +136,46 @@ stops_among now o names i d held held' reads reads' reads'' status traces lt sam
       stops = subst (λ (k : ℕ). StopsAt k o name held reads reads'' status) long then_so;
     }
 
--- ---- coverage
+-- ---- coverage and consolidate
 
-pub coverage_no_object : (held : Option Held) (reads reads' : ℕ) (level : Level) (annotation : Annotation) (object bytes : List ℕ) (traces : List (List ℕ)) (status : Status)
+-- what follows of the object and the traces is what the task comes to
+comes_to : (held : Option Held) (product : Product) (object : List ℕ) (names : List (List ℕ)) (verdict : Result Output Status)
+    → IfSome held (λ told. AfterRead told 0 object (λ bytes. AfterObject bytes (λ o. AfterTraces told o 1 names (Yields product o))) verdict)
+    → IfSome held (λ told. ComesTo told (task_for product object names) verdict)
+comes_to held (products.Report level annotation) object names verdict says = says
+comes_to held (products.File name) object names verdict says = says
+
+-- one of its files can't be read
+cannot_get : (held : Option Held) (reads reads' : ℕ) (product : Product) (object : List ℕ) (names : List (List ℕ)) (place : ℕ)
+    → place < length (object ∷ names)
+    → Rose reads reads' ⊎ (IsAbsent held (unwrap_or (slice_get (object ∷ names) place) [])
+    × IsSomeAnd held (λ told. ComesTo told (task_for product object names) (Err (ReadFault (Word place)))))
+    → CannotGet (task_for product object names) (Word place) held reads reads'
+cannot_get held reads reads' (products.Report level annotation) object names place within cause = (within, cause)
+cannot_get held reads reads' (products.File name) object names place within cause = (within, cause)
+
+pub coverage_no_object : (held : Option Held) (reads reads' : ℕ) (product : Product) (object bytes : List ℕ) (traces : List (List ℕ)) (status : Status)
     → reads' ≡ reads → IfSome held (Holds object bytes) → UnlessMemory (RefusesObject bytes) status
-    → Stops (Coverage level annotation object traces) held reads reads' status
-coverage_no_object held reads reads' level annotation object bytes traces status same holds (inl memory) = rw memory tt
-coverage_no_object held reads reads' level annotation object bytes traces status same holds (inr r) =
-    rw r.2 (same, no_object held object bytes (λ told o. AfterTraces told o 1 traces (Covers level annotation o)) (ObjectRefused r.0) holds (r.0, r.1, refl))
+    → Stops (task_for product object traces) held reads reads' status
+coverage_no_object held reads reads' product object bytes traces status same holds (inl memory) = rw memory tt
+coverage_no_object held reads reads' product object bytes traces status same holds (inr r) =
+    rw r.2 (
+      same,
+      comes_to held product object traces (Err (ObjectRefused r.0))
+          (no_object held object bytes (λ told o. AfterTraces told o 1 traces (Yields product o)) (ObjectRefused r.0) holds (r.0, r.1, refl)),
+    )
 
 -- what follows from the trace at which reading stops, where the files tell
-told_stop : (held : Option Held) (level : Level) (annotation : Annotation) (object bytes : List ℕ) (o : Object) (earlier : List (List ℕ)) (name : List ℕ) (later traces : List (List ℕ)) (status : Status)
+told_stop : (held : Option Held) (product : Product) (object bytes : List ℕ) (o : Object) (earlier : List (List ℕ)) (name : List ℕ) (later traces : List (List ℕ)) (status : Status)
     → IfSome held (Holds object bytes) → IsFileOf o bytes → AreRead held o earlier traces
     → ((told : Held) → held ≡ Some told → (Next : List ℕ → Result Output Status → Type 0)
     → AfterRead told (length earlier + 1) name (λ trace. AfterTrace (length earlier + 1) o trace (Next trace)) (Err status))
-    → IfSome held (λ told. ComesTo told (Coverage level annotation object (earlier ++ (name ∷ later))) (Err status))
-told_stop None level annotation object bytes o earlier name later traces status holds is read says = tt
-told_stop (Some told) level annotation object bytes o earlier name later traces status holds is read says =
-    after_object (Some told) object bytes o (λ told o. AfterTraces told o 1 (earlier ++ (name ∷ later)) (Covers level annotation o)) (Err status) holds is
-    (reads_up_to told o 1 (length earlier + 1) earlier name later traces (Covers level annotation o) (Err status) refl read (says told refl))
+    → IfSome held (λ told. ComesTo told (task_for product object (earlier ++ (name ∷ later))) (Err status))
+told_stop None product object bytes o earlier name later traces status holds is read says = tt
+told_stop (Some told) product object bytes o earlier name later traces status holds is read says =
+    comes_to (Some told) product object (earlier ++ (name ∷ later)) (Err status)
+    (after_object (Some told) object bytes o (λ told o. AfterTraces told o 1 (earlier ++ (name ∷ later)) (Yields product o)) (Err status) holds is
+    (reads_up_to told o 1 (length earlier + 1) earlier name later traces (Yields product o) (Err status) refl read (says told refl)))
 
 -- a place among the names
 placed : (earlier later : List (List ℕ)) (object name : List ℕ) → length earlier + 1 < length (object ∷ (earlier ++ (name ∷ later)))
@@ -176,94 +196,110 @@ absent_at : (held : Option Held) (name : List ℕ) (told : Held) → held ≡ So
 absent_at held name told e absent = subst (λ (h : Option Held). IsAbsent h name) e absent
 
 -- one of the traces can't be read
-coverage_absent : (held : Option Held) (reads reads' : ℕ) (level : Level) (annotation : Annotation) (object bytes : List ℕ) (o : Object)
+coverage_absent : (held : Option Held) (reads reads' : ℕ) (product : Product) (object bytes : List ℕ) (o : Object)
     (earlier : List (List ℕ)) (name : List ℕ) (later traces : List (List ℕ))
     → IfSome held (Holds object bytes) → IsFileOf o bytes → AreRead held o earlier traces → Rose reads reads' ⊎ IsAbsent held name
-    → CannotGet (Coverage level annotation object (earlier ++ (name ∷ later))) (Word (length earlier + 1)) held reads reads'
-coverage_absent held reads reads' level annotation object bytes o earlier name later traces holds is read (inl rose) =
-    (placed earlier later object name, inl rose)
-coverage_absent None reads reads' level annotation object bytes o earlier name later traces holds is read (inr absent) = absurd absent
-coverage_absent (Some told) reads reads' level annotation object bytes o earlier name later traces holds is read (inr absent) = (
-  placed earlier later object name,
-  inr (
-    rw (name_there object earlier name later) absent,
-    told_stop (Some told) level annotation object bytes o earlier name later traces (ReadFault (Word (length earlier + 1))) holds is read
-        (λ held e Next. rw (absent_at (Some told) name held e absent) refl),
-  ),
-)
+    → CannotGet (task_for product object (earlier ++ (name ∷ later))) (Word (length earlier + 1)) held reads reads'
+coverage_absent held reads reads' product object bytes o earlier name later traces holds is read (inl rose) =
+    cannot_get held reads reads' product object (earlier ++ (name ∷ later)) (length earlier + 1) (placed earlier later object name) (inl rose)
+coverage_absent None reads reads' product object bytes o earlier name later traces holds is read (inr absent) = absurd absent
+coverage_absent (Some told) reads reads' product object bytes o earlier name later traces holds is read (inr absent) =
+    cannot_get (Some told) reads reads' product object (earlier ++ (name ∷ later)) (length earlier + 1) (placed earlier later object name)
+    (inr (
+      rw (name_there object earlier name later) absent,
+      told_stop (Some told) product object bytes o earlier name later traces (ReadFault (Word (length earlier + 1))) holds is read
+          (λ held e Next. rw (absent_at (Some told) name held e absent) refl),
+    ))
 
 -- one of the files is no trace that fits
-coverage_refused : (held : Option Held) (reads reads' : ℕ) (level : Level) (annotation : Annotation) (object bytes : List ℕ) (o : Object)
+coverage_refused : (held : Option Held) (reads reads' : ℕ) (product : Product) (object bytes : List ℕ) (o : Object)
     (earlier : List (List ℕ)) (name : List ℕ) (later traces : List (List ℕ)) (status : Status)
     → IfSome held (Holds object bytes) → IsFileOf o bytes → AreRead held o earlier traces
     → IsNoTrace (length earlier + 1) o name held reads reads' status
-    → Stops (Coverage level annotation object (earlier ++ (name ∷ later))) held reads reads' status
-coverage_refused held reads reads' level annotation object bytes o earlier name later traces status holds is read stop =
+    → Stops (task_for product object (earlier ++ (name ∷ later))) held reads reads' status
+coverage_refused held reads reads' product object bytes o earlier name later traces status holds is read stop =
     let number = length earlier + 1 in
     let says : (status : Status) → RefusesTrace number o stop.trace status
-    → IfSome held (λ told. ComesTo told (Coverage level annotation object (earlier ++ (name ∷ later))) (Err status)) =
-    λ status refused. told_stop held level annotation object bytes o earlier name later traces status holds is read
+    → IfSome held (λ told. ComesTo told (task_for product object (earlier ++ (name ∷ later))) (Err status)) =
+    λ status refused. told_stop held product object bytes o earlier name later traces status holds is read
     (λ told e Next. rw (subst (λ (h : Option Held). IfSome h (Holds name stop.trace)) e stop.holds) (inl refused)) in
-    by_cause status stop.refused says
-  where
-    by_cause : (status : Status) → RefusesTrace (length earlier + 1) o stop.trace status
-        → ((s : Status) → RefusesTrace (length earlier + 1) o stop.trace s
-        → IfSome held (λ told. ComesTo told (Coverage level annotation object (earlier ++ (name ∷ later))) (Err s)))
-        → Stops (Coverage level annotation object (earlier ++ (name ∷ later))) held reads reads' status
-    by_cause status (inl r) says = rw r.2 (stop.count, says (TraceRefused (length earlier + 1) (File r.0)) (inl (r.0, r.1, refl)))
-    by_cause status (inr (inl r)) says = rw r.2 (stop.count, says (TraceRefused (length earlier + 1) (Fit r.0)) (inr (inl (r.0, r.1, refl))))
-    by_cause status (inr (inr r)) says = rw r.2 (stop.count, says (TraceRefused (length earlier + 1) (Broken r.0)) (inr (inr (r.0, r.1, refl))))
+    let why = is_refusal number o stop.trace status stop.refused in
+    rw why.1 (stop.count, says (TraceRefused number why.0) (subst (λ (s : Status). RefusesTrace number o stop.trace s) why.1 stop.refused))
 
-stops_told : (held : Option Held) (reads reads' : ℕ) (level : Level) (annotation : Annotation) (object bytes : List ℕ) (names : List (List ℕ)) (o : Object) (status : Status)
+stops_told : (held : Option Held) (reads reads' : ℕ) (product : Product) (object bytes : List ℕ) (names : List (List ℕ)) (o : Object) (status : Status)
     → IfSome held (Holds object bytes) → IsFileOf o bytes → StopsAmong o names held reads reads' status
-    → Stops (Coverage level annotation object names) held reads reads' status
-stops_told held reads reads' level annotation object bytes names o status holds is stop =
+    → Stops (task_for product object names) held reads reads' status
+stops_told held reads reads' product object bytes names o status holds is stop =
     rw stop.are (by_cause stop.stops)
   where
     by_cause : StopsAt (length stop.earlier + 1) o stop.name held reads reads' status
-        → Stops (Coverage level annotation object (stop.earlier ++ (stop.name ∷ stop.later))) held reads reads' status
+        → Stops (task_for product object (stop.earlier ++ (stop.name ∷ stop.later))) held reads reads' status
     by_cause (inl (inl memory)) = rw memory tt
     by_cause (inl (inr (e, cause))) =
-        rw e (coverage_absent held reads reads' level annotation object bytes o stop.earlier stop.name stop.later stop.traces holds is stop.read cause)
+        rw e (coverage_absent held reads reads' product object bytes o stop.earlier stop.name stop.later stop.traces holds is stop.read cause)
     by_cause (inr no_trace) =
-        coverage_refused held reads reads' level annotation object bytes o stop.earlier stop.name stop.later stop.traces status holds is stop.read no_trace
+        coverage_refused held reads reads' product object bytes o stop.earlier stop.name stop.later stop.traces status holds is stop.read no_trace
 
 -- the same, of what is held and counted after the object was read
-pub coverage_stops : (held held' : Option Held) (reads reads' reads'' : ℕ) (level : Level) (annotation : Annotation) (object bytes : List ℕ) (names : List (List ℕ)) (o : Object) (status : Status)
+pub coverage_stops : (held held' : Option Held) (reads reads' reads'' : ℕ) (product : Product) (object bytes : List ℕ) (names : List (List ℕ)) (o : Object) (status : Status)
     → held' ≡ held → reads' ≡ reads → IfSome held (Holds object bytes) → IsFileOf o bytes → StopsAmong o names held' reads' reads'' status
-    → Stops (Coverage level annotation object names) held reads reads'' status
-coverage_stops held held' reads reads' reads'' level annotation object bytes names o status same count holds is stop =
+    → Stops (task_for product object names) held reads reads'' status
+coverage_stops held held' reads reads' reads'' product object bytes names o status same count holds is stop =
     let here = subst (λ (h : Option Held). StopsAmong o names h reads' reads'' status) same stop in
     let then_so = subst (λ (n : ℕ). StopsAmong o names held n reads'' status) count here in
-    stops_told held reads reads'' level annotation object bytes names o status holds is then_so
+    stops_told held reads reads'' product object bytes names o status holds is then_so
 
--- a report of all of them, which were added to a coverage of nothing
-pub coverage_made : (held held' : Option Held) (reads reads' : ℕ) (level : Level) (annotation : Annotation) (object bytes : List ℕ) (names traces : List (List ℕ)) (o : Object) (old new : Covered) (verdict : Result Output Status)
+-- nothing was made for want of memory alone
+for_memory : (product : Product) (o : Object) (c : Covered) (status : Status) → IsMadeOf product o c (Err status) → status ≡ WantOfMemory
+for_memory (products.Report level annotation) o c status memory = memory
+for_memory (products.File name) o c status memory = memory
+
+-- what was made has the task's name
+made_named : (product : Product) (object : List ℕ) (names : List (List ℕ)) (o : Object) (c : Covered) (output : Output) → IsMadeOf product o c (Ok output)
+    → IsNamed (task_for product object names) output
+made_named (products.Report level annotation) object names o c output made = ap (option_map (λ (f : NewFile). f.name)) made.0
+made_named (products.File name) object names o c output made = ap (option_map (λ (f : NewFile). f.name)) made.1
+
+-- what was made of a coverage to which the traces were added, of nothing before
+yields : (product : Product) (traces : List (List ℕ)) (o : Object) (old new : Covered) (output : Output)
+    → AllByRecursion (IsTraceFor o) traces → old.object ≡ o → ((e : Event) → Has old e → ⊥) → ((d : List ℕ) → HasRun old d → ⊥) → Adds o old new traces
+    → IsMadeOf product o new (Ok output) → Yields product o traces (Ok output)
+yields (products.Report level annotation) traces o old new output fit own no_event no_run adds made =
+    (made.0, record { fit = fit; report = reports_added level o old new traces output.text no_event no_run adds made.1 })
+yields (products.File name) traces o old new output fit own no_event no_run adds made = (
+  made.0,
+  made.1,
+  record { fit = fit; covered = new; stands = stands_added o old new traces own no_event no_run adds; tells = made.2 },
+)
+
+-- each of the files that were read is a trace
+all_fit : (held : Option Held) (o : Object) (names traces : List (List ℕ)) → AreRead held o names traces → AllByRecursion (IsTraceFor o) traces
+all_fit held o [] [] read = tt
+all_fit held o [] (t ∷ traces) read = absurd read
+all_fit held o (n ∷ names) [] read = absurd read
+all_fit held o (n ∷ names) (t ∷ traces) read = (read.1, all_fit held o names traces read.2)
+
+-- the traces were read and added to a coverage of nothing, and this was made of it
+pub coverage_made : (held held' : Option Held) (reads reads' : ℕ) (product : Product) (object bytes : List ℕ) (names traces : List (List ℕ)) (o : Object) (old new : Covered) (verdict : Result Output Status)
     → held' ≡ held → reads' ≡ reads → IfSome held (Holds object bytes) → IsFileOf o bytes → AreRead held' o names traces
-    → ((e : Event) → Has old e → ⊥) → ((d : List ℕ) → HasRun old d → ⊥) → Adds o old new traces → IsReportOf level o new verdict
-    → Prepares (Coverage level annotation object names) held reads reads' verdict
-coverage_made held held' reads reads' level annotation object bytes names traces o old new (Err status) same count holds is read no_event no_run adds text = rw text tt
-coverage_made held held' reads reads' level annotation object bytes names traces o old new (Ok output) same count holds is read no_event no_run adds text = (
+    → old.object ≡ o → ((e : Event) → Has old e → ⊥) → ((d : List ℕ) → HasRun old d → ⊥) → Adds o old new traces → IsMadeOf product o new verdict
+    → Prepares (task_for product object names) held reads reads' verdict
+coverage_made held held' reads reads' product object bytes names traces o old new (Err status) same count holds is read own no_event no_run adds made =
+    rw (for_memory product o new status made) tt
+coverage_made held held' reads reads' product object bytes names traces o old new (Ok output) same count holds is read own no_event no_run adds made = (
   count,
-  ap (option_map (λ (f : NewFile). f.name)) text.0,
+  made_named product object names o new output made,
   told held holds (subst (λ (h : Option Held). AreRead h o names traces) same read),
 )
   where
-    fits : (held : Option Held) (names traces : List (List ℕ)) → AreRead held o names traces → AllByRecursion (IsTraceFor o) traces
-    fits held [] [] read = tt
-    fits held [] (t ∷ traces) read = absurd read
-    fits held (n ∷ names) [] read = absurd read
-    fits held (n ∷ names) (t ∷ traces) read = (read.1, fits held names traces read.2)
-
     told : (held : Option Held) → IfSome held (Holds object bytes) → AreRead held o names traces
-        → IfSome held (λ told. ComesTo told (Coverage level annotation object names) (Ok output))
+        → IfSome held (λ told. ComesTo told (task_for product object names) (Ok output))
     told None holds read = tt
     told (Some h) holds read =
-        after_object (Some h) object bytes o (λ told o. AfterTraces told o 1 names (Covers level annotation o)) (Ok output) holds is
-        (all_read h o 1 names traces (Covers level annotation o) (Ok output) read (
-          text.0,
-          record { fit = fits (Some h) names traces read; report = reports_added level o old new traces output.text no_event no_run adds text.1 },
-        ))
+        comes_to (Some h) product object names (Ok output)
+        (after_object (Some h) object bytes o (λ told o. AfterTraces told o 1 names (Yields product o)) (Ok output) holds is
+        (all_read h o 1 names traces (Yields product o) (Ok output) read
+        (yields product traces o old new output (all_fit (Some h) o names traces read) own no_event no_run adds made)))
 
 -- ---- run
 

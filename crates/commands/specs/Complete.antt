@@ -3,7 +3,7 @@ use Rattle.std.specs.Prelude.{◌≡◌, ◌⊎◌, ℕ, ◌+◌, ◌*◌, ◌�
 use Rattle.std.specs.FinMap as finmap
 use Rattle.ada_meaning.specs.Execution.{Execution, Ends}
 use Rattle.ada_meaning.specs.Program.{Program}
-use Rattle.command_words.specs.Task.{Task, Compile, Run, Coverage}
+use Rattle.command_words.specs.Task.{Task, Compile, Run, Coverage, Consolidate}
 use Rattle.compiler.specs.Legal.{IsLegal}
 use Rattle.compiler.specs.Source.{IsObjectOf, IsCheap}
 use Rattle.cov_base.specs.declared.level.Annotation.{Annotation}
@@ -58,5 +58,15 @@ unfoldable pub TracesAreCovered : Option Task → Call → Status → Type 0
 TracesAreCovered task call status =
     (held : Held) (level : Level) (annotation : Annotation) (object : List ℕ) (names : List (List ℕ))
     → call.held ≡ Some held → task ≡ Some (Coverage level annotation object names) → NothingFails call
-    → (files : List SourceFile) (main : List ℕ) (p : Program) (o : Object) → IsObjectOf files main p o → finmap.get held object ≡ Some (object_bytes o)
+    → (files : List SourceFile) (main : List ℕ) (p : Program) (o : Object) → IsObjectOf files main p o
+    → finmap.get held object ≡ Some (object_bytes o)
+    → (runs : List ARun) → AreTracesOf held o names runs → Everywhere (λ r. IsInput r.input) runs → IsDone status
+
+-- such traces are consolidated
+unfoldable pub TracesAreConsolidated : Option Task → Call → Status → Type 0
+TracesAreConsolidated task call status =
+    (held : Held) (object name : List ℕ) (names : List (List ℕ))
+    → call.held ≡ Some held → task ≡ Some (Consolidate object name names) → NothingFails call
+    → (files : List SourceFile) (main : List ℕ) (p : Program) (o : Object) → IsObjectOf files main p o
+    → finmap.get held object ≡ Some (object_bytes o)
     → (runs : List ARun) → AreTracesOf held o names runs → Everywhere (λ r. IsInput r.input) runs → IsDone status

@@ -1,24 +1,28 @@
 -- What a command's answer says of the bytes that it read. This is the one place for it: what is written here is a
 -- clause of the program's public call, since `ComesTo` is made of these words and of nothing else.
-use Rattle.std.specs.Prelude.{◌≡◌, ◌≢◌, ◌↔◌, ◌⊎◌, ℕ, ℤ, ◌++◌, true, List, [], ◌∷◌, length, map, sum_by, codes, AllPairs, Some, None, Ok, Err}
+use Rattle.std.specs.Prelude.{◌≡◌, ◌≢◌, ◌↔◌, ◌⊎◌, ℕ, ℤ, ◌++◌, Bool, true, false, nat_eq, List, [], ◌∷◌, length, map, sum_by, codes, AllPairs, Some, None, Ok, Err}
 use Rattle.std.specs.Fmt.{decimal}
-use Rattle.std.specs.List.{AllByRecursion}
+use Rattle.std.specs.List.{AllByRecursion, starts_with}
 use Rattle.annotated_report.specs.Report.{report_text}
 use Rattle.ada_meaning.specs.Program.{Program}
 use Rattle.compiler.specs.Legal.{AreRefused}
 use Rattle.compiler.specs.Source.{IsObjectOf, IsCheap}
 use Rattle.cov_base.specs.declared.event.Event.{Event}
+use Rattle.cov_base.specs.declared.failure.Failure.TheVariants.{Fault}
 use Rattle.cov_base.specs.declared.level.Annotation.{Annotation}
 use Rattle.cov_base.specs.declared.level.Level.{Level}
 use Rattle.cov_base.specs.declared.obligations.SourceFile.{SourceFile}
+use Rattle.coverage_set.specs.Consolidated.{events_in, FitsObject, IsRefused}
+use Rattle.coverage_set.specs.Covered.{Covered, Has, HasRun, IsCountOfRuns}
+use Rattle.coverage_set.specs.Written as consolidations
 use Rattle.decision_map.specs.declared.fault.FitFault.{FitFault}
 use Rattle.decision_map.specs.Fits.{fault_of}
 use Rattle.cov_base.specs.Lists.{Somewhere}
 use Rattle.compiler.specs.declared.fault.SourceFault.{SourceFault}
 use Rattle.commands.specs.declared.status.Status.{Status}
 use Rattle.commands.specs.declared.status.Status.TheVariants.{SourceRefused, ObjectRefused, TraceRefused, InputRefused, OverBudget, Trap}
-use Rattle.commands.specs.declared.status.TraceWhy.TheVariants.{File, Fit, Broken}
-use Rattle.commands.specs.RunLines.{run_lines}
+use Rattle.commands.specs.declared.status.TraceWhy.TheVariants.{File, Fit, Broken, Consolidated}
+use Rattle.commands.specs.RunLines.{closing_of, run_lines}
 use Rattle.hex.specs.Hex.{encode_lower}
 use Rattle.object_facts.specs.Object.{facts_of}
 use Rattle.object_format.specs.declared.fault.ObjectFault.{ObjectFault}
@@ -31,6 +35,10 @@ use Rattle.rv_semantics.specs.declared.stepped.Seen.{Seen}
 use Rattle.rv_semantics.specs.Run.Outcome.{Ended, Trapped, Cut}
 use Rattle.trace_format.specs.declared.fault.TraceFault.{TraceFault}
 use Rattle.trace_format.specs.Checks.{trace_of}
+use Rattle.trace_format.specs.Consolidated.{ConsolidatedFile}
+use Rattle.trace_format.specs.ConsolidatedChecks.{consolidated_of}
+use Rattle.trace_format.specs.ConsolidatedFormats.{consolidated_magic}
+use Rattle.trace_format.specs.declared.consolidated.fault.ConsFault.{ConsFault}
 use Rattle.trace_format.specs.Formats.{trace_spelling, trace_digest}
 use Rattle.trace_format.specs.Trace.{TraceFile, closed_by}
 use Rattle.trace_record.specs.Written.{traced}
@@ -46,7 +54,7 @@ pub record Made : Type 0 where
   pub file : List ℕ
   pub text : List ℕ
 
--- ---- objects and traces that were read
+-- ---- objects, traces and consolidated files that were read
 
 -- the bytes are the file of this object, in the language of the moment
 pub record IsFileOf (o : Object) (bytes : List ℕ) : Type 0 where
@@ -58,12 +66,31 @@ pub record IsFileOf (o : Object) (bytes : List ℕ) : Type 0 where
 abbrev pub Follows : Object → TraceFile → Type 0
 Follows o trace = AllFollow (facts_of o) [] (visits_of (facts_of o) trace.history)
 
+-- the bytes begin as a consolidated file does
+abbrev pub is_consolidated : List ℕ → Bool
+is_consolidated bytes = starts_with nat_eq bytes consolidated_magic
+
+-- what holds of bytes that begin as a consolidated file does, and of others, which are to be a trace
+pub record ByMagic (bytes : List ℕ) (Merged Trace : Type 0) : Type 0 where
+  pub consolidated : is_consolidated bytes ≡ true → Merged
+  pub trace : is_consolidated bytes ≡ false → Trace
+
+-- the bytes are a consolidated file that can be one of the object's runs
+pub record IsConsolidatedFor (o : Object) (bytes : List ℕ) : Type 0 where
+  pub file : ConsolidatedFile
+  pub read : consolidated_of bytes ≡ Ok file
+  pub fits : FitsObject o file
+
 -- the bytes are the file of a trace that can be one of the object
-pub record IsTraceFor (o : Object) (bytes : List ℕ) : Type 0 where
+pub record IsRunTraceFor (o : Object) (bytes : List ℕ) : Type 0 where
   pub trace : TraceFile
   pub read : trace_of bytes ≡ Ok trace
   pub fits : fault_of o trace ≡ None
   pub follows : Follows o trace
+
+-- the bytes are one of both, as their first four say
+abbrev pub IsTraceFor : Object → List ℕ → Type 0
+IsTraceFor o bytes = ByMagic bytes (IsConsolidatedFor o bytes) (IsRunTraceFor o bytes)
 
 -- this is the first check of its format that the trace fails
 abbrev pub FailsAlone : List ℕ → TraceFault → Type 0
@@ -116,7 +143,7 @@ pub record CompilesTo (main name source : List ℕ) (made : Made) : Type 0 where
 
 -- ---- run
 
--- run and coverage: the bytes are no object, and this is the first check that they fail
+-- all commands but compile: the bytes are no object, and this is the first check that they fail
 abbrev pub RefusesObject : (object : List ℕ) → Status → Type 0
 RefusesObject object status = (why : ObjectFault) × IsRefusedFor passes_plain_field object why × (status ≡ ObjectRefused why)
 
@@ -149,22 +176,50 @@ pub record RunsTo (o : Object) (budget : ℕ) (input : List ℤ) (made : Made) :
   pub told : made.text ≡
       run_lines o.obligations.exceptions (object_run o budget input).output ending (length (object_run o budget input).entries) made.file
 
--- ---- coverage
+-- ---- coverage and consolidate
 
 -- the bytes are no trace of the object, and this is the first check that they fail; they are those of the trace with this number, from 1
-abbrev pub RefusesTrace : ℕ → Object → (trace : List ℕ) → Status → Type 0
-RefusesTrace number o trace status =
+abbrev pub RefusesRunTrace : ℕ → Object → (trace : List ℕ) → Status → Type 0
+RefusesRunTrace number o trace status =
     ((why : TraceFault) × FailsAlone trace why × (status ≡ TraceRefused number (File why)))
     ⊎ (((why : FitFault) × FailsBeside o trace why × (status ≡ TraceRefused number (Fit why)))
     ⊎ ((why : BrokenHistory) × BreaksIn o trace why.at × (status ≡ TraceRefused number (Broken why))))
 
+-- the same of bytes that begin as a consolidated file does
+abbrev pub RefusesConsolidated : ℕ → Object → (bytes : List ℕ) → Status → Type 0
+RefusesConsolidated number o bytes status =
+    (why : ConsFault) × IsRefused o bytes (Fault why) × (status ≡ TraceRefused number (Consolidated why))
+
+-- the same of either
+abbrev pub RefusesTrace : ℕ → Object → (bytes : List ℕ) → Status → Type 0
+RefusesTrace number o bytes status =
+    ByMagic bytes (RefusesConsolidated number o bytes status) (RefusesRunTrace number o bytes status)
+
 -- the trace in these bytes says that an event occurred in the run
-abbrev pub Shows : Object → (trace : List ℕ) → Event → Type 0
-Shows o bytes e = (trace : TraceFile) × (trace_of bytes ≡ Ok trace) × Says (facts_of o) (trace_in trace) e
+abbrev pub RunShows : Object → (trace : List ℕ) → Event → Type 0
+RunShows o bytes e = (trace : TraceFile) × (trace_of bytes ≡ Ok trace) × Says (facts_of o) (trace_in trace) e
+
+-- the consolidated file in these bytes lists the event
+abbrev pub ListsEvent : (bytes : List ℕ) → Event → Type 0
+ListsEvent bytes e =
+    (file : ConsolidatedFile) × (consolidated_of bytes ≡ Ok file) × Somewhere (λ x. x ≡ e) (events_in file)
+
+-- what is in these bytes shows the event
+abbrev pub Shows : Object → (bytes : List ℕ) → Event → Type 0
+Shows o bytes e = ByMagic bytes (ListsEvent bytes e) (RunShows o bytes e)
 
 -- the trace in these bytes ends with this digest, by which its run is told from others
 abbrev pub ClosesWith : (digest trace : List ℕ) → Type 0
 ClosesWith digest bytes = (trace : TraceFile) × (trace_of bytes ≡ Ok trace) × (trace.closing ≡ digest)
+
+-- the consolidated file in these bytes lists the run with this digest
+abbrev pub ListsRun : (digest bytes : List ℕ) → Type 0
+ListsRun digest bytes =
+    (file : ConsolidatedFile) × (consolidated_of bytes ≡ Ok file) × Somewhere (λ x. x ≡ digest) file.runs
+
+-- what is in these bytes is of the run with this digest, or of it and others
+abbrev pub Counts : (digest bytes : List ℕ) → Type 0
+Counts digest bytes = ByMagic bytes (ListsRun digest bytes) (ClosesWith digest bytes)
 
 -- the text is the report at a level on an object, over events and over runs with digests: each of the events is there, and each run is
 -- counted once
@@ -179,4 +234,32 @@ pub record IsReport (level : Level) (o : Object) (IsThere : Event → Type 0) (I
 -- each of the files is a trace of the object; the text is the report at the level of what they show
 pub record Reports (level : Level) (annotation : Annotation) (o : Object) (traces : List (List ℕ)) (text : List ℕ) : Type 0 where
   pub fit : AllByRecursion (IsTraceFor o) traces
-  pub report : IsReport level o (λ e. Somewhere (λ trace. Shows o trace e) traces) (λ digest. Somewhere (ClosesWith digest) traces) text
+  pub report : IsReport level o (λ e. Somewhere (λ trace. Shows o trace e) traces)
+      (λ digest. Somewhere (Counts digest) traces) text
+
+-- the coverage is of the object, and stands for these events and runs with digests
+pub record StandsFor (o : Object) (IsThere : Event → Type 0) (IsCounted : List ℕ → Type 0) (c : Covered) : Type 0 where
+  pub object : c.object ≡ o
+  pub events : (e : Event) → Has c e ↔ IsThere e
+  pub runs : (digest : List ℕ) → HasRun c digest ↔ IsCounted digest
+
+-- the lines that tell of a consolidated file: of how many runs it is, and the digest at its end
+abbrev pub file_lines : (count : ℕ) → (file : List ℕ) → List ℕ
+file_lines count file =
+    codes "traces: " ++ (decimal count ++ (codes "\nfile: " ++ (encode_lower (closing_of file) ++ codes "\n")))
+
+-- the file is the one consolidated file of what the coverage stands for, and the text tells the count of its runs and
+-- the file's digest
+pub record TellsFile (c : Covered) (made : Made) : Type 0 where
+  pub file : consolidations.IsFileOf c made.file
+  pub count : ℕ
+  pub counted : IsCountOfRuns c count
+  pub told : made.text ≡ file_lines count made.file
+
+-- each of the files is a trace of the object; the file is the one consolidated file of what they show and of their runs
+pub record ConsolidatesTo (o : Object) (traces : List (List ℕ)) (made : Made) : Type 0 where
+  pub fit : AllByRecursion (IsTraceFor o) traces
+  pub covered : Covered
+  pub stands : StandsFor o (λ e. Somewhere (λ trace. Shows o trace e) traces)
+      (λ digest. Somewhere (Counts digest) traces) covered
+  pub tells : TellsFile covered made

@@ -1,5 +1,6 @@
--- What adding traces makes of a coverage, and what is reported of it.
+-- What adding traces makes of a coverage, and what is made of it.
 use Rattle.std.specs.Prelude.{◌≡◌, ◌↔◌, ◌⊎◌, ℕ, List, None, Some, Result, Ok, Err}
+use Rattle.command_words.specs.Task.{Task, Coverage, Consolidate}
 use Rattle.cov_base.specs.declared.event.Event.{Event}
 use Rattle.cov_base.specs.declared.event.Event.TheVariants.{Done}
 use Rattle.cov_base.specs.declared.event.Vector.{Vector}
@@ -11,21 +12,36 @@ use Rattle.decision_map.specs.declared.fault.FitFault.{FitFault}
 use Rattle.decision_map.specs.Decisions.{graph_at}
 use Rattle.decision_map.specs.Fits.{fault_of}
 use Rattle.cov_base.specs.Lists.{Somewhere}
-use Rattle.decision_meaning.specs.Path.{IsPathVector}
-use Rattle.commands.specs.Content.{FailsAlone, Shows, ClosesWith, IsReport}
+use Rattle.cov_base.specs.Path.{IsPathVector}
+use Rattle.commands.specs.Content.{FailsAlone, RunShows, ClosesWith, ListsEvent, ListsRun, Shows, Counts, IsReport, TellsFile}
+use Rattle.commands.specs.declared.ready.coverage.Product.{Product}
+use Rattle.commands.specs.declared.ready.coverage.Product.TheVariants as products
 use Rattle.commands.specs.declared.status.Status.{Status}
 use Rattle.commands.specs.declared.status.Status.TheVariants.{TraceRefused, WantOfMemory}
 use Rattle.commands.specs.declared.status.TraceWhy.TheVariants.{File, Fit}
-use Rattle.commands.specs.Verdict.{Output}
+use Rattle.commands.specs.Verdict.{Output, Covers, Consolidates, Writes}
 use Rattle.object_format.specs.declared.object.Object.{Object}
 use Rattle.trace_format.specs.declared.fault.TraceFault.{TraceFault}
 use Rattle.trace_format.specs.Trace.{TraceFile}
 
--- a coverage has what another had and what these traces of the object show
-pub record Adds (o : Object) (old new : Covered) (traces : List (List ℕ)) : Type 0 where
+-- a coverage has what another had, and these events and runs with digests
+pub record AddsWhat (old new : Covered) (IsThere : Event → Type 0) (IsCounted : List ℕ → Type 0) : Type 0 where
   pub object : new.object ≡ old.object
-  pub events : (e : Event) → Has new e ↔ (Has old e ⊎ Somewhere (λ trace. Shows o trace e) traces)
-  pub runs : (digest : List ℕ) → HasRun new digest ↔ (HasRun old digest ⊎ Somewhere (ClosesWith digest) traces)
+  pub events : (e : Event) → Has new e ↔ (Has old e ⊎ IsThere e)
+  pub runs : (digest : List ℕ) → HasRun new digest ↔ (HasRun old digest ⊎ IsCounted digest)
+
+-- what these traces and consolidated files of the object show
+abbrev pub Adds : Object → (old new : Covered) → (traces : List (List ℕ)) → Type 0
+Adds o old new traces =
+    AddsWhat old new (λ e. Somewhere (λ trace. Shows o trace e) traces) (λ digest. Somewhere (Counts digest) traces)
+
+-- what this trace shows
+abbrev pub AddsRun : Object → (old new : Covered) → (trace : List ℕ) → Type 0
+AddsRun o old new trace = AddsWhat old new (RunShows o trace) (λ digest. ClosesWith digest trace)
+
+-- what this consolidated file lists
+abbrev pub AddsListed : (old new : Covered) → (bytes : List ℕ) → Type 0
+AddsListed old new bytes = AddsWhat old new (ListsEvent bytes) (λ digest. ListsRun digest bytes)
 
 -- each vector that a coverage has is of a path of its decision's graph in the object
 abbrev pub HasPaths : Object → Covered → Type 0
@@ -35,6 +51,30 @@ HasPaths o c = (d : DecId) (i : InstId) (vector : Vector) → Has c (Done d i ve
 abbrev pub IsReportOf : Level → Object → Covered → Result Output Status → Type 0
 IsReportOf level o c (Ok output) = (output.file ≡ None) × IsReport level o (Has c) (HasRun c) output.text
 IsReportOf level o c (Err status) = status ≡ WantOfMemory
+
+-- the consolidated file of a coverage was made, to have this name, unless memory was refused
+abbrev pub IsConsolidationOf : (name : List ℕ) → Covered → Result Output Status → Type 0
+IsConsolidationOf name c (Ok output) = Writes name output (TellsFile c)
+IsConsolidationOf name c (Err status) = status ≡ WantOfMemory
+
+-- ---- what is made
+
+-- the task that makes it of the object and the traces of these names
+abbrev pub task_for : Product → (object : List ℕ) → (traces : List (List ℕ)) → Task
+task_for (products.Report level annotate) object traces = Coverage level annotate object traces
+task_for (products.File name) object traces = Consolidate object name.now traces
+
+-- what the task comes to where the object and the traces were read
+abbrev pub Yields : Product → Object → (traces : List (List ℕ)) → Result Output Status → Type 0
+Yields (products.Report level annotate) o = Covers level annotate o
+Yields (products.File name) o = Consolidates name.now o
+
+-- it was made of a coverage, unless memory was refused
+abbrev pub IsMadeOf : Product → Object → Covered → Result Output Status → Type 0
+IsMadeOf (products.Report level annotate) o c verdict = IsReportOf level o c verdict
+IsMadeOf (products.File name) o c verdict = IsConsolidationOf name.now c verdict
+
+-- ---- refusals
 
 -- the status of a trace that fails a check of its file alone
 abbrev pub IsBadFile : (number : ℕ) → (trace : List ℕ) → Status → Type 0

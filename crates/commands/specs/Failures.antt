@@ -9,8 +9,9 @@ use Rattle.rv32_emulator.specs.declared.emulator.RunFault.{RunFault}
 use Rattle.rv32_emulator.specs.declared.emulator.RunFault.TheVariants as runs
 use Rattle.commands.specs.declared.status.Status.{Status}
 use Rattle.commands.specs.declared.status.Status.TheVariants.{SourceRefused, ObjectRefused, TraceRefused, InputRefused, OverBudget, Trap, WantOfMemory}
-use Rattle.commands.specs.declared.status.TraceWhy.TheVariants.{Broken}
+use Rattle.commands.specs.declared.status.TraceWhy.TheVariants.{Broken, Consolidated}
 use Rattle.object_format.specs.declared.fault.ObjectFault.{ObjectFault}
+use Rattle.trace_format.specs.declared.consolidated.fault.ConsFault.{ConsFault}
 use Rattle.vector_rebuild.specs.declared.fault.BrokenHistory.{BrokenHistory}
 
 abbrev pub source_status : Failure SourceFault → Status
@@ -33,3 +34,7 @@ run_status failures.WantOfMemory = WantOfMemory
 abbrev pub history_status : ℕ → Failure BrokenHistory → Status
 history_status number (Fault why) = TraceRefused number (Broken why)
 history_status number failures.WantOfMemory = WantOfMemory
+
+abbrev pub consolidated_status : ℕ → Failure ConsFault → Status
+consolidated_status number (Fault why) = TraceRefused number (Consolidated why)
+consolidated_status number failures.WantOfMemory = WantOfMemory

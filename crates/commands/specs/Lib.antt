@@ -3,6 +3,7 @@ pub mod Complete
 pub mod Content
 pub mod Covering
 pub mod Failures
+pub mod Grouping
 pub mod Headline
 pub mod ShownPairs
 pub mod Lines
@@ -11,6 +12,7 @@ pub mod Prepared
 pub mod Reading
 pub mod Ready
 pub mod RunLines
+pub mod RunsConsolidated
 pub mod RunsCovered
 pub mod TaskFiles
 pub mod TraceWords

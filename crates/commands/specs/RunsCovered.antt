@@ -1,5 +1,5 @@
 -- What coverage prints of an object's own runs.
-use Rattle.std.specs.Prelude.{◌≡◌, ◌≢◌, ◌↔◌, ℕ, ℤ, List, [], ◌∷◌, length, map, AllPairs, Option, Some, Ok}
+use Rattle.std.specs.Prelude.{◌≡◌, ◌≢◌, ◌↔◌, ◌⊎◌, ℕ, ℤ, List, [], ◌∷◌, ◌++◌, length, map, AllPairs, Option, Some, Ok}
 use Rattle.std.specs.FinMap as finmap
 use Rattle.annotated_report.specs.Report.{report_text}
 use Rattle.command_words.specs.Task.{Task, Coverage}
@@ -8,7 +8,9 @@ use Rattle.cov_base.specs.declared.level.Annotation.{Annotation}
 use Rattle.cov_base.specs.declared.level.Level.{Level}
 use Rattle.cov_io.specs.Outside.{Held, WhereTold, Appends}
 use Rattle.cov_base.specs.Lists.{Everywhere, Somewhere}
-use Rattle.commands.specs.Content.{IsFileOf, trace_file}
+use Rattle.coverage_set.specs.Covered.{Covered}
+use Rattle.coverage_set.specs.Written as consolidations
+use Rattle.commands.specs.Content.{IsFileOf, StandsFor, trace_file}
 use Rattle.commands.specs.declared.status.Status.{Status}
 use Rattle.commands.specs.declared.status.Status.TheVariants.{Done}
 use Rattle.commands.specs.Outcome.{Call}
@@ -38,17 +40,30 @@ pub record IsTraceOf (o : Object) (r : ARun) (bytes : List ℕ) : Type 0 where
   pub traced : bytes ≡ trace_spelling (traced o (transcript_of o r) r.ending)
   pub reads_back : trace_of bytes ≡ Ok (trace_file o (transcript_of o r) r.ending)
 
--- the files of these names hold the traces of these runs of the object, one each, in order
-abbrev pub AreTracesOf : Held → Object → (names : List (List ℕ)) → List ARun → Type 0
-AreTracesOf held o [] [] = Unit {0}
-AreTracesOf held o [] (r ∷ rs) = ⊥
-AreTracesOf held o (name ∷ names) [] = ⊥
-AreTracesOf held o (name ∷ names) (r ∷ rs) =
-    (bytes : List ℕ) × (finmap.get held name ≡ Some bytes) × IsTraceOf o r bytes × AreTracesOf held o names rs
-
 -- the digest that closes a run's trace
 abbrev pub digest_of_run : Object → ARun → List ℕ
 digest_of_run o r = (trace_file o (transcript_of o r) r.ending).closing
+
+-- the bytes are the one consolidated file of these runs of the object, each of which ended: of the digests that close
+-- their traces, and of the events that their transcripts tell
+pub record IsFileOfRuns (o : Object) (runs : List ARun) (bytes : List ℕ) : Type 0 where
+  pub ended : Everywhere (λ r. (object_run o r.budget r.input).outcome ≡ Ended r.ending) runs
+  pub covered : Covered
+  pub stands : StandsFor o (λ e. Somewhere (λ r. Tells (facts_of o) (transcript_of o r) e) runs)
+      (λ d. Somewhere (λ r. digest_of_run o r ≡ d) runs) covered
+  pub file : consolidations.IsFileOf covered bytes
+
+-- the bytes are the file of the trace of the one run, or the consolidated file of the runs
+abbrev pub IsWrittenOf : Object → List ARun → (bytes : List ℕ) → Type 0
+IsWrittenOf o runs bytes = ((r : ARun) × (runs ≡ r ∷ []) × IsTraceOf o r bytes) ⊎ IsFileOfRuns o runs bytes
+
+-- the files of these names are traces and consolidated files, in any mixture, of runs of the object: in their order
+-- these are all of the runs
+abbrev pub AreTracesOf : Held → Object → (names : List (List ℕ)) → List ARun → Type 0
+AreTracesOf held o [] runs = runs ≡ []
+AreTracesOf held o (name ∷ names) runs =
+    (own : List ARun) × (others : List ARun) × (runs ≡ own ++ others)
+    × (bytes : List ℕ) × (finmap.get held name ≡ Some bytes) × IsWrittenOf o own bytes × AreTracesOf held o names others
 
 -- After Done of coverage over an object and traces of runs of it with disciplined transcripts, what was put is the report of the events that
 -- these transcripts tell, whatever the list in which they are given, and of the number of their different traces.

@@ -3,9 +3,9 @@ use Rattle.std.specs.Prelude.{◌≡◌, ℕ, ◌+◌, ◌<◌, ℤ, List, [], �
 use Rattle.std.specs.FinMap as finmap
 use Rattle.cov_base.specs.declared.level.Annotation.{Annotation}
 use Rattle.cov_base.specs.declared.level.Level.{Level}
-use Rattle.command_words.specs.Task.{Task, Compile, Run, Coverage}
+use Rattle.command_words.specs.Task.{Task, Compile, Run, Coverage, Consolidate}
 use Rattle.cov_io.specs.Outside.{Held}
-use Rattle.commands.specs.Content.{Made, IsFileOf, RefusesSource, CompilesTo, RefusesObject, IsInputOf, RefusesInput, StopsRun, RunsTo, IsTraceFor, RefusesTrace, Reports}
+use Rattle.commands.specs.Content.{Made, IsFileOf, RefusesSource, CompilesTo, RefusesObject, IsInputOf, RefusesInput, StopsRun, RunsTo, IsTraceFor, RefusesTrace, Reports, ConsolidatesTo}
 use Rattle.commands.specs.declared.status.FileRef.{FileRef}
 use Rattle.commands.specs.declared.status.FileRef.TheVariants.{Word}
 use Rattle.commands.specs.declared.status.Status.{Status}
@@ -67,6 +67,10 @@ AfterTraces held o number (name ∷ names) Then verdict =
 abbrev pub Covers : Level → Annotation → Object → List (List ℕ) → Result Output Status → Type 0
 Covers level annotation o traces verdict = IsOkAnd verdict (λ output. (output.file ≡ None) × Reports level annotation o traces output.text)
 
+-- the object and the traces were read, and the file is to have this name
+abbrev pub Consolidates : (name : List ℕ) → Object → List (List ℕ) → Result Output Status → Type 0
+Consolidates name o traces verdict = IsOkAnd verdict (λ output. Writes name output (ConsolidatesTo o traces))
+
 -- what the task comes to
 abbrev pub ComesTo : Held → Task → Result Output Status → Type 0
 ComesTo held (Compile main object source) verdict = AfterRead held 0 source (Compiles main object source) verdict
@@ -76,6 +80,8 @@ ComesTo held (Run input budget trace object) verdict =
     verdict
 ComesTo held (Coverage level annotation object traces) verdict =
     AfterRead held 0 object (λ bytes. AfterObject bytes (λ o. AfterTraces held o 1 traces (Covers level annotation o))) verdict
+ComesTo held (Consolidate object output traces) verdict =
+    AfterRead held 0 object (λ bytes. AfterObject bytes (λ o. AfterTraces held o 1 traces (Consolidates output o))) verdict
 
 -- the name of a file that a task reads
 abbrev pub name_at : Task → FileRef → List ℕ

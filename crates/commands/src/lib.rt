@@ -10,6 +10,7 @@
 //! program and traces of its runs the report is that of the program's own executions.
 #![tactic(auto)]
 
+mod laws;
 mod ready;
 mod run_lines;
 mod status;
@@ -17,9 +18,10 @@ mod top_call;
 
 pub use compiler::Why;
 pub use decision_map::FitFault;
+pub use laws::grouping_does_not_matter;
 pub use object_format::ObjectFault;
 pub use rv_machine::TrapWhy;
 pub use status::{FileRef, Status, TraceWhy};
 pub use top_call::gnatcov;
-pub use trace_format::TraceFault;
+pub use trace_format::{ConsFault, TraceFault};
 pub use vector_rebuild::BrokenHistory;

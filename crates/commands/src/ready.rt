@@ -10,6 +10,7 @@ ghost use Rattle.commands.specs.Outcome.{Prepares};
 ghost use Rattle.commands.specs.Reading.{IsUnread, UnlessMemory};
 ghost use Rattle.commands.specs.Ready.{verdict_view};
 
+use crate::ready::coverage::Product;
 use crate::status::{FileRef, Status};
 use command_words::Command;
 use cov_base::Failure;
@@ -18,8 +19,11 @@ use object_format::{Object, ObjectFault, read_object};
 use std::alloc::Global;
 
 mod compile;
+mod consolidate;
 mod coverage;
+mod report;
 mod run;
+mod traces;
 
 /// A file to be written.
 #[derive(Drop)]
@@ -63,7 +67,21 @@ pub fn prepare<'a, F: Files>(
             annotate,
             object,
             traces,
-        } => coverage::prepare(alloc, *level, *annotate, object, traces.as_slice(), files),
+        } => {
+            let product = Product::Report {
+                level: *level,
+                annotate: *annotate,
+            };
+            coverage::prepare(alloc, product, object, traces.as_slice(), files)
+        }
+        Command::Consolidate {
+            object,
+            out,
+            traces,
+        } => {
+            let product = Product::File { name: out };
+            coverage::prepare(alloc, product, object, traces.as_slice(), files)
+        }
     }
 }
 

@@ -84,7 +84,7 @@ fn push_length(
 }
 
 /// The digest at a file's end.
-fn closing_of(file: &[u8]) -> &[u8]
+pub fn closing_of(file: &[u8]) -> &[u8]
     ensures { result.now ≡ lines.closing_of file.now }
 {
     &file[file.len().saturating_sub(DIGEST_BYTES)..]

@@ -3,14 +3,14 @@
 ghost use Rattle.std.specs.Prelude.{◌≡◌, Some, IfOk, string_bytes};
 ghost use Rattle.commands.specs.declared.status.Status.TheVariants.{WantOfMemory};
 ghost use Rattle.commands.specs.Lines.{number_of, line_of, object_word};
-ghost use Rattle.commands.specs.TraceWords.{address_text, trace_text, place_text, fit_text};
+ghost use Rattle.commands.specs.TraceWords.{address_text, trace_text, place_text, fit_text, foreign_text, consolidated_text};
 
 use compiler::Why;
 use decision_map::FitFault;
 use object_format::ObjectFault;
 use rv_machine::TrapWhy;
 use std::alloc::{AllocError, Global};
-use trace_format::TraceFault;
+use trace_format::{ConsFault, TraceFault};
 use vector_rebuild::BrokenHistory;
 
 /// A file that a command reads.
@@ -29,6 +29,8 @@ pub enum TraceWhy {
     Fit(FitFault),
     /// That each entry of the history follows one before it.
     Broken(BrokenHistory),
+    /// One of a consolidated file, alone or beside the object.
+    Consolidated(ConsFault),
 }
 
 /// What a call comes to.
@@ -176,10 +178,31 @@ fn trace_text(alloc: Global, why: TraceWhy) -> Result<String, AllocError>
         TraceWhy::File(TraceFault::Version) => String::from_str(alloc, "version"),
         TraceWhy::File(TraceFault::Long) => String::from_str(alloc, "long"),
         TraceWhy::File(TraceFault::Damaged) => String::from_str(alloc, "damaged"),
-        TraceWhy::File(TraceFault::Order { at }) => place_text(alloc, "order", at),
-        TraceWhy::File(TraceFault::Flag { at }) => place_text(alloc, "flag", at),
+        TraceWhy::File(TraceFault::Order { at }) => place_text(alloc, "order", u64::from(at)),
+        TraceWhy::File(TraceFault::Flag { at }) => place_text(alloc, "flag", u64::from(at)),
         TraceWhy::Fit(why) => fit_text(alloc, why),
-        TraceWhy::Broken(BrokenHistory { at }) => place_text(alloc, "broken history", at),
+        TraceWhy::Broken(BrokenHistory { at }) => {
+            place_text(alloc, "broken history", u64::from(at))
+        }
+        TraceWhy::Consolidated(why) => consolidated_text(alloc, why),
+    }
+}
+
+/// The words for why a consolidated file is refused.
+fn consolidated_text(alloc: Global, why: ConsFault) -> Result<String, AllocError>
+    ensures { IfOk result (λ text. string_bytes text ≡ consolidated_text why) }
+{
+    match why {
+        ConsFault::Short => String::from_str(alloc, "short"),
+        ConsFault::Magic => String::from_str(alloc, "magic"),
+        ConsFault::Version => String::from_str(alloc, "version"),
+        ConsFault::Long => String::from_str(alloc, "long"),
+        ConsFault::Damaged => String::from_str(alloc, "damaged"),
+        ConsFault::Order { at } => place_text(alloc, "order", at),
+        ConsFault::Flag { at } => place_text(alloc, "flag", at),
+        ConsFault::Foreign { kept, object } => foreign_text(alloc, &kept, &object),
+        ConsFault::Start { at } => place_text(alloc, "start", at),
+        ConsFault::Vector { at } => place_text(alloc, "vector", at),
     }
 }
 
@@ -188,11 +211,7 @@ fn fit_text(alloc: Global, why: FitFault) -> Result<String, AllocError>
     ensures { IfOk result (λ text. string_bytes text ≡ fit_text why) }
 {
     match why {
-        FitFault::Foreign { kept, object } => {
-            let kept = hex::encode(alloc, kept.as_slice())?;
-            let object = hex::encode(alloc, object.as_slice())?;
-            format!(in alloc; "foreign: kept {kept}, object {object}")
-        }
+        FitFault::Foreign { kept, object } => foreign_text(alloc, &kept, &object),
         FitFault::Ending => String::from_str(alloc, "flag"),
         FitFault::NotABlock { start } => {
             let start = address_text(alloc, start)?;
@@ -202,13 +221,22 @@ fn fit_text(alloc: Global, why: FitFault) -> Result<String, AllocError>
             let start = address_text(alloc, start)?;
             format!(in alloc; "edge at {start}")
         }
-        FitFault::HistoryAddress { at } => place_text(alloc, "history address", at),
-        FitFault::HistoryNotFlat { at } => place_text(alloc, "history not flat", at),
+        FitFault::HistoryAddress { at } => place_text(alloc, "history address", u64::from(at)),
+        FitFault::HistoryNotFlat { at } => place_text(alloc, "history not flat", u64::from(at)),
     }
 }
 
+/// The words for a file of another object: the digest that it keeps, and that of the object.
+fn foreign_text(alloc: Global, kept: &[u8], object: &[u8]) -> Result<String, AllocError>
+    ensures { IfOk result (λ text. string_bytes text ≡ foreign_text kept.now object.now) }
+{
+    let kept = hex::encode(alloc, kept)?;
+    let object = hex::encode(alloc, object)?;
+    format!(in alloc; "foreign: kept {kept}, object {object}")
+}
+
 /// The name of a check, and the entry that fails it, counted from 0 in its list.
-fn place_text(alloc: Global, name: &str, at: u32) -> Result<String, AllocError>
+fn place_text(alloc: Global, name: &str, at: u64) -> Result<String, AllocError>
     ensures { IfOk result (λ text. string_bytes text ≡ place_text name.now at) }
 {
     format!(in alloc; "{name} at {at}")

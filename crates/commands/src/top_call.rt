@@ -4,12 +4,13 @@ ghost use Rattle.std.specs.Prelude.{◌≡◌, ◌⊎◌, ℕ, List, [], ◌∷�
 ghost use Rattle.command_words.specs.Command.{task_view};
 ghost use Rattle.command_words.specs.Task.{IsWithinLimits, task_of};
 ghost use Rattle.commands.specs.Clauses.{UsageIsExact, DoneIsWhole, RefusalsLeaveFiles, OthersStay, RefusalsPutOneLine, RisenReadsAreTold, ReadFaultHasCause, WriteFaultHasCause};
-ghost use Rattle.commands.specs.Complete.{LegalSourcesCompile, ProgramsRun, ProgramsDoNotTrap, TracesAreCovered};
+ghost use Rattle.commands.specs.Complete.{LegalSourcesCompile, ProgramsRun, ProgramsDoNotTrap, TracesAreCovered, TracesAreConsolidated};
 ghost use Rattle.commands.specs.declared.status.Status.TheVariants.{Usage, WantOfMemory};
 ghost use Rattle.commands.specs.Headline.{CoverageTellsTheSource};
 ghost use Rattle.commands.specs.Lines.{line_of};
 ghost use Rattle.commands.specs.Outcome.{call_of, PutsText, Delivers, Because, Answers};
 ghost use Rattle.commands.specs.Ready.{output_view};
+ghost use Rattle.commands.specs.RunsConsolidated.{RunsAreConsolidated, ProgramsAreConsolidated};
 ghost use Rattle.commands.specs.RunsCovered.{RunsAreCovered};
 ghost use Rattle.commands.specs.ShownPairs.{LeastPairsAreShown};
 ghost use Rattle.commands.specs.Verdict.{name_at, name_of};
@@ -51,11 +52,18 @@ pub fn gnatcov<F: Files, S: Sink>(
     // program's own executions, one for each condition that has a pair.
     ensures pairs { LeastPairsAreShown (task_of (map string_bytes words.now)) (call_of F.held F.reads_failed F.writes_failed S.written S.failures files.old files.new out.old out.new) result }
 
-    // Legal programs compile, their runs end in time and never trap, and the traces of these are covered.
+    // What consolidate writes over an object and the traces of its runs: the one file of these runs. And over
+    // the object of a program and traces of its runs on any inputs.
+    ensures consolidated { RunsAreConsolidated (task_of (map string_bytes words.now)) (call_of F.held F.reads_failed F.writes_failed S.written S.failures files.old files.new out.old out.new) result }
+    ensures merged { ProgramsAreConsolidated (task_of (map string_bytes words.now)) (call_of F.held F.reads_failed F.writes_failed S.written S.failures files.old files.new out.old out.new) result }
+
+    // Legal programs compile, their runs end in time and never trap, and the traces of these are covered
+    // and consolidated.
     ensures compiles { LegalSourcesCompile (task_of (map string_bytes words.now)) (call_of F.held F.reads_failed F.writes_failed S.written S.failures files.old files.new out.old out.new) result }
     ensures ends { ProgramsRun (task_of (map string_bytes words.now)) (call_of F.held F.reads_failed F.writes_failed S.written S.failures files.old files.new out.old out.new) result }
     ensures no_trap { ProgramsDoNotTrap (task_of (map string_bytes words.now)) (call_of F.held F.reads_failed F.writes_failed S.written S.failures files.old files.new out.old out.new) result }
     ensures covers { TracesAreCovered (task_of (map string_bytes words.now)) (call_of F.held F.reads_failed F.writes_failed S.written S.failures files.old files.new out.old out.new) result }
+    ensures consolidates { TracesAreConsolidated (task_of (map string_bytes words.now)) (call_of F.held F.reads_failed F.writes_failed S.written S.failures files.old files.new out.old out.new) result }
 {
     answer(alloc, words, files, out)
 }
@@ -153,7 +161,9 @@ fn name_at<'a>(command: &Command<'a>, file: FileRef) -> &'a str
     match command {
         Command::Compile { source, .. } => among(place, source, &[]),
         Command::Run { input, object, .. } => among(place, object, &[*input]),
-        Command::Coverage { object, traces, .. } => among(place, object, traces.as_slice()),
+        Command::Coverage { object, traces, .. } | Command::Consolidate { object, traces, .. } => {
+            among(place, object, traces.as_slice())
+        }
     }
 }
 

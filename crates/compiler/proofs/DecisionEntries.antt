@@ -8,12 +8,12 @@ use Rattle.ada_meaning.specs.Tree as tree
 use Rattle.ada_meaning.specs.Tree.{shape_of, conditions_of}
 use Rattle.cov_base.specs.declared.obligations.DecEntry.{DecEntry}
 use Rattle.cov_base.specs.declared.position.DecId.{DecId}
-use Rattle.decision_meaning.proofs.Postfix.{read_postfix}
-use Rattle.decision_meaning.specs.Expression.{expression_of}
+use Rattle.cov_base.proofs.Postfix.{read_postfix}
+use Rattle.cov_base.specs.Expression.{expression_of}
 use Rattle.decision_map.specs.Decisions.{graph_at}
-use Rattle.decision_meaning.specs.Expr as logic
-use Rattle.decision_meaning.specs.Expr.{Expr, postfix_of, IsPostfixOf}
-use Rattle.decision_meaning.specs.Graph.{Edges, graph}
+use Rattle.cov_base.specs.Expr as logic
+use Rattle.cov_base.specs.Expr.{Expr, postfix_of, IsPostfixOf}
+use Rattle.cov_base.specs.Graph.{Edges, graph}
 use Rattle.cov_base.specs.Lists.{Everywhere}
 use Rattle.object_format.specs.Decisions.{AreExpression}
 use Rattle.object_format.specs.Fields.{condition_count}

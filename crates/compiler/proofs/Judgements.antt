@@ -5,7 +5,7 @@ use Rattle.std.specs.Prelude.{◌&&◌, codes, IfSome}
 use Rattle.std.specs.Option.{option_and_then}
 use Rattle.std.proofs.lemmas.Bool.Decides.{nat_tests}
 use Rattle.cov_base.specs.declared.position.Pos.{Pos}
-use Rattle.decision_meaning.specs.Expr.{negates_once}
+use Rattle.cov_base.specs.Expr.{negates_once}
 use Rattle.ada_syntax.specs.Tree as source
 use Rattle.ada_syntax.specs.Tree.{expr_pos}
 use Rattle.ada_syntax.specs.declared.expr.BinaryOperator.{BinaryOperator}

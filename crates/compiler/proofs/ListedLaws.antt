@@ -1,6 +1,6 @@
 -- The laws of labels and decisions.
 use Rattle.std.proofs.Common.{◌≡◌, ℕ, ◌<◌, ◌≤◌, length, true, List, [], ◌∷◌, map, Some, refl, sym, ap, ◌∙◌, subst}
-use Rattle.decision_meaning.specs.Expr.{negates_once}
+use Rattle.cov_base.specs.Expr.{negates_once}
 use Rattle.cov_base.specs.Lists.{Everywhere}
 use Rattle.cov_base.specs.declared.position.Pos.{Pos}
 use Rattle.ada_syntax.specs.declared.unit.Unit.{Unit as LibraryUnit}

@@ -9,7 +9,7 @@ use Rattle.compiler.proofs.DecisionEntries.{graph_in, own_graphs}
 use Rattle.compiler.specs.Held.{HoldsImage}
 use Rattle.compiler.specs.Made.{IsCompilable}
 use Rattle.cov_base.specs.declared.position.DecId.{DecId}
-use Rattle.decision_meaning.specs.Graph.{Edges}
+use Rattle.cov_base.specs.Graph.{Edges}
 use Rattle.kernel_code.proofs.LengthLimits.{pieces_few}
 use Rattle.kernel_code.proofs.PiecesFit.{pieces_can_be_placed}
 use Rattle.kernel_code.specs.Code.{start_lines}

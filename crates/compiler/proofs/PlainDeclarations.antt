@@ -30,9 +30,9 @@ use Rattle.ada_expressions.specs.Expressions.{denoted}
 use Rattle.ada_expressions.specs.Kinds.{fits, is_variable}
 use Rattle.ada_types.specs.Typing.{Context, Elaborated, inner, unconstrained, indicated, value_for, new_value, without_values, objects_of, declared_bare, declared_set, declared_as, typed_kind, with_earlier, typed_declarations, declared_by_all}
 use Rattle.lower.specs.Sizes.{value_nodes, declarations_nodes}
-use Rattle.lower.specs.Structured.{IsVisible, IsPlainRange, IsPlainValue, ArePlainDeclarations, behind, behind_all}
+use Rattle.lower.specs.Structured.{HasBounds, IsVisible, IsPlainValue, ArePlainDeclarations, behind, behind_all}
 use Rattle.compiler.proofs.Options.{if_then, if_map, if_test}
-use Rattle.compiler.proofs.PlainExpressions.{IsWithinBase, AreKnown, subtype_within, IsJudged, judged_plain, any_value}
+use Rattle.compiler.proofs.PlainExpressions.{IsWithinBase, range_within, AreKnown, subtype_within, IsJudged, judged_plain, any_value}
 
 -- what an object is set to
 pub record IsNewValue (p : Program) (visible : List ℕ) (nodes : ℕ) (v : tree.NewValue) : Type 0 where
@@ -98,7 +98,7 @@ size_joined [] es = omega arith
 size_joined (d ∷ ds) es = let rest = size_joined ds es in omega (arith, rest)
 
 module _ (p : Program) where
-  plain_bare : (total : ℕ) (visible : List ℕ) (n : ℕ) (r : Range) (is : List Identifier) → n + length is ≤ total → IsPlainRange (range_of r)
+  plain_bare : (total : ℕ) (visible : List ℕ) (n : ℕ) (r : Range) (is : List Identifier) → n + length is ≤ total → HasBounds p (range_of r)
       → ArePlainDeclarations p total visible (without_values n r is)
   plain_bare total visible n r [] few h = tt
   plain_bare total visible n r (i ∷ is) few h = ((omega (arith, few), h), plain_bare total (n ∷ visible) (n + 1) r is (omega (arith, few)) h)
@@ -112,7 +112,7 @@ module _ (p : Program) where
   value_plain : (visible : List ℕ) (nodes : ℕ) (s : ScalarSubtype) (ps : List Pos) (x : Judged) → IsWithinBase s → IsJudged p visible nodes x
       → IfSome (value_for s ps x) (IsNewValue p visible (length ps + nodes))
   value_plain visible nodes s [] x is h =
-      if_test (IsNewValue p visible (length {A = Pos} [] + nodes)) (fits s.of x.kind) _ (λ t. record { plain = (is, h.plain); size = let few = h.size in omega (arith, few) })
+      if_test (IsNewValue p visible (length {A = Pos} [] + nodes)) (fits s.of x.kind) _ (λ t. record { plain = (range_within p s is, h.plain); size = let few = h.size in omega (arith, few) })
   value_plain visible nodes s (q ∷ qs) x is h = tt
 
   pub new_value_plain : (places : List Pos) (regions : List Region) (visible : List ℕ) (objects : List DeclaredObject) (s : ScalarSubtype) (i : Initial) → AreKnown visible objects
@@ -136,7 +136,7 @@ module _ (p : Program) where
       → IsWithinBase t → length is ≤ nodes → IfSome (declared_bare k is c t) (AreElaborated p visible k.next (length is) nodes)
   bare_elaborated k visible is c t nodes known h few =
       if_test (AreElaborated p visible k.next (length is) nodes) (is_variable c) _ (λ b. record {
-        plain = λ total fits. plain_bare total visible k.next t.range is fits h;
+        plain = λ total fits. plain_bare total visible k.next t.range is fits (range_within p t h);
         size = let own = size_bare k.next t.range is in omega (arith, own, few);
         known = known_joined _ k.objects (objects_of k.next is c t) (known_all visible k.objects (without_values k.next t.range is) known) (known_bare visible k.next is c t h);
         numbered = refl;

@@ -24,7 +24,7 @@ use Rattle.ada_tree.specs.declared.expr.Callee.{Callee}
 use Rattle.ada_tree.specs.declared.expr.Object.TheVariants as object
 use Rattle.ada_tree.specs.declared.types.ScalarRange.TheVariants as range
 use Rattle.ada_tree.specs.declared.types.Sign.{Sign}
-use Rattle.ada_tree.specs.View.{static_of, callee_of, actuals_of}
+use Rattle.ada_tree.specs.View.{static_of, range_of, callee_of, actuals_of}
 use Rattle.ada_places.specs.Places.{inner_label_at, condition_place}
 use Rattle.ada_names.specs.declared.entity.Entity.{Entity}
 use Rattle.ada_names.specs.declared.entity.Entity.TheVariants as entity
@@ -40,12 +40,17 @@ use Rattle.ada_expressions.specs.declared.kind.ScalarType.TheVariants as scalar
 use Rattle.ada_expressions.specs.Kinds.{integer, subtype_of_entity, is_integral, is_boolean, fits, common, is_variable, same_type}
 use Rattle.ada_expressions.specs.Expressions.{callable, parameters_of, actual_for, written, written_among, with_front, count_of, call_of, part_of, attribute_in, attribute_of, value_of, with_sign, sign_for, with_kind, complement_of, unary_of, related, relabelled, negated, complemented, test_of, test_at, neutral_for, decided, circuit_of, denoted, judged, tested, typed_actuals}
 use Rattle.lower.specs.Sizes as size
-use Rattle.lower.specs.Structured.{IsPlainStatic, IsVisible, IsPlainExpr, IsPlainTest, IsPlainCall}
+use Rattle.lower.proofs.Known.{number_there, interval_there, low_there, high_there}
+use Rattle.lower.specs.Structured.{HasValue, HasBounds, IsVisible, IsPlainExpr, IsPlainTest, IsPlainCall}
 use Rattle.compiler.proofs.Options.{if_then, if_map, if_test}
 
 -- a subtype whose bounds are in the base range
 abbrev pub IsWithinBase : ScalarSubtype → Type 0
 IsWithinBase s = (is_within base_range s.range.first ≡ true) × (is_within base_range s.range.last ≡ true)
+
+-- its bounds are those of its range
+pub range_within : (p : Program) (s : ScalarSubtype) → IsWithinBase s → HasBounds p (range_of s.range)
+range_within p s is = interval_there _ _ (number_there s.range.first is.0) (number_there s.range.last is.1)
 
 -- an object that is visible by its number
 abbrev pub IsKnown : (visible : List ℕ) → DeclaredObject → Type 0
@@ -76,11 +81,11 @@ pub record IsJudged (p : Program) (visible : List ℕ) (nodes : ℕ) (x : Judged
   pub plain : IsPlainExpr p visible x.expr
   pub size : size.expr_nodes x.expr ≤ nodes
 
--- what a name denotes: an entity, a call that is plain, or a value in the base range
+-- what a name denotes: an entity, a call that is plain, or a static expression that has a value
 abbrev pub IsPlainDenoted : Program → (visible : List ℕ) → (nodes : ℕ) → Denoted → Type 0
 IsPlainDenoted p visible nodes (denotes.Entity x) = Unit {0}
 IsPlainDenoted p visible nodes (denotes.Call c actuals) = IsPlainCall p visible (callee_of c) (actuals_of actuals) × (suc (size.actuals_nodes (actuals_of actuals)) ≤ nodes)
-IsPlainDenoted p visible nodes (denotes.Attribute e t) = IsPlainStatic (static_of e)
+IsPlainDenoted p visible nodes (denotes.Attribute e t) = HasValue p (static_of e)
 
 mutual
   pub name_has_a_node : (n : source.Name) → 1 ≤ name_nodes n
@@ -269,7 +274,8 @@ module _ (p : Program) (places : List Pos) (regions : List Region) (visible : Li
 
   -- attributes
   attribute_plain : (nodes : ℕ) (name : List ℕ) (s : ScalarSubtype) → IsWithinBase s → IfSome (attribute_in name s) (IsPlain nodes)
-  attribute_plain nodes name s is = one_of_two (IsPlain nodes) (same_name name (codes "first")) (same_name name (codes "last")) _ _ is.0 is.1
+  attribute_plain nodes name s is = one_of_two (IsPlain nodes) (same_name name (codes "first")) (same_name name (codes "last")) _ _
+      (low_there _ (range_within p s is)) (high_there _ (range_within p s is))
 
   attributes_plain : (nodes : ℕ) (name : List ℕ) (d : Denoted) → IfSome (attribute_of name d) (IsPlain nodes)
   attributes_plain nodes name (denotes.Entity x) = if_then IsWithinBase (IsPlain nodes) _ _ (subtype_within x) (λ s is. attribute_plain nodes name s is)
@@ -290,7 +296,7 @@ module _ (p : Program) (places : List Pos) (regions : List Region) (visible : Li
   -- Get of a variable
   get_object : (nodes more : ℕ) (o : DeclaredObject) (b : Bool) → 1 ≤ nodes → 1 ≤ more → IsKnown visible o
       → IfSome (call_with entity.Get (option_map Some (if b then Some (actual.Variable (object.Local o.number) (range.Known o.subtype.range)) else None))) (IsPlain (nodes + more))
-  get_object nodes more o true some any is = (is, omega (arith, some, any))
+  get_object nodes more o true some any is = ((is.0, range_within p o.subtype is.1), omega (arith, some, any))
   get_object nodes more o false some any is = tt
 
   get_at : (nodes more : ℕ) (o : Option DeclaredObject) → 1 ≤ nodes → 1 ≤ more → IfSome o (IsKnown visible)

@@ -5,7 +5,7 @@ use Rattle.ada_meaning.specs.Collected.{labels_of, decisions_of}
 use Rattle.ada_meaning.specs.Obligations.{IsNumbered, ordered_labels, ordered_decisions}
 use Rattle.ada_meaning.specs.Program.{Program}
 use Rattle.ada_meaning.specs.Tree.{shape_of, conditions_of}
-use Rattle.decision_meaning.specs.Expr.{negates_once}
+use Rattle.cov_base.specs.Expr.{negates_once}
 use Rattle.compiler.specs.Held.{HoldsImage}
 use Rattle.cov_base.specs.declared.position.Pos.{Pos}
 use Rattle.cov_base.specs.Lists.{Everywhere}

@@ -13,7 +13,7 @@ ghost use Rattle.ada_meaning.specs.Obligations.{numbers, obligations_of, ordered
 ghost use Rattle.ada_meaning.specs.Program.{Program};
 ghost use Rattle.ada_meaning.specs.Tree.{shape_of, conditions_of};
 ghost use Rattle.ada_places.specs.Places.{label_at, label_of_found, most_conditions, places_of, decisions_of_units, decision_places};
-ghost use Rattle.decision_meaning.specs.Expr.{negates_once};
+ghost use Rattle.cov_base.specs.Expr.{negates_once};
 ghost use Rattle.ada_types.specs.Legal.{elaborated};
 ghost use Rattle.compiler.specs.Listed.{obligations_at, row_at};
 ghost use Rattle.ada_places.specs.Rising.{DecisionsRise, StatementsRise};

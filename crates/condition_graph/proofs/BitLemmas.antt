@@ -4,7 +4,7 @@ use Rattle.std.specs.Prelude.{bit_or, bit_and}
 use Rattle.std.specs.Int.{bit_at}
 use Rattle.std.proofs.lemmas.Bool.{eqb-false, cases_lt}
 use Rattle.std.proofs.lemmas.Nat.Bits.{bit_at_set_same, bit_at_set_other, bit_at_clear_same, bit_at_clear_other, bit_at_above, bit_at_and}
-use Rattle.decision_meaning.specs.Marks.{bit}
+use Rattle.cov_base.specs.Marks.{bit}
 
 -- a word has no bit from its width on
 pub bit_past : (word c : ℕ) → word < 2 ^ 32 → 32 ≤ c → bit word c ≡ false

@@ -1,10 +1,10 @@
 -- The steps by first entries are a path.
 use Rattle.std.proofs.Common.{◌≡◌, ℕ, ◌<◌, ◌≤◌, zero, suc, Bool, ◌∷◌, Option, Some, None, refl, sym, ap, ◌∙◌, arith}
-use Rattle.decision_meaning.specs.Expr.{Expr, size}
-use Rattle.decision_meaning.specs.Graph.{node, leaf, graph, next_in}
-use Rattle.decision_meaning.specs.Path.{Step, LeadsTo, vector_of, IsVectorOfLeaf}
-use Rattle.decision_meaning.proofs.Edges.{edges_rise}
-use Rattle.decision_meaning.proofs.Reached.{node_entered}
+use Rattle.cov_base.specs.Expr.{Expr, size}
+use Rattle.cov_base.specs.Graph.{node, leaf, graph, next_in}
+use Rattle.cov_base.specs.Path.{Step, LeadsTo, vector_of, IsVectorOfLeaf}
+use Rattle.cov_base.proofs.Edges.{edges_rise}
+use Rattle.cov_base.proofs.Reached.{node_entered}
 use Rattle.condition_graph.specs.Entry.{entry_from, climbed_by, climbed}
 use Rattle.condition_graph.proofs.Trees.{entry_leads, entry_found}
 

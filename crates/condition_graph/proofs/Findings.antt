@@ -1,8 +1,8 @@
 -- What is found of the nodes from one on, from what is found of those behind it.
 use Rattle.std.proofs.Common.{◌≡◌, ℕ, ◌-◌, ◌<◌, ◌≤◌, suc, Bool, not, cond, ◌&&◌, ◌||◌, List, ◌∷◌, length, map, drop, get_or, eqb, sym, ap, subst, ◌∙◌, drop-cons, arith}
 use Rattle.cov_base.specs.declared.event.Vector.{Vector}
-use Rattle.decision_meaning.specs.Graph.{Edges, target}
-use Rattle.decision_meaning.specs.Marks.{bit, marks}
+use Rattle.cov_base.specs.Graph.{Edges, target}
+use Rattle.cov_base.specs.Marks.{bit, marks}
 use Rattle.decision_meaning.specs.Turn.{reaches, open_from, can_turn_from}
 use Rattle.condition_graph.specs.declared.node.Exits.{Exits}
 use Rattle.condition_graph.specs.Target.{place_of, edges_of}

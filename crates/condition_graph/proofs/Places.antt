@@ -1,12 +1,12 @@
 -- The place of a node in a list, and the lengths of graphs.
 use Rattle.std.proofs.Common.{◌≡◌, ℕ, ◌+◌, ◌<◌, suc, zero, Bool, true, false, List, [], ◌∷◌, length, map, get_or, refl, sym, ap, ◌∙◌, eq-eqb, ne_eqb, arith}
-use Rattle.decision_meaning.specs.Expr.{Expr, size}
+use Rattle.cov_base.specs.Expr.{Expr, size}
 use Rattle.std.proofs.Math.ListN.{get_or-map}
 use Rattle.std.proofs.lemmas.List.{length-map}
-use Rattle.decision_meaning.proofs.Edges.{length-nodes}
+use Rattle.cov_base.proofs.Edges.{length-nodes}
 use Rattle.condition_graph.specs.declared.node.Exits.{Exits}
 use Rattle.condition_graph.specs.Target.{edges_of}
-use Rattle.decision_meaning.specs.Graph.{leaf, Edges, target, graph, next_from, next_in}
+use Rattle.cov_base.specs.Graph.{leaf, Edges, target, graph, next_from, next_in}
 
 -- the node of number k stands k - n places on
 pub next_at : (es : List Edges) (n i k : ℕ) (value : Bool) (d : Edges) → i < length es → k ≡ n + i → next_from n es k value ≡ target (get_or es i d) value

@@ -1,7 +1,7 @@
 -- What is read from an expression's postfix bytes are the nodes of its graph.
 use Rattle.std.proofs.Common.{◌≡◌, ℕ, ◌+◌, ◌-◌, ◌<◌, ◌≤◌, true, false, List, [], ◌∷◌, ◌++◌, take, length, get_or, Some, None, refl, sym, ap, subst, ◌∙◌, append_assoc, append-nil, ne_eqb, add-one, arith, take-suc}
-use Rattle.decision_meaning.specs.Expr.{Expr, condition, negation, operator, size, postfix_from, IsPostfixOf}
-use Rattle.decision_meaning.specs.Graph.{node, leaf, Edges, nodes, graph}
+use Rattle.cov_base.specs.Expr.{Expr, condition, negation, operator, size, postfix_from, IsPostfixOf}
+use Rattle.cov_base.specs.Graph.{node, leaf, Edges, nodes, graph}
 use Rattle.condition_graph.specs.Reading.{Open, State, exits_by, begun, turned, read_down, started}
 
 -- to read one list after another

@@ -1,9 +1,9 @@
 -- Each edge is the first that leads to its node exactly where no node has two incoming edges.
 use Rattle.std.proofs.Common.{◌≡◌, ℕ, ◌≤◌, suc, Bool, true, false, cond, List, [], ◌∷◌, Option, Some, None, eqb, refl, sym, ap, subst, ◌∙◌, eq-eqb, ne_eqb, eqb-true, arith}
 use Rattle.std.proofs.lemmas.Bool.{and_parts, and_from, both_ways}
-use Rattle.decision_meaning.specs.Graph.{Next, node, leaf, Edges, target, next_from, next_in, IsTree}
-use Rattle.decision_meaning.specs.Marks.{same}
-use Rattle.decision_meaning.specs.Path.{Step}
+use Rattle.cov_base.specs.Graph.{Next, node, leaf, Edges, target, next_from, next_in, IsTree}
+use Rattle.cov_base.specs.Marks.{same}
+use Rattle.cov_base.specs.Path.{Step}
 use Rattle.condition_graph.specs.Entry.{is_node, entry_from, is_step, is_first, all_first}
 
 is_node_true : (x : Next) (k : ℕ) → is_node x k ≡ true → x ≡ node k

@@ -2,14 +2,14 @@
 use Rattle.std.proofs.Common.{◌≡◌, ℕ, ◌+◌, ◌<◌, ◌≤◌, ◌^◌, suc, Bool, true, false, ◌&&◌, ◌||◌, List, [], ◌∷◌, ◌++◌, nat_eq, bit_or, eqb-true, eq-eqb, refl, ap, subst, sym, ◌∙◌, append-nil, arith, if◌then◌else◌}
 use Rattle.std.proofs.lemmas.Bool.{eqb-false}
 use Rattle.cov_base.specs.declared.event.Vector.{Vector}
-use Rattle.decision_meaning.specs.Expr.{Expr, size}
-use Rattle.decision_meaning.specs.Graph.{Edges, Next as Place, node, leaf, graph, next_in}
-use Rattle.decision_meaning.specs.Marks.{bit}
-use Rattle.decision_meaning.specs.Path.{Step, LeadsTo, vector_of, IsPathVector}
-use Rattle.decision_meaning.proofs.Walks.{IsAhead}
-use Rattle.decision_meaning.proofs.Edges.{edges_rise, size_some}
-use Rattle.decision_meaning.proofs.Bits.{some_step, is_true_at, bit_value}
-use Rattle.decision_meaning.proofs.Follows.{Runs, onto, forward, some_onto, none_at, apart_true, at_leaf, rises_ahead}
+use Rattle.cov_base.specs.Expr.{Expr, size}
+use Rattle.cov_base.specs.Graph.{Edges, Next as Place, node, leaf, graph, next_in}
+use Rattle.cov_base.specs.Marks.{bit}
+use Rattle.cov_base.specs.Path.{Step, LeadsTo, vector_of, IsPathVector}
+use Rattle.cov_base.proofs.Walks.{IsAhead}
+use Rattle.cov_base.proofs.Edges.{edges_rise, size_some}
+use Rattle.cov_base.proofs.Bits.{some_step, is_true_at, bit_value}
+use Rattle.cov_base.proofs.Follows.{Runs, onto, forward, some_onto, none_at, apart_true, at_leaf, rises_ahead}
 use Rattle.decision_meaning.proofs.AllEdges.{value_at}
 use Rattle.condition_graph.specs.Entry.{is_node}
 

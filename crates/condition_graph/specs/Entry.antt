@@ -1,8 +1,8 @@
 -- The edges by which the nodes of a graph are entered.
 use Rattle.std.specs.Prelude.{ℕ, zero, suc, nat_eq, Bool, true, false, ◌&&◌, List, [], ◌∷◌, Option, Some, None, if◌then◌else◌}
-use Rattle.decision_meaning.specs.Graph.{node, leaf, Edges, Next as Place}
-use Rattle.decision_meaning.specs.Marks.{same}
-use Rattle.decision_meaning.specs.Path.{Step as PathStep}
+use Rattle.cov_base.specs.Graph.{node, leaf, Edges, Next as Place}
+use Rattle.cov_base.specs.Marks.{same}
+use Rattle.cov_base.specs.Path.{Step as PathStep}
 use Rattle.condition_graph.specs.declared.node.Step.{Step}
 
 -- the step of a path

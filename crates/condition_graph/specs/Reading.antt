@@ -1,6 +1,6 @@
 -- How a graph is read from postfix bytes, from the last byte to the first.
 use Rattle.std.specs.Prelude.{ℕ, nat_eq, Bool, true, false, List, [], ◌∷◌, map, reverse, Option, Some, None, if◌then◌else◌}
-use Rattle.decision_meaning.specs.Graph.{node, leaf, Edges}
+use Rattle.cov_base.specs.Graph.{node, leaf, Edges}
 use Rattle.condition_graph.specs.declared.reading.Pending.{Pending}
 use Rattle.condition_graph.specs.declared.reading.Reading.{Reading}
 use Rattle.condition_graph.specs.Target.{edges_of}

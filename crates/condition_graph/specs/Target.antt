@@ -1,6 +1,6 @@
 -- What the program's nodes say, in the words of the definitions.
 use Rattle.std.specs.Prelude.{Bool, false}
-use Rattle.decision_meaning.specs.Graph.{node, leaf, Edges, Next as Place}
+use Rattle.cov_base.specs.Graph.{node, leaf, Edges, Next as Place}
 use Rattle.condition_graph.specs.declared.node.Next.{Next}
 use Rattle.condition_graph.specs.declared.node.Next.TheVariants.{Node, Leaf}
 use Rattle.condition_graph.specs.declared.node.Exits.{Exits}

@@ -1,7 +1,7 @@
 //! Single bits of words, by which sets of conditions are kept.
 
 ghost use Rattle.std.specs.Prelude.{◌≡◌, ◌<◌, ℕ, nat_eq, if◌then◌else◌};
-ghost use Rattle.decision_meaning.specs.Marks.{bit};
+ghost use Rattle.cov_base.specs.Marks.{bit};
 
 /// Whether a word has a bit.
 pub(crate) fn has(word: u32, place: u8) -> bool

@@ -2,10 +2,11 @@
 
 ghost use Rattle.std.specs.Prelude.{◌≡◌, ◌≤◌, ◌<◌, ◌↔◌, ℕ, List, map, length, IfOk, IfSome, IsSome, IsTrue};
 ghost use Rattle.condition_graph.specs.Target.{edges_of, place_of};
-ghost use Rattle.decision_meaning.specs.Expr.{Expr, IsPostfixOf};
-ghost use Rattle.decision_meaning.specs.Graph.{Edges, graph, next_in, IsTree};
-ghost use Rattle.decision_meaning.specs.Marks.{marks, bit, outcome, unmasked};
-ghost use Rattle.decision_meaning.specs.Path.{IsPathVector, IsVectorOfLeaf, IsOutcome};
+ghost use Rattle.cov_base.specs.Expr.{Expr, IsPostfixOf};
+ghost use Rattle.cov_base.specs.Graph.{Edges, graph, next_in, IsTree};
+ghost use Rattle.cov_base.specs.Marks.{marks, bit, outcome};
+ghost use Rattle.decision_meaning.specs.Unmasked.{unmasked};
+ghost use Rattle.cov_base.specs.Path.{IsPathVector, IsVectorOfLeaf, IsOutcome};
 
 use crate::node::{Exits, Next};
 use crate::reading::Reading;

@@ -1,7 +1,7 @@
 //! The nodes of a graph, and where their edges lead.
 
 ghost use Rattle.std.specs.Prelude.{◌≡◌};
-ghost use Rattle.decision_meaning.specs.Graph.{target};
+ghost use Rattle.cov_base.specs.Graph.{target};
 
 use cov_base::CondIx;
 

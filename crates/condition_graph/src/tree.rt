@@ -1,7 +1,7 @@
 //! The edges by which the nodes of a graph are entered: in a tree, one for each node but the root.
 
 ghost use Rattle.std.specs.Prelude.{◌≡◌, ◌<◌, ◌≤◌, ◌^◌, ◌∷◌, length, map, bit_or, IfSome, if◌then◌else◌};
-ghost use Rattle.decision_meaning.specs.Path.{vector_of};
+ghost use Rattle.cov_base.specs.Path.{vector_of};
 ghost use Rattle.std.specs.Option.{option_map};
 ghost use Rattle.condition_graph.specs.Target.{edges_of, place_of};
 ghost use Rattle.condition_graph.specs.Entry.{step_of, is_node, entry_from, is_first, all_first, climbed};

@@ -4,8 +4,8 @@
 
 ghost use Rattle.std.specs.Prelude.{◌≡◌, ◌<◌, ◌≤◌, ◌&&◌, ◌||◌, ℕ, not, nat_eq, length, map, if◌then◌else◌};
 ghost use Rattle.condition_graph.specs.Target.{edges_of, place_of};
-ghost use Rattle.decision_meaning.specs.Graph.{target};
-ghost use Rattle.decision_meaning.specs.Marks.{bit, marks};
+ghost use Rattle.cov_base.specs.Graph.{target};
+ghost use Rattle.cov_base.specs.Marks.{bit, marks};
 ghost use Rattle.decision_meaning.specs.Turn.{reaches, can_turn};
 
 use crate::bits::{has, with};

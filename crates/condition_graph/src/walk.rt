@@ -3,10 +3,10 @@
 
 ghost use Rattle.std.specs.Prelude.{◌≡◌, ◌<◌, ◌≤◌, length, map, IsTrue};
 ghost use Rattle.condition_graph.specs.Target.{edges_of, place_of, outcome_at};
-ghost use Rattle.decision_meaning.specs.Expr.{Expr};
-ghost use Rattle.decision_meaning.specs.Graph.{graph};
-ghost use Rattle.decision_meaning.specs.Marks.{bit};
-ghost use Rattle.decision_meaning.specs.Path.{IsPathVector, passed, walked};
+ghost use Rattle.cov_base.specs.Expr.{Expr};
+ghost use Rattle.cov_base.specs.Graph.{graph};
+ghost use Rattle.cov_base.specs.Marks.{bit};
+ghost use Rattle.cov_base.specs.Path.{IsPathVector, passed, walked};
 
 use crate::bits::has;
 use crate::node::{Exits, Next, Step};

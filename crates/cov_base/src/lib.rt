@@ -1,11 +1,13 @@
 //! The words that every layer of gnatcov shares: places in source text, the numbers of statements,
-//! decisions, conditions and instances, vectors, events, and the obligations of a program.
+//! decisions, conditions and instances, vectors, events, and the obligations of a program. And what a
+//! decision means: its expression, its graph, paths and outcomes, with their laws ([`decision`]).
 //!
 //! The contract that the layers above use: [`put_u32`] appends the four bytes from which [`u32_at`]
 //! reads the same number.
 #![tactic(auto)]
 
 mod bytes;
+pub mod decision;
 mod event;
 mod failure;
 mod level;

@@ -9,8 +9,8 @@ use Rattle.std.proofs.lemmas.Nat.Bits.{bit_at_and, bit_at_or, same_from_bits}
 use Rattle.cov_base.specs.declared.event.Event.{Event}
 use Rattle.cov_base.specs.declared.event.Event.TheVariants.{Start, Done}
 use Rattle.cov_base.specs.Lists.{Somewhere}
-use Rattle.decision_meaning.specs.Graph.{Edges}
-use Rattle.decision_meaning.specs.Path.{Step, vector_of, IsPathVector}
+use Rattle.cov_base.specs.Graph.{Edges}
+use Rattle.cov_base.specs.Path.{Step, vector_of, IsPathVector}
 use Rattle.cov_base.specs.declared.event.Vector.{Vector}
 use Rattle.spelling.specs.Checks.{first_failing}
 use Rattle.trace_format.specs.declared.consolidated.StartEntry.{StartEntry}

@@ -12,7 +12,7 @@ use Rattle.decision_map.specs.Roles.{needs_history}
 use Rattle.decision_map.specs.declared.fault.FitFault.{FitFault}
 use Rattle.decision_map.specs.declared.fault.FitFault.TheVariants.{Foreign, Ending, NotABlock, Edge, HistoryAddress, HistoryNotFlat}
 use Rattle.decision_map.specs.declared.kind.WordKind.TheVariants.{HistoryBranch}
-use Rattle.decision_meaning.specs.Marks.{same}
+use Rattle.cov_base.specs.Marks.{same}
 use Rattle.cov_base.specs.Lists.{Somewhere, Everywhere}
 use Rattle.object_facts.proofs.Agreed.{transfers_agree, kept_agree}
 use Rattle.object_facts.proofs.Placed.{run_transcript}

@@ -6,7 +6,7 @@ use Rattle.cov_base.specs.declared.failure.Failure.{Failure}
 use Rattle.cov_base.specs.declared.failure.Failure.TheVariants.{Fault, WantOfMemory}
 use Rattle.cov_base.specs.Lists.{Somewhere}
 use Rattle.decision_map.specs.Decisions.{graph_at}
-use Rattle.decision_meaning.specs.Path.{IsPathVector}
+use Rattle.cov_base.specs.Path.{IsPathVector}
 use Rattle.line_table.specs.declared.roles.Role.{Role}
 use Rattle.object_format.specs.declared.object.Object.{Object}
 use Rattle.object_format.specs.RoleCheck.{is_condition}

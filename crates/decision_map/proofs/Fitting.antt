@@ -2,7 +2,7 @@
 use Rattle.std.proofs.Common.{◌≡◌, ℕ, ◌+◌, Bool, not, ◌&&◌, ◌||◌, cond, List, [], ◌∷◌, ◌++◌, map, find, Option, Some, None, refl, sym, ap, subst, ◌∙◌, eqb, option_map}
 use Rattle.std.specs.List.{list_all, position_from}
 use Rattle.std.specs.Option.{option_or}
-use Rattle.decision_meaning.specs.Marks.{same}
+use Rattle.cov_base.specs.Marks.{same}
 use Rattle.object_format.specs.declared.object.Object.{Object}
 use Rattle.trace_format.specs.declared.trace.Block.{Block}
 use Rattle.trace_format.specs.declared.trace.HistoryEntry.{HistoryEntry}

@@ -6,7 +6,7 @@ use Rattle.std.proofs.lemmas.Bool.Decides.{eqb_tells}
 use Rattle.std.proofs.lemmas.List.{get_or-take, length-take}
 use Rattle.std.proofs.lemmas.List.Folds.{list_all_at}
 use Rattle.std.proofs.lemmas.Option.{slice_get-get_or}
-use Rattle.decision_meaning.specs.Marks.{same}
+use Rattle.cov_base.specs.Marks.{same}
 use Rattle.cov_base.specs.Lists.{Everywhere, Somewhere}
 use Rattle.trace_format.specs.declared.trace.Block.{Block}
 use Rattle.decision_map.specs.declared.kind.WordKind.{WordKind}

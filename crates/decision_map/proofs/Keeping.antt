@@ -7,8 +7,8 @@ use Rattle.std.proofs.lemmas.List.{take_more, get_or-set_same, get_or-set_other,
 use Rattle.std.proofs.lemmas.List.Folds.{find-append}
 use Rattle.std.proofs.lemmas.Bool.Decides.{eqb_tells}
 use Rattle.cov_base.specs.declared.obligations.DecEntry.{DecEntry}
-use Rattle.decision_meaning.specs.Expr.{condition}
-use Rattle.decision_meaning.specs.Graph.{graph}
+use Rattle.cov_base.specs.Expr.{condition}
+use Rattle.cov_base.specs.Graph.{graph}
 use Rattle.line_table.specs.declared.roles.Role.{Role}
 use Rattle.rv_isa.specs.declared.instr.Instr.{Instr}
 use Rattle.rv_isa.specs.declared.instr.Instr.TheVariants.{Upper, Jal, Jalr, Branch as ConditionalBranch, Load, Store, Immediate, Shift, Register, Fence, Ecall, Ebreak}
@@ -18,7 +18,7 @@ use Rattle.decision_map.specs.declared.condition.Condition.{Condition}
 use Rattle.decision_map.specs.declared.graphs.DecisionGraph.{DecisionGraph}
 use Rattle.decision_map.specs.declared.kind.WordKind.{WordKind}
 use Rattle.decision_map.specs.declared.kind.WordKind.TheVariants.{Branch, HistoryBranch, Stop}
-use Rattle.decision_meaning.specs.Expression.{expression_of}
+use Rattle.cov_base.specs.Expression.{expression_of}
 use Rattle.decision_map.specs.Decisions.{is_tree, is_tree_at, graph_of_entry}
 use Rattle.decision_map.specs.Kinds.{kind_of_instr, kind_of_word, keeps_history, address_of, kinds_of_text}
 use Rattle.decision_map.specs.Mapped.{plain, marked}

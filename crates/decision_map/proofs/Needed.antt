@@ -4,15 +4,15 @@ use Rattle.std.specs.Option.{option_map_or}
 use Rattle.std.proofs.lemmas.List.{length-map}
 use Rattle.std.proofs.lemmas.Option.{slice_get_read, slice_get-map}
 use Rattle.cov_base.specs.declared.obligations.DecEntry.{DecEntry}
-use Rattle.decision_meaning.specs.Expr.{Expr, condition, IsPostfixOf}
-use Rattle.decision_meaning.specs.Graph.{Edges, graph, IsTree}
+use Rattle.cov_base.specs.Expr.{Expr, condition, IsPostfixOf}
+use Rattle.cov_base.specs.Graph.{Edges, graph, IsTree}
 use Rattle.object_format.specs.declared.object.Object.{Object}
 use Rattle.decision_map.specs.declared.condition.Condition.{Condition}
 use Rattle.decision_map.specs.declared.graphs.DecisionGraph.{DecisionGraph}
-use Rattle.decision_meaning.specs.Expression.{expression_of}
+use Rattle.cov_base.specs.Expression.{expression_of}
 use Rattle.decision_map.specs.Decisions.{is_tree, is_tree_at, graph_at, graph_of_entry}
 use Rattle.decision_map.specs.Roles.{condition_at, needs_history, NeedsHistory}
-use Rattle.decision_meaning.proofs.Postfix.{read_postfix}
+use Rattle.cov_base.proofs.Postfix.{read_postfix}
 use Rattle.decision_map.proofs.Trees.{tree_law}
 
 not_true : (b : Bool) → not b ≡ true → b ≡ true → ⊥

@@ -5,7 +5,7 @@ use Rattle.std.proofs.lemmas.List.{length-map, get_or-map}
 use Rattle.std.proofs.lemmas.List.Elements.{All-from_recursion}
 use Rattle.std.proofs.lemmas.Option.{unwrap_or-slice_get}
 use Rattle.cov_base.specs.declared.obligations.DecEntry.{DecEntry}
-use Rattle.decision_meaning.specs.Expr.{Expr, IsPostfixOf}
+use Rattle.cov_base.specs.Expr.{Expr, IsPostfixOf}
 use Rattle.line_table.specs.declared.roles.Role.{Role}
 use Rattle.object_format.specs.declared.object.Object.{Object}
 use Rattle.object_format.specs.Checked.{IsSound}

@@ -2,11 +2,11 @@
 use Rattle.std.proofs.Common.{◌≡◌, ◌↔◌, Bool, true, false, List, refl, sym, ap, ◌∙◌}
 use Rattle.condition_graph.proofs.Trees.{tree_from_first, first_from_tree}
 use Rattle.cov_base.specs.declared.obligations.DecEntry.{DecEntry}
-use Rattle.decision_meaning.specs.Expr.{Expr, IsPostfixOf}
-use Rattle.decision_meaning.specs.Graph.{Edges, graph, IsTree}
+use Rattle.cov_base.specs.Expr.{Expr, IsPostfixOf}
+use Rattle.cov_base.specs.Graph.{Edges, graph, IsTree}
 use Rattle.decision_map.specs.declared.graphs.DecisionGraph.{DecisionGraph}
 use Rattle.decision_map.specs.Decisions.{is_tree, graph_of_entry}
-use Rattle.decision_meaning.proofs.Postfix.{read_postfix}
+use Rattle.cov_base.proofs.Postfix.{read_postfix}
 
 pub tree_law : (graph : List Edges) → is_tree graph ≡ true ↔ IsTree graph
 unfolding is_tree

@@ -1,7 +1,7 @@
 -- Blocks of a text, by the kinds of its words.
 use Rattle.std.specs.Prelude.{◌≡◌, ℕ, ◌+◌, ◌%◌, ◌<◌, ◌≤◌, Bool, true, false, not, ◌==◌, ◌&&◌, ◌||◌, List, [], ◌∷◌, ◌++◌, drop, All, AllPairs, bit_and, Option, Some, None, option_and_then, if◌then◌else◌}
 use Rattle.std.specs.List.{list_all}
-use Rattle.decision_meaning.specs.Marks.{same}
+use Rattle.cov_base.specs.Marks.{same}
 use Rattle.trace_format.specs.declared.trace.Block.{Block}
 use Rattle.trace_format.specs.declared.trace.HistoryEntry.{HistoryEntry}
 use Rattle.decision_map.specs.declared.kind.WordKind.{WordKind}

@@ -2,9 +2,9 @@
 use Rattle.std.specs.Prelude.{ℕ, Bool, List, slice_get, option_map, unwrap_or}
 use Rattle.cov_base.specs.declared.obligations.DecEntry.{DecEntry}
 use Rattle.condition_graph.specs.Entry.{all_first}
-use Rattle.decision_meaning.specs.Expr.{Expr, condition}
-use Rattle.decision_meaning.specs.Expression.{expression_of}
-use Rattle.decision_meaning.specs.Graph.{Edges, graph}
+use Rattle.cov_base.specs.Expr.{Expr, condition}
+use Rattle.cov_base.specs.Expression.{expression_of}
+use Rattle.cov_base.specs.Graph.{Edges, graph}
 use Rattle.decision_map.specs.declared.graphs.DecisionGraph.{DecisionGraph}
 use Rattle.object_format.specs.declared.object.Object.{Object}
 

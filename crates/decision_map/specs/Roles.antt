@@ -1,9 +1,9 @@
 -- The conditional branches of an object: which condition each decides, and whether its executions are kept.
 use Rattle.std.specs.Prelude.{◌≡◌, ℕ, ◌≤◌, ◌<◌, Bool, false, not, ◌==◌, find, All, AllPairs, length, Option, Some, None, option_and_then, if◌then◌else◌}
 use Rattle.std.specs.Option.{option_map_or}
-use Rattle.decision_meaning.specs.Expr.{Expr, IsPostfixOf}
+use Rattle.cov_base.specs.Expr.{Expr, IsPostfixOf}
 use Rattle.cov_base.specs.declared.obligations.DecEntry.{DecEntry}
-use Rattle.decision_meaning.specs.Graph.{IsTree}
+use Rattle.cov_base.specs.Graph.{IsTree}
 use Rattle.line_table.specs.declared.roles.Role.{Role}
 use Rattle.object_format.specs.declared.object.Object.{Object}
 use Rattle.decision_map.specs.declared.condition.Condition.{Condition}

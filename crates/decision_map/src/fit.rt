@@ -3,7 +3,7 @@
 ghost use Rattle.std.specs.Prelude.{◌≡◌, ◌<◌, ◌≤◌, ◌%◌, ◌&&◌, ◌==◌, not, length, IfSome, Some, None, true};
 ghost use Rattle.std.specs.List.{list_any};
 ghost use Rattle.std.specs.Result.{result_err};
-ghost use Rattle.decision_meaning.specs.Marks.{same};
+ghost use Rattle.cov_base.specs.Marks.{same};
 ghost use Rattle.trace_format.specs.declared.trace.Block.{Block};
 ghost use Rattle.decision_map.specs.Blocks.{is_block, agrees, shows_edge, shows_entry, AreOrdered, AreFlat};
 ghost use Rattle.decision_map.specs.Fits.{foreign, beyond_exceptions, not_a_block, wrong_edge, wrong_address, not_flat, fault_of};

@@ -3,7 +3,7 @@
 ghost use Rattle.std.specs.Prelude.{◌≡◌, map, not, All, IfOk};
 ghost use Rattle.std.specs.Option.{option_map_or};
 ghost use Rattle.cov_base.specs.declared.obligations.DecEntry.{DecEntry};
-ghost use Rattle.decision_meaning.specs.Expr.{Expr, IsPostfixOf};
+ghost use Rattle.cov_base.specs.Expr.{Expr, IsPostfixOf};
 ghost use Rattle.decision_map.specs.Decisions.{graph_of_entry};
 
 use condition_graph::Graph;

@@ -2,8 +2,8 @@
 
 ghost use Rattle.std.specs.Prelude.{◌≡◌, ◌≢◌, ◌<◌, ◌↔◌, length, slice_get, IsTrue, IfOk, Some};
 ghost use Rattle.cov_base.specs.declared.obligations.DecEntry.{DecEntry};
-ghost use Rattle.decision_meaning.specs.Expr.{Expr, IsPostfixOf};
-ghost use Rattle.decision_meaning.specs.Graph.{graph, IsTree};
+ghost use Rattle.cov_base.specs.Expr.{Expr, IsPostfixOf};
+ghost use Rattle.cov_base.specs.Graph.{graph, IsTree};
 ghost use Rattle.decision_map.specs.declared.condition.Condition.{Condition};
 ghost use Rattle.decision_map.specs.Kinds.{kinds_of_text};
 ghost use Rattle.decision_map.specs.Blocks.{block_end};

@@ -2,17 +2,17 @@
 use Rattle.std.proofs.Common.{◌≡◌, ◌≢◌, ℕ, ◌<◌, ◌≤◌, zero, suc, Bool, true, false, not, ◌&&◌, ◌||◌, inl, inr, List, [], ◌∷◌, ◌++◌, eqb, refl, sym, ap, subst, ◌∙◌, eqb-true, eq-eqb, ne_eqb, arith, ⊎_elim}
 use Rattle.std.proofs.lemmas.Bool.{cases_lt, eqb-false, and_from}
 use Rattle.cov_base.specs.declared.event.Vector.{Vector}
-use Rattle.decision_meaning.specs.Expr.{Expr, size}
-use Rattle.decision_meaning.specs.Graph.{Next, node, leaf, graph, next_in, IsTree}
-use Rattle.decision_meaning.specs.Marks.{Marks, marks, bit, same, outcome}
-use Rattle.decision_meaning.specs.Path.{Step, LeadsTo, vector_of, IsPathVector}
+use Rattle.cov_base.specs.Expr.{Expr, size}
+use Rattle.cov_base.specs.Graph.{Next, node, leaf, graph, next_in, IsTree}
+use Rattle.cov_base.specs.Marks.{Marks, marks, bit, same, outcome}
+use Rattle.cov_base.specs.Path.{Step, LeadsTo, vector_of, IsPathVector}
 use Rattle.cov_base.specs.Lists.{Everywhere, Somewhere}
 use Rattle.decision_meaning.specs.Pair.{turns, agrees, others_agree, is_unique_cause, is_masking, Pair}
 use Rattle.decision_meaning.specs.Verdict.{TakesEdge, TakesAllEdges, HasPair}
-use Rattle.decision_meaning.proofs.Edges.{edges_rise}
-use Rattle.decision_meaning.proofs.Bits.{some_step, is_at, is_true_at, bit_seen, bit_value}
-use Rattle.decision_meaning.proofs.Reached.{one_path}
-use Rattle.decision_meaning.proofs.Follows.{outcome_law}
+use Rattle.cov_base.proofs.Edges.{edges_rise}
+use Rattle.cov_base.proofs.Bits.{some_step, is_at, is_true_at, bit_seen, bit_value}
+use Rattle.cov_base.proofs.Reached.{one_path}
+use Rattle.cov_base.proofs.Follows.{outcome_law}
 use Rattle.decision_meaning.proofs.Pairs.{unique_masks}
 use Rattle.decision_meaning.proofs.Choices.{Leads, parts, path_to}
 

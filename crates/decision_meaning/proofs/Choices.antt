@@ -1,12 +1,12 @@
 -- Both outcomes can be reached from each node, and by both edges of a node two different ones.
 use Rattle.std.proofs.Common.{◌≡◌, ◌≢◌, ℕ, ◌+◌, ◌<◌, ◌≤◌, zero, suc, Bool, true, false, not, List, [], ◌∷◌, ◌++◌, length, refl, sym, ap, subst, ◌∙◌, eq-eqb, arith, ⊎_elim}
 use Rattle.std.proofs.lemmas.Bool.{cases_lt}
-use Rattle.decision_meaning.specs.Expr.{Expr, condition, negation, operator, size}
-use Rattle.decision_meaning.specs.Graph.{Next, node, leaf, Edges, nodes, graph, next_from, next_in}
-use Rattle.decision_meaning.specs.Path.{Step, LeadsTo}
-use Rattle.decision_meaning.proofs.Walks.{IsAhead, ahead_before, ahead_at}
-use Rattle.decision_meaning.proofs.Edges.{length-nodes, size_some, edges_rise}
-use Rattle.decision_meaning.proofs.Reached.{next_left, next_right, node_entered}
+use Rattle.cov_base.specs.Expr.{Expr, condition, negation, operator, size}
+use Rattle.cov_base.specs.Graph.{Next, node, leaf, Edges, nodes, graph, next_from, next_in}
+use Rattle.cov_base.specs.Path.{Step, LeadsTo}
+use Rattle.cov_base.proofs.Walks.{IsAhead, ahead_before, ahead_at}
+use Rattle.cov_base.proofs.Edges.{length-nodes, size_some, edges_rise}
+use Rattle.cov_base.proofs.Reached.{next_left, next_right, node_entered}
 
 -- steps that lead from x to y, the latest first
 abbrev pub Leads : (ℕ → Bool → Next) → Next → List Step → Next → Type 0

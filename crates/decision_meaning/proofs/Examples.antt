@@ -1,9 +1,9 @@
 -- Two decisions worked out: their graphs, the outcomes of their vectors, and their pairs.
 use Rattle.std.proofs.Common.{◌≡◌, Bool, true, false, List, [], ◌∷◌, Option, Some, None, refl, inl, inr}
 use Rattle.cov_base.specs.declared.event.Vector.{Vector}
-use Rattle.decision_meaning.specs.Expr.{Expr, condition, operator, postfix_of}
-use Rattle.decision_meaning.specs.Graph.{node, leaf, graph}
-use Rattle.decision_meaning.specs.Marks.{marks, outcome}
+use Rattle.cov_base.specs.Expr.{Expr, condition, operator, postfix_of}
+use Rattle.cov_base.specs.Graph.{node, leaf, graph}
+use Rattle.cov_base.specs.Marks.{marks, outcome}
 use Rattle.decision_meaning.specs.Pair.{Pair, is_unique_cause, is_masking, IsLeastPair}
 
 abbrev a_and_b_or_c : Expr

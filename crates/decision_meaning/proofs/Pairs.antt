@@ -2,12 +2,13 @@
 use Rattle.std.proofs.Common.{◌≡◌, ℕ, ◌+◌, ◌<◌, ◌≤◌, zero, suc, Bool, true, false, not, cond, ◌&&◌, ◌||◌, eqb, refl, sym, ap, subst, ◌∙◌, eqb-true, arith, ⊎_elim}
 use Rattle.std.proofs.lemmas.Bool.{eqb-false, cases_lt, and_parts, and_from, or_cases, both_ways}
 use Rattle.cov_base.specs.declared.event.Vector.{Vector}
-use Rattle.decision_meaning.specs.Expr.{Expr, condition, negation, operator, size, value_of}
-use Rattle.decision_meaning.specs.Graph.{graph}
-use Rattle.decision_meaning.specs.Marks.{Marks, marks, same, outcome, unmasked_from, unmasked}
-use Rattle.decision_meaning.specs.Path.{IsPathVector}
+use Rattle.cov_base.specs.Expr.{Expr, condition, negation, operator, size, value_of}
+use Rattle.cov_base.specs.Graph.{graph}
+use Rattle.cov_base.specs.Marks.{Marks, marks, same, outcome}
+use Rattle.decision_meaning.specs.Unmasked.{unmasked_from, unmasked}
+use Rattle.cov_base.specs.Path.{IsPathVector}
 use Rattle.decision_meaning.specs.Pair.{turns, agrees, others_agree, is_unique_cause, is_masking}
-use Rattle.decision_meaning.proofs.Edges.{size_some}
+use Rattle.cov_base.proofs.Edges.{size_some}
 use Rattle.decision_meaning.proofs.Shapes.{IsUntouched, Either, IsEvaluated, path_evaluates}
 use Rattle.decision_meaning.proofs.Turns.{first_seen, outside, unseen_masked, either_map}
 

@@ -3,12 +3,12 @@ use Rattle.std.proofs.Common.{◌≡◌, ℕ, ◌+◌, ◌<◌, ◌≤◌, suc, 
 use Rattle.std.proofs.lemmas.Bool.{cases_lt}
 use Rattle.std.proofs.Common.{◌⊎◌, inl, inr}
 use Rattle.cov_base.specs.declared.event.Vector.{Vector}
-use Rattle.decision_meaning.specs.Expr.{Expr, condition, negation, operator, size, value_of}
-use Rattle.decision_meaning.specs.Graph.{Next, node, leaf, Edges, nodes, graph}
-use Rattle.decision_meaning.specs.Marks.{Marks, marks}
-use Rattle.decision_meaning.specs.Path.{IsPathVector, vector_of}
-use Rattle.decision_meaning.proofs.Walks.{IsAhead, ahead_before, ahead_at, passes_by, takes}
-use Rattle.decision_meaning.proofs.Follows.{IsWalked, stands_at, path_follows}
+use Rattle.cov_base.specs.Expr.{Expr, condition, negation, operator, size, value_of}
+use Rattle.cov_base.specs.Graph.{Next, node, leaf, Edges, nodes, graph}
+use Rattle.cov_base.specs.Marks.{Marks, marks}
+use Rattle.cov_base.specs.Path.{IsPathVector, vector_of}
+use Rattle.cov_base.proofs.Walks.{IsAhead, ahead_before, ahead_at, passes_by, takes}
+use Rattle.cov_base.proofs.Follows.{IsWalked, stands_at, path_follows}
 
 -- no condition of an expression was evaluated
 abbrev pub IsUntouched : Expr → ℕ → Marks → Type 0

@@ -1,8 +1,9 @@
 -- A pair stays a pair of its kind when its vectors are exchanged.
 use Rattle.std.proofs.Common.{◌≡◌, ℕ, zero, suc, Bool, true, false, not, ◌&&◌, ◌||◌, List, [], ◌∷◌, Some, refl, subst, ◌∙◌, ⊎_elim}
 use Rattle.cov_base.specs.declared.event.Vector.{Vector}
-use Rattle.decision_meaning.specs.Expr.{Expr, size}
-use Rattle.decision_meaning.specs.Marks.{Marks, marks, outcome, unmasked, precedes}
+use Rattle.cov_base.specs.Expr.{Expr, size}
+use Rattle.cov_base.specs.Marks.{Marks, marks, outcome, precedes}
+use Rattle.decision_meaning.specs.Unmasked.{unmasked}
 use Rattle.cov_base.specs.Lists.{Everywhere, Somewhere}
 use Rattle.decision_meaning.specs.Pair.{turns, others_agree, is_unique_cause, is_masking, Pair, pair_precedes, IsLeastPair}
 use Rattle.decision_meaning.proofs.Pairs.{same_swap, and_swap, agrees_swap}

@@ -2,14 +2,15 @@
 use Rattle.std.proofs.Common.{◌≡◌, ℕ, ◌+◌, ◌<◌, ◌≤◌, suc, Bool, true, false, not, cond, ◌&&◌, ◌||◌, ◌⊎◌, inl, inr, List, [], ◌∷◌, ◌++◌, eqb, refl, sym, ap, subst, ◌∙◌, ⊎_elim, append_assoc, append-nil, eqb-true, eq-eqb, ne_eqb, add-one, arith}
 use Rattle.std.proofs.lemmas.Bool.{cases_lt}
 use Rattle.cov_base.specs.declared.event.Vector.{Vector}
-use Rattle.decision_meaning.specs.Expr.{Expr, condition, negation, operator, size, value_of}
-use Rattle.decision_meaning.specs.Graph.{Next, node, leaf, Edges, target, nodes, graph}
-use Rattle.decision_meaning.specs.Marks.{Marks, marks, same, outcome, unmasked_from, unmasked}
-use Rattle.decision_meaning.specs.Path.{IsPathVector}
+use Rattle.cov_base.specs.Expr.{Expr, condition, negation, operator, size, value_of}
+use Rattle.cov_base.specs.Graph.{Next, node, leaf, Edges, target, nodes, graph}
+use Rattle.cov_base.specs.Marks.{Marks, marks, same, outcome}
+use Rattle.decision_meaning.specs.Unmasked.{unmasked_from, unmasked}
+use Rattle.cov_base.specs.Path.{IsPathVector}
 use Rattle.decision_meaning.specs.Turn.{reaches, open_from, can_turn_from, can_turn}
-use Rattle.decision_meaning.proofs.Walks.{IsAhead, ahead_before, ahead_at}
+use Rattle.cov_base.proofs.Walks.{IsAhead, ahead_before, ahead_at}
 use Rattle.decision_meaning.proofs.Shapes.{IsUntouched, Either, IsEvaluated, path_evaluates}
-use Rattle.decision_meaning.proofs.Edges.{size_some}
+use Rattle.cov_base.proofs.Edges.{size_some}
 
 -- the first condition of an expression that was evaluated was evaluated
 pub first_seen : (e : Expr) (n : ℕ) (v : Marks) → IsEvaluated e n v → v.seen n ≡ true

@@ -1,8 +1,4 @@
-pub mod Expr
-pub mod Expression
-pub mod Graph
-pub mod Marks
-pub mod Path
+pub mod Unmasked
 pub mod Pair
 pub mod Verdict
 pub mod Turn

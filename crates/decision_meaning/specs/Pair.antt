@@ -1,9 +1,10 @@
 -- Pairs of vectors that show that a condition matters.
-use Rattle.std.specs.Prelude.{◌≡◌, ℕ, zero, suc, nat_eq, Bool, true, false, not, ◌&&◌, ◌||◌, ◌⊎◌, List, [], ◌∷◌, Option, Some, None}
+use Rattle.std.specs.Prelude.{◌≡◌, ℕ, zero, suc, nat_eq, Bool, true, false, not, ◌&&◌, ◌||◌, List, Option, Some, None}
 use Rattle.cov_base.specs.declared.event.Vector.{Vector}
 use Rattle.cov_base.specs.Lists.{Everywhere, Somewhere}
-use Rattle.decision_meaning.specs.Expr.{Expr, size}
-use Rattle.decision_meaning.specs.Marks.{Marks, marks, same, outcome, unmasked, precedes}
+use Rattle.cov_base.specs.Expr.{Expr, size}
+use Rattle.cov_base.specs.Marks.{Marks, marks, same, outcome, precedes}
+use Rattle.decision_meaning.specs.Unmasked.{unmasked}
 
 -- whether condition c was evaluated in both, to different values
 abbrev pub turns : ℕ → Marks → Marks → Bool

@@ -1,7 +1,7 @@
 -- Which conditions can still turn a decision's outcome, read off its graph.
 use Rattle.std.specs.Prelude.{ℕ, suc, nat_eq, Bool, false, not, ◌&&◌, ◌||◌, List, [], ◌∷◌, if◌then◌else◌}
-use Rattle.decision_meaning.specs.Graph.{Next, node, leaf, Edges, target}
-use Rattle.decision_meaning.specs.Marks.{Marks, same}
+use Rattle.cov_base.specs.Graph.{Next, node, leaf, Edges, target}
+use Rattle.cov_base.specs.Marks.{Marks, same}
 
 -- whether the outcome that was not given can be reached from a place, where these nodes are those from which it can
 abbrev pub reaches : (ℕ → Bool) → Bool → Next → Bool

@@ -2,10 +2,10 @@
 use Rattle.std.specs.Prelude.{◌≡◌, ◌<◌, ℕ, Bool, true, false, List}
 use Rattle.cov_base.specs.declared.event.Vector.{Vector}
 use Rattle.cov_base.specs.declared.position.StmtId.{StmtId}
-use Rattle.decision_meaning.specs.Expr.{Expr, size}
-use Rattle.decision_meaning.specs.Graph.{graph}
-use Rattle.decision_meaning.specs.Marks.{Marks, marks, bit, outcome}
-use Rattle.decision_meaning.specs.Path.{IsPathVector}
+use Rattle.cov_base.specs.Expr.{Expr, size}
+use Rattle.cov_base.specs.Graph.{graph}
+use Rattle.cov_base.specs.Marks.{Marks, marks, bit, outcome}
+use Rattle.cov_base.specs.Path.{IsPathVector}
 use Rattle.cov_base.specs.Lists.{Somewhere}
 use Rattle.decision_meaning.specs.Pair.{Pair, IsPairOf}
 

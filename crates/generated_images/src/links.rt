@@ -20,7 +20,7 @@ const JUMP_REACH: u64 = 0x10_0000;
 
 /// Whether pieces begin with a word, each jump in them is in reach of its label, and their text ends
 /// before the data.
-pub fn can_be_linked(alloc: Global, pieces: &[Piece]) -> Result<bool, AllocError>
+pub(crate) fn can_be_linked(alloc: Global, pieces: &[Piece]) -> Result<bool, AllocError>
     ensures { IfOk result (λ can. IsTrue can → CanBeLinked pieces.now) }
 {
     let labels = labels(alloc, pieces)?;

@@ -3,7 +3,6 @@
 ghost use Rattle.std.specs.Prelude.{◌+◌, ◌*◌, ◌≤◌, IsTrue, length};
 ghost use Rattle.rv_semantics.specs.Layout.{memory_bytes};
 
-use cov_base::Seq;
 use line_table::RoleKind;
 use linker::Image;
 use rv_machine::{Machine, Seen, Stepped};
@@ -11,8 +10,8 @@ use rv_semantics::{MEMORY_BYTES, TEXT_START};
 use std::alloc::{AllocError, Global};
 
 /// What an executed instruction tells.
-#[derive(Clone, Copy, PartialEq, Eq)]
-pub enum Told {
+#[derive(Clone, Copy)]
+pub(crate) enum Told {
     /// A statement starts.
     Starts {
         statement: u32,
@@ -28,16 +27,16 @@ pub enum Told {
 /// What a run leaves: the number that it ended with, where it neither trapped nor went over its
 /// budget; the words that were put; what its instructions told, in order; and how many were executed.
 #[derive(Drop)]
-pub struct Shown {
+pub(crate) struct Shown {
     pub ending: Option<u32>,
-    pub put: Seq<i32>,
-    pub told: Seq<Told>,
+    pub put: Vec<i32>,
+    pub told: Vec<Told>,
     pub executed: u32,
 }
 
 /// Runs an image that has so many exceptions on an input, for at most `budget` instructions. None
 /// where the image does not lie in memory.
-pub fn run(
+pub(crate) fn run(
     alloc: Global,
     image: &Image,
     exceptions: usize,
@@ -49,46 +48,46 @@ pub fn run(
     if !lies_in_memory(TEXT_START, text) || !lies_in_memory(image.init_at, init) {
         return Ok(None);
     }
-    let machine = Machine::of_image(alloc, image.entry, text, image.init_at, init, exceptions)?;
-    Ok(Some(walk(alloc, image, machine, input, budget)?))
+    let mut machine = Machine::of_image(alloc, image.entry, text, image.init_at, init, exceptions)?;
+    let mut shown = Shown {
+        ending: None,
+        put: Vec::new(alloc),
+        told: Vec::new(alloc),
+        executed: 0,
+    };
+    walk(image, &mut machine, input, budget, &mut shown)?;
+    Ok(Some(shown))
 }
 
-/// What a machine with the text of an image shows.
+/// Adds what a machine with the text of an image shows.
 fn walk(
-    alloc: Global,
     image: &Image,
-    mut machine: Machine<'_>,
+    machine: &mut Machine<'_>,
     input: &[i32],
     budget: u32,
-) -> Result<Shown, AllocError> {
+    shown: &mut Shown,
+) -> Result<(), AllocError> {
     let mut unread = input.iter();
-    let (mut put, mut told) = (Vec::new(alloc), Vec::new(alloc));
-    let (mut ending, mut executed) = (None, 0);
     for done in 0..budget {
         let stepped = machine.step();
         let Some(seen) = seen_in(stepped) else {
             break;
         };
-        executed = done + 1;
+        shown.executed = done + 1;
         if let Some(event) = told_at(image, seen) {
-            told.push(event)?;
+            shown.told.push(event)?;
         }
         match stepped {
             Stepped::Get(_) => machine.give(unread.next().copied()),
-            Stepped::Put(_, word) => put.push(word)?,
-            Stepped::End(_, number) => ending = Some(number),
+            Stepped::Put(_, word) => shown.put.push(word)?,
+            Stepped::End(_, number) => {
+                shown.ending = Some(number);
+                break;
+            }
             Stepped::Went(_) | Stepped::Trap { .. } => {}
         }
-        if ending.is_some() {
-            break;
-        }
     }
-    Ok(Shown {
-        ending,
-        put: Seq::from(put),
-        told: Seq::from(told),
-        executed,
-    })
+    Ok(())
 }
 
 /// Whether words that stand from an address on lie in memory.

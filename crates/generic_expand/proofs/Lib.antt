@@ -1,3 +1,4 @@
 pub mod Copying
 pub mod Meaning
 pub mod Growing
+pub mod Weighing

@@ -1,2 +1,3 @@
 pub mod Expanded
 pub mod Copying
+pub mod Limits

@@ -2,8 +2,9 @@
 //! body that stands in no generic.
 //!
 //! The contract that the layers above use: [`expand`] gives the copies of a program, or refuses it
-//! exactly where it has too many instances or is too large; [`copies_mean_their_generic`] says what a
-//! copy does.
+//! exactly where it has too many instances or is too large, which [`limits_are_exact`] puts into
+//! numbers; [`copies_mean_their_generic`] says what a copy does, and [`copies_are_within_the_nodes`] how
+//! large all copies are.
 #![tactic(auto)]
 
 mod copies;
@@ -14,4 +15,4 @@ mod laws;
 pub use copies::{BodyCopy, Copies};
 pub use expansion::expand;
 pub use fault::ExpandFault;
-pub use laws::copies_mean_their_generic;
+pub use laws::{copies_are_within_the_nodes, copies_mean_their_generic, limits_are_exact};

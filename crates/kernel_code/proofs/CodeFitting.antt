@@ -2,7 +2,7 @@
 use Rattle.std.proofs.Common.{ℕ, zero, suc, ◌+◌, ◌≤◌, ◌<◌, true, false, List, [], ◌∷◌, ◌++◌, map, length, refl, arith}
 use Rattle.cov_base.specs.declared.position.DecId.{DecId}
 use Rattle.cov_base.specs.declared.position.InstId.{InstId}
-use Rattle.decision_meaning.specs.Graph.{Edges}
+use Rattle.cov_base.specs.Graph.{Edges}
 use Rattle.kernel_ir.specs.declared.code.Edge.{Edge}
 use Rattle.kernel_ir.specs.declared.code.Edge.TheVariants.{Leaf, NodeAfter}
 use Rattle.kernel_ir.specs.declared.kernel.Kernel.{Kernel}

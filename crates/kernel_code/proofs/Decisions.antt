@@ -6,8 +6,8 @@ use Rattle.cov_base.specs.declared.event.Event.TheVariants.{Done}
 use Rattle.rv_isa.specs.declared.ops.BranchOp.TheVariants.{Bne}
 use Rattle.rv_semantics.specs.Arithmetic.{sum_32, flag}
 use Rattle.rv_semantics.specs.Past.{Config}
-use Rattle.decision_meaning.specs.Graph.{node, leaf, next_in}
-use Rattle.decision_meaning.specs.Path.{Step, vector_of}
+use Rattle.cov_base.specs.Graph.{node, leaf, next_in}
+use Rattle.cov_base.specs.Path.{Step, vector_of}
 use Rattle.transcript.specs.Visit.{Key}
 use Rattle.ada_meaning.specs.Arithmetic.{is_true}
 use Rattle.kernel_ir.specs.World.{World, slot_in, noted, paid}

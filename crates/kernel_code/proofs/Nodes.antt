@@ -9,8 +9,8 @@ use Rattle.rv_semantics.specs.declared.stepped.Seen.{Seen}
 use Rattle.rv_semantics.specs.Arithmetic.{sum_32, signed, flag}
 use Rattle.rv_semantics.specs.Step.{seen}
 use Rattle.rv_semantics.specs.Past.{Config}
-use Rattle.decision_meaning.specs.Graph.{node, leaf, next_in}
-use Rattle.decision_meaning.specs.Path.{Step, vector_of}
+use Rattle.cov_base.specs.Graph.{node, leaf, next_in}
+use Rattle.cov_base.specs.Path.{Step, vector_of}
 use Rattle.transcript.specs.Facts.{Facts}
 use Rattle.transcript.specs.Visit.{Key, Visit, visit_of}
 use Rattle.ada_meaning.specs.Arithmetic.{is_true}

@@ -3,7 +3,7 @@ use Rattle.std.proofs.Common.{◌≡◌, ℕ, zero, suc, ◌+◌, ◌^◌, ◌�
 use Rattle.cov_base.specs.declared.position.DecId.{DecId}
 use Rattle.cov_base.specs.declared.position.InstId.{InstId}
 use Rattle.rv_semantics.specs.Past.{Config}
-use Rattle.decision_meaning.specs.Graph.{Edges, next_in, next_from, target}
+use Rattle.cov_base.specs.Graph.{Edges, next_in, next_from, target}
 use Rattle.kernel_ir.specs.declared.code.Edge.{Edge}
 use Rattle.kernel_ir.specs.declared.kernel.Kernel.{Kernel}
 use Rattle.kernel_ir.specs.declared.simple.Simple.{Simple}

@@ -2,7 +2,7 @@
 use Rattle.std.proofs.Common.{◌≡◌, ℕ, suc, ◌+◌, ◌≤◌, ◌<◌, List, [], ◌∷◌, ◌++◌, map, length, refl, arith, lit≤, length-append}
 use Rattle.std.specs.List.{AllByRecursion}
 use Rattle.cov_base.specs.declared.position.DecId.{DecId}
-use Rattle.decision_meaning.specs.Graph.{Edges}
+use Rattle.cov_base.specs.Graph.{Edges}
 use Rattle.cov_base.specs.Lists.{Everywhere}
 use Rattle.assembler.proofs.Codes.{all_append}
 use Rattle.kernel_ir.specs.declared.kernel.Body.{Body}

@@ -2,8 +2,8 @@
 use Rattle.std.proofs.Common.{◌≡◌, ℕ, Bool, true, false, List, ◌∷◌, Some, None, refl, sym, subst}
 use Rattle.cov_base.specs.declared.event.Event.TheVariants.{Done}
 use Rattle.rv_semantics.specs.declared.stepped.Seen.{Seen}
-use Rattle.decision_meaning.specs.Graph.{node, leaf, next_in}
-use Rattle.decision_meaning.specs.Path.{Step, vector_of}
+use Rattle.cov_base.specs.Graph.{node, leaf, next_in}
+use Rattle.cov_base.specs.Path.{Step, vector_of}
 use Rattle.transcript.specs.Facts.{Facts, AreFair}
 use Rattle.transcript.specs.Visit.{Key, Visit, visit_of, visits, same_key, steps}
 use Rattle.transcript.specs.Computed.{path_to, completed}

@@ -9,8 +9,8 @@ use Rattle.rv_isa.specs.declared.instr.Instr.TheVariants.{Immediate}
 use Rattle.rv_isa.specs.Immediates.{sign_12}
 use Rattle.rv_semantics.specs.Arithmetic.{sum_32, signed}
 use Rattle.rv_semantics.specs.Past.{Config}
-use Rattle.decision_meaning.specs.Graph.{next_in}
-use Rattle.decision_meaning.specs.Path.{Step, vector_of}
+use Rattle.cov_base.specs.Graph.{next_in}
+use Rattle.cov_base.specs.Path.{Step, vector_of}
 use Rattle.ada_meaning.specs.Arithmetic.{is_true, number_of_truth}
 use Rattle.kernel_ir.specs.declared.code.Edge.{Edge}
 use Rattle.kernel_ir.specs.declared.code.Edge.TheVariants.{Leaf, NodeAfter}

@@ -3,7 +3,7 @@
 use Rattle.std.specs.Prelude.{◌≡◌, ℕ, List, [], ◌∷◌, ◌++◌, reverse, Option, Some, None}
 use Rattle.cov_base.specs.declared.event.Event.{Event}
 use Rattle.rv_semantics.specs.declared.stepped.Seen.{Seen}
-use Rattle.decision_meaning.specs.Path.{Step}
+use Rattle.cov_base.specs.Path.{Step}
 use Rattle.transcript.specs.Facts.{Facts}
 use Rattle.transcript.specs.Visit.{Key, Visit, visit_of, visits, steps}
 use Rattle.transcript.specs.Reading.{started, Follows, IsDisciplined}

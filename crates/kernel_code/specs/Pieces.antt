@@ -2,7 +2,7 @@
 use Rattle.std.specs.Prelude.{◌≡◌, ℕ, ◌+◌, ◌≤◌, List, [], ◌∷◌, ◌++◌, map}
 use Rattle.std.specs.List.{AllByRecursion}
 use Rattle.cov_base.specs.declared.position.DecId.{DecId}
-use Rattle.decision_meaning.specs.Graph.{Edges}
+use Rattle.cov_base.specs.Graph.{Edges}
 use Rattle.rv_semantics.specs.State.{Image}
 use Rattle.transcript.specs.Facts.{Facts, AreFair}
 use Rattle.assembler.specs.declared.piece.Piece.{Piece}

@@ -3,7 +3,7 @@ use Rattle.std.proofs.Common.{ℕ, zero, suc, ◌+◌, ◌^◌, ◌≤◌, ℤ, 
 use Rattle.cov_base.specs.declared.position.DecId.{DecId}
 use Rattle.cov_base.specs.declared.position.InstId.{InstId}
 use Rattle.cov_base.specs.declared.event.Event.TheVariants.{Start, Done}
-use Rattle.decision_meaning.specs.Path.{Step, vector_of}
+use Rattle.cov_base.specs.Path.{Step, vector_of}
 use Rattle.ada_meaning.specs.Types as ada
 use Rattle.ada_meaning.specs.Refines.{Extends}
 use Rattle.ada_meaning.specs.Arithmetic.{is_true, exact}

@@ -2,7 +2,7 @@
 use Rattle.std.proofs.Common.{◌≡◌, ℕ, zero, suc, ◌+◌, Bool, true, false, List, [], ◌∷◌, ◌++◌, length, append_assoc, arith, refl, ap, subst, ◌∙◌, if◌then◌else◌, eq-eqb}
 use Rattle.std.proofs.lemmas.Bool.{ne_eqb}
 use Rattle.std.proofs.lemmas.List.{length-append}
-use Rattle.decision_meaning.specs.Graph.{Edges, target, next_from}
+use Rattle.cov_base.specs.Graph.{Edges, target, next_from}
 use Rattle.kernel_ir.specs.Tree.{Nodes, no_node, and_node}
 use Rattle.kernel_ir.specs.Limits.{next_of, edges_of}
 use Rattle.kernel_ir.specs.Laws.{AreNodesOf}

@@ -1,7 +1,7 @@
 -- Code that fits a kernel fits a larger one, with more slots.
 use Rattle.std.proofs.Common.{ℕ, ◌<◌, ◌≤◌, List, arith}
 use Rattle.cov_base.specs.declared.position.DecId.{DecId}
-use Rattle.decision_meaning.specs.Graph.{Edges}
+use Rattle.cov_base.specs.Graph.{Edges}
 use Rattle.kernel_ir.specs.declared.kernel.Kernel.{Kernel}
 use Rattle.kernel_ir.specs.declared.simple.Simple.{Simple}
 use Rattle.kernel_ir.specs.declared.simple.Simple.TheVariants as simple_op

@@ -11,8 +11,8 @@ use Rattle.kernel_ir.specs.declared.simple.Relation.TheVariants.{Equal, Less}
 use Rattle.kernel_ir.specs.declared.code.Edge.TheVariants.{Leaf, NodeAfter}
 use Rattle.kernel_ir.specs.declared.kernel.Kernel.{Kernel}
 use Rattle.kernel_ir.specs.Tree.{Op, simple, choose, forever, for_loop, exit, returns, catch, decide, call, Code, no_op, and_op, Nodes, no_node, and_node}
-use Rattle.decision_meaning.specs.Expr.{condition, operator}
-use Rattle.decision_meaning.specs.Graph.{Edges, graph}
+use Rattle.cov_base.specs.Expr.{condition, operator}
+use Rattle.cov_base.specs.Graph.{Edges, graph}
 use Rattle.cov_base.specs.declared.position.DecId.{DecId}
 use Rattle.kernel_ir.specs.World.{world_in, area_end}
 use Rattle.kernel_ir.specs.Limits.{IsWellFormed, IsWithin, kernel_instructions}
@@ -214,4 +214,4 @@ abbrev pub WithinLimits : Type 0
 WithinLimits =
     IsWellFormed and_or (deciding 1 0 1)
     × IsWithin (deciding 1 0 1)
-    × (kernel_instructions (deciding 1 0 1) ≡ 184)
+    × (kernel_instructions (deciding 1 0 1) ≡ 182)

@@ -1,6 +1,6 @@
 -- What holds of kernels.
 use Rattle.std.specs.Prelude.{◌≡◌, ℕ, suc, ◌≤◌, true, false, List, length}
-use Rattle.decision_meaning.specs.Graph.{Edges, next_in}
+use Rattle.cov_base.specs.Graph.{Edges, next_in}
 use Rattle.kernel_ir.specs.declared.kernel.Kernel.{Kernel}
 use Rattle.kernel_ir.specs.Tree.{Nodes, no_node, and_node}
 use Rattle.kernel_ir.specs.Limits.{next_of}

@@ -3,7 +3,7 @@ use Rattle.std.specs.Prelude.{◌≡◌, ℕ, ℤ, zero, suc, ◌+◌, ◌*◌, 
 use Rattle.std.specs.Int.{w32}
 use Rattle.std.specs.Int.RustNames.{FitsSigned}
 use Rattle.cov_base.specs.declared.position.DecId.{DecId}
-use Rattle.decision_meaning.specs.Graph.{Next, node, leaf, Edges}
+use Rattle.cov_base.specs.Graph.{Next, node, leaf, Edges}
 use Rattle.cov_base.specs.Lists.{Everywhere}
 use Rattle.kernel_ir.specs.declared.code.Edge.{Edge}
 use Rattle.kernel_ir.specs.declared.code.Edge.TheVariants as edge
@@ -151,38 +151,38 @@ simple_instructions (simple_op.Number k x) = 5
 simple_instructions (simple_op.Move k j) = 6
 simple_instructions (simple_op.Compare r k i j) = 11
 simple_instructions (simple_op.Complement k j) = 8
-simple_instructions (simple_op.Negate k j) = 12
-simple_instructions (simple_op.Absolute k j) = 16
-simple_instructions (simple_op.Arithmetic o k i j) = 24
+simple_instructions (simple_op.Negate k j) = 11
+simple_instructions (simple_op.Absolute k j) = 15
+simple_instructions (simple_op.Arithmetic o k i j) = 21
 simple_instructions (simple_op.Within k low high) = 13
-simple_instructions (simple_op.Index k j low high n) = 24
+simple_instructions (simple_op.Index k j low high n) = 20
 simple_instructions (simple_op.Offset k i j) = 10
 simple_instructions (simple_op.Advance k j x) = 9
-simple_instructions (simple_op.FrameAddress k j) = 8
+simple_instructions (simple_op.FrameAddress k j) = 7
 simple_instructions (simple_op.LibraryAddress k n) = 5
-simple_instructions (simple_op.Load k j) = 16
-simple_instructions (simple_op.Store j k) = 16
-simple_instructions (simple_op.ReadLibrary k n) = 6
-simple_instructions (simple_op.WriteLibrary n k) = 6
-simple_instructions (simple_op.Copy k j n) = 36
-simple_instructions (simple_op.Fill k l) = 20
+simple_instructions (simple_op.Load k j) = 15
+simple_instructions (simple_op.Store j k) = 15
+simple_instructions (simple_op.ReadLibrary k n) = 5
+simple_instructions (simple_op.WriteLibrary n k) = 5
+simple_instructions (simple_op.Copy k j n) = 34
+simple_instructions (simple_op.Fill k l) = 12
 simple_instructions (simple_op.Start s i) = 1
 simple_instructions (simple_op.Get k) = 8
 simple_instructions (simple_op.Put k) = 5
 simple_instructions (simple_op.Raise e) = 3
-simple_instructions (simple_op.RaiseSlot k) = 10
+simple_instructions (simple_op.RaiseSlot k) = 9
 
 abbrev mutual
   pub op_instructions : Op → ℕ
   op_instructions (simple s) = simple_instructions s
-  op_instructions (choose k a b) = code_instructions a + code_instructions b + 8
-  op_instructions (forever a) = code_instructions a + 2
-  op_instructions (for_loop a) = code_instructions a + 2
+  op_instructions (choose k a b) = code_instructions a + code_instructions b + 7
+  op_instructions (forever a) = code_instructions a + 1
+  op_instructions (for_loop a) = code_instructions a + 1
   op_instructions exit = 1
   op_instructions returns = 1
-  op_instructions (catch a k b) = code_instructions a + code_instructions b + 6
-  op_instructions (decide d i k ns) = nodes_instructions ns + 10
-  op_instructions (call f) = 16
+  op_instructions (catch a k b) = code_instructions a + code_instructions b + 4
+  op_instructions (decide d i k ns) = nodes_instructions ns + 9
+  op_instructions (call f) = 13
 
   pub code_instructions : Code → ℕ
   code_instructions no_op = 0

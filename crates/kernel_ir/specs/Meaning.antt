@@ -5,7 +5,7 @@ use Rattle.cov_base.specs.declared.position.DecId.{DecId}
 use Rattle.cov_base.specs.declared.position.InstId.{InstId}
 use Rattle.rv_semantics.specs.Layout.{placed}
 use Rattle.rv_semantics.specs.Arithmetic.{signed}
-use Rattle.decision_meaning.specs.Path.{Step, vector_of}
+use Rattle.cov_base.specs.Path.{Step, vector_of}
 use Rattle.ada_meaning.specs.Arithmetic.{number_of_truth, is_true}
 use Rattle.ada_meaning.specs.Execution.{by_return, by_exception, Execution, execution_of}
 use Rattle.kernel_ir.specs.declared.code.Edge.{Edge}

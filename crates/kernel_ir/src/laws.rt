@@ -2,7 +2,7 @@
 
 ghost use Rattle.std.specs.Prelude.{◌≡◌, ◌≢◌, ◌+◌, ◌++◌, ◌<◌, ◌≤◌, ◌⊎◌, ℕ, ℤ, List, [], ◌∷◌, length, Some, slice_get};
 ghost use Rattle.cov_base.specs.declared.position.DecId.{DecId};
-ghost use Rattle.decision_meaning.specs.Graph.{Edges};
+ghost use Rattle.cov_base.specs.Graph.{Edges};
 ghost use Rattle.kernel_ir.specs.declared.kernel.Kernel.{Kernel};
 ghost use Rattle.kernel_ir.specs.Examples.{Values, Operators, Checks, Words, Components, Composites, Input, Decisions, Abandoned, Loops, Handlers, CallsOf, Depth, Marks, WithinLimits};
 ghost use Rattle.kernel_ir.specs.Laws.{AreNodesOf, IsPartOf, RaisesOneOf, Refines};

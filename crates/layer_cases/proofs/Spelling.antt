@@ -1,7 +1,7 @@
 -- Postfix bytes, read from the first to the last.
 use Rattle.std.proofs.Common.{◌≡◌, ℕ, ◌<◌, ◌≤◌, ◌+◌, ◌-◌, Bool, true, false, not, ◌&&◌, List, [], ◌∷◌, ◌++◌, length, append_assoc, refl, ap, subst, sym, ◌∙◌, inl, inr, arith}
 use Rattle.std.proofs.lemmas.Bool.Decides.{eqb_tells}
-use Rattle.decision_meaning.specs.Expr.{Expr, condition, negation, operator, size, operator_byte, postfix_from, is_negation, negates_once, IsPostfixOf}
+use Rattle.cov_base.specs.Expr.{Expr, condition, negation, operator, size, operator_byte, postfix_from, is_negation, negates_once, IsPostfixOf}
 
 -- of expressions that were read, the latest first: how many conditions they have
 abbrev pub sizes : List Expr → ℕ

@@ -63,7 +63,7 @@ fn of_latest(alloc: Global, out: &mut String, command: &str, words: &str, blob: 
         "lex" => sources::lex_blob(alloc, out, blob),
         "nested" => sources::nested_blob(alloc, out, blob),
         "parse" => sources::parse_blob(alloc, out, blob, words),
-        "beginnings" => sources::beginnings_of_blob(alloc, out, blob),
+        "beginnings" => sources::beginnings_of_blob(alloc, out, blob, words),
         "regions" => sources::regions_of_blob(alloc, out, blob),
         "exempt" => sources::exempt_in_blob(alloc, out, blob, words),
         "object" => objects::object(alloc, out, blob),

@@ -12,6 +12,7 @@ ghost use Rattle.trace_format.specs.ConsolidatedChecks.{IsOrdered};
 use crate::fault::Answer;
 use crate::objects::{map_of, sameness};
 use crate::runs::{add_coverage, add_event};
+use crate::words::add_hex;
 use cov_base::{Digest, Event, Failure};
 use coverage_set::{Coverage, read_consolidated};
 use decision_map::DecisionMap;
@@ -57,9 +58,7 @@ fn vectors_of(alloc: Global, view: &ConsolidatedView<'_>) -> Result<Vec<VectorEn
 /// Adds a digest behind a word, and ends the line.
 fn add_digest(out: &mut String, word: &str, digest: &Digest) -> Result<(), AllocError> {
     write!(out, "{word} ")?;
-    for byte in digest {
-        write!(out, "{byte:02x}")?;
-    }
+    add_hex(out, digest.as_slice())?;
     out.push_str("\n")
 }
 
@@ -78,15 +77,18 @@ fn add_lists(out: &mut String, parts: &ConsolidatedParts<'_>) -> Result<(), Allo
     Ok(())
 }
 
-/// Adds whether a consolidated file is written again.
-fn add_again(
+/// Adds what a consolidated file lists, and whether it is written again.
+fn add_parts(
     alloc: Global,
     out: &mut String,
     parts: &ConsolidatedParts<'_>,
+    closing: &Digest,
     bytes: &[u8],
 ) -> Result<(), AllocError>
     requires { IsOrdered parts.now }
 {
+    add_lists(out, parts)?;
+    add_digest(out, "closed by", closing)?;
     let again = write_consolidated(alloc, parts)?;
     writeln!(out, "{} again", sameness(again.as_slice(), bytes))
 }
@@ -108,9 +110,7 @@ fn add_view(
         starts: starts.as_slice(),
         vectors: vectors.as_slice(),
     };
-    add_lists(out, &parts)?;
-    add_digest(out, "closed by", &view.closing())?;
-    add_again(alloc, out, &parts, bytes)
+    add_parts(alloc, out, &parts, &view.closing(), bytes)
 }
 
 /// Answers what a consolidated file holds.

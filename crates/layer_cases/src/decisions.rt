@@ -11,9 +11,9 @@
 //! evaluated.
 
 ghost use Rattle.std.specs.Prelude.{◌≡◌, ◌<◌, IsTrue, length};
-ghost use Rattle.decision_meaning.specs.Expr.{Expr, IsPostfixOf};
+ghost use Rattle.cov_base.specs.Expr.{Expr, IsPostfixOf};
 ghost use Rattle.cov_base.specs.Lists.{Everywhere};
-ghost use Rattle.decision_meaning.specs.Path.{IsPathVector};
+ghost use Rattle.cov_base.specs.Path.{IsPathVector};
 
 use crate::fault::{Answer, CaseFault};
 use crate::words::split_word;

@@ -25,22 +25,35 @@ pub(crate) enum CaseFault {
     Broken(BrokenHistory),
 }
 
+impl CaseFault {
+    /// The words for a fault, or those before what is told of it.
+    fn text(&self) -> &'static str {
+        match self {
+            CaseFault::Command => "no such command",
+            CaseFault::Number => "no number",
+            CaseFault::Bytes => "no bytes",
+            CaseFault::Blob => "no such blob",
+            CaseFault::Decision => "no decision",
+            CaseFault::Path => "a vector of no path",
+            CaseFault::Size => "too large",
+            CaseFault::Tokens => "no tokens",
+            CaseFault::Input(_) => "input line ",
+            CaseFault::Object(_) => "object: ",
+            CaseFault::Trace(_) | CaseFault::Fit(_) | CaseFault::Broken(_) => "trace: ",
+        }
+    }
+}
+
 impl fmt::Display for CaseFault {
     fn fmt<W: fmt::Write>(&self, f: &mut fmt::Formatter<W>) -> fmt::Result {
+        f.write_str(self.text())?;
         match self {
-            CaseFault::Command => f.write_str("no such command"),
-            CaseFault::Number => f.write_str("no number"),
-            CaseFault::Bytes => f.write_str("no bytes"),
-            CaseFault::Blob => f.write_str("no such blob"),
-            CaseFault::Decision => f.write_str("no decision"),
-            CaseFault::Path => f.write_str("a vector of no path"),
-            CaseFault::Size => f.write_str("too large"),
-            CaseFault::Tokens => f.write_str("no tokens"),
-            CaseFault::Input(line) => write!(f, "input line {line} refused"),
-            CaseFault::Object(fault) => write!(f, "object: {fault}"),
-            CaseFault::Trace(fault) => write!(f, "trace: {fault}"),
-            CaseFault::Fit(fault) => write!(f, "trace: {fault}"),
-            CaseFault::Broken(fault) => write!(f, "trace: {fault}"),
+            CaseFault::Input(line) => write!(f, "{line} refused"),
+            CaseFault::Object(fault) => write!(f, "{fault}"),
+            CaseFault::Trace(fault) => write!(f, "{fault}"),
+            CaseFault::Fit(fault) => write!(f, "{fault}"),
+            CaseFault::Broken(fault) => write!(f, "{fault}"),
+            _ => Ok(()),
         }
     }
 }

@@ -9,14 +9,17 @@
 //!
 //! The generic has COUNT constants, of which each is twice the one before, and the first twice the formal
 //! object; an array of integers over the formal type; and COUNT records, each of two of the type before.
+//! One object of the array's type is declared in the generic, one integer in no generic, and the words of
+//! both are told, by instance and in all.
 
 use crate::fault::Answer;
 use crate::words::{integer, number, split_word};
 use ada_resolved::{TypeSizes, bounds_in, constants_in, number_in};
 use ada_tree::{
-    CompositeType, FormalActual, GenericConstant, Instance, Operator, Owner, Program, Range,
-    ScalarRange, Static, StaticValue, Subtype,
+    CompositeType, FormalActual, GenericConstant, Initial, Instance, LibraryObject, Operator,
+    Owner, Program, Range, ScalarRange, Static, StaticValue, Subtype, TypeDeclaration,
 };
+use ada_types::discard_program;
 use cov_base::{Bytes, Pos, Seq};
 use std::alloc::{AllocError, Global};
 
@@ -48,6 +51,14 @@ fn doublings(alloc: Global, count: u32) -> Result<Vec<GenericConstant>, AllocErr
     Ok(constants)
 }
 
+/// The declaration of a composite type in the generic.
+fn declared(definition: CompositeType) -> TypeDeclaration {
+    TypeDeclaration {
+        generic: Some(0),
+        definition,
+    }
+}
+
 /// A record of two of the type with this number.
 fn twice(alloc: Global, number: u32) -> Result<CompositeType, AllocError> {
     let part = Subtype::Composite(Owner::Here, number);
@@ -55,13 +66,31 @@ fn twice(alloc: Global, number: u32) -> Result<CompositeType, AllocError> {
 }
 
 /// An array over the formal type, doubled by so many records.
-fn types(alloc: Global, count: u32) -> Result<Vec<CompositeType>, AllocError> {
+fn types(alloc: Global, count: u32) -> Result<Vec<TypeDeclaration>, AllocError> {
     let mut types = Vec::new(alloc);
-    types.push(CompositeType::Array(TYPE, Subtype::Scalar(INTEGER)))?;
+    let array = CompositeType::Array(TYPE, Subtype::Scalar(INTEGER));
+    types.push(declared(array))?;
     for number in 0..count {
-        types.push(twice(alloc, number)?)?;
+        types.push(declared(twice(alloc, number)?))?;
     }
     Ok(types)
+}
+
+/// An object that is declared in a package of this generic.
+fn object(declaration: u32, generic: Option<u32>, subtype: Subtype) -> LibraryObject {
+    LibraryObject {
+        declaration,
+        generic,
+        subtype,
+        initial: Initial::None,
+    }
+}
+
+/// An object of the array's type in the generic, and an integer in no generic.
+fn objects(alloc: Global) -> Result<Vec<LibraryObject>, AllocError> {
+    let array = Subtype::Composite(Owner::Here, 0);
+    let integer = Subtype::Scalar(INTEGER);
+    Ok(vec![in alloc; object(0, Some(0), array), object(1, None, integer)]?)
 }
 
 /// The instance that has this object and this range.
@@ -87,7 +116,8 @@ fn instance(alloc: Global, object: i32, range: Range) -> Result<Instance, AllocE
 /// A program that has these and nothing else.
 fn program_of(
     alloc: Global,
-    types: Vec<CompositeType>,
+    types: Vec<TypeDeclaration>,
+    objects: Vec<LibraryObject>,
     constants: Vec<GenericConstant>,
     instances: Vec<Instance>,
 ) -> Program {
@@ -95,7 +125,7 @@ fn program_of(
         subprograms: Seq::from(Vec::new(alloc)),
         main: 0,
         types: Seq::from(types),
-        objects: Seq::from(Vec::new(alloc)),
+        objects: Seq::from(objects),
         constants: Seq::from(constants),
         instances: Seq::from(instances),
         declared: Seq::from(Vec::new(alloc)),
@@ -107,9 +137,10 @@ fn program_of(
 /// The program of the generic and its instance.
 fn program(alloc: Global, object: i32, range: Range, count: u32) -> Result<Program, AllocError> {
     let types = types(alloc, count)?;
+    let objects = objects(alloc)?;
     let constants = doublings(alloc, count)?;
     let instances = vec![in alloc; instance(alloc, object, range)?]?;
-    Ok(program_of(alloc, types, constants, instances))
+    Ok(program_of(alloc, types, objects, constants, instances))
 }
 
 /// Adds a number, or that there is none.
@@ -170,7 +201,17 @@ fn add_sizes(
     out.push_str("\n")
 }
 
-/// Adds the sizes of so many types, in the instance, in no generic, and in the instance from outside.
+/// Adds how many words objects take in the instance, in no generic, and in all.
+fn add_words(out: &mut String, sizes: &TypeSizes<'_>) -> Result<(), AllocError> {
+    out.push_str("words in 1, in 0, in all:")?;
+    add_number(out, sizes.instance_size(1).map(i64::from))?;
+    add_number(out, sizes.instance_size(0).map(i64::from))?;
+    add_number(out, sizes.program_size().map(i64::from))?;
+    out.push_str("\n")
+}
+
+/// Adds the sizes of so many types, in the instance, in no generic, and in the instance from outside; and
+/// how many words objects take.
 fn add_all_sizes(
     alloc: Global,
     out: &mut String,
@@ -180,7 +221,8 @@ fn add_all_sizes(
     let sizes = TypeSizes::of(alloc, program)?;
     add_sizes(out, &sizes, 1, Owner::Here, count)?;
     add_sizes(out, &sizes, 0, Owner::Here, count)?;
-    add_sizes(out, &sizes, 0, Owner::Instance(1), count)
+    add_sizes(out, &sizes, 0, Owner::Instance(1), count)?;
+    add_words(out, &sizes)
 }
 
 /// Adds what everything in the program comes to.
@@ -196,17 +238,31 @@ fn add_program(
     add_all_sizes(alloc, out, program, count.saturating_add(1))
 }
 
+/// Adds what the generic comes to in its instance.
+fn add_generic(
+    alloc: Global,
+    out: &mut String,
+    object: i32,
+    range: Range,
+    count: u32,
+) -> Result<(), AllocError> {
+    let program = program(alloc, object, range, count)?;
+    let added = add_program(alloc, out, &program, count);
+    discard_program(program);
+    added
+}
+
 /// Answers what a generic comes to in an instance.
 pub(crate) fn generic(alloc: Global, out: &mut String, words: &str) -> Answer {
     let (object, words) = split_word(words);
     let (first, words) = split_word(words);
     let (last, count) = split_word(words);
+    let object = integer(object)?;
     let range = Range {
         first: integer(first)?,
         last: integer(last)?,
     };
     let count = u32::try_from(number(count)?).unwrap_or(u32::MAX);
-    let program = program(alloc, integer(object)?, range, count)?;
-    add_program(alloc, out, &program, count)?;
+    add_generic(alloc, out, object, range, count)?;
     Ok(())
 }

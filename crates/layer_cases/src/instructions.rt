@@ -40,6 +40,16 @@ fn registers(i: Instr) -> [Option<Reg>; 3] {
     }
 }
 
+/// Adds the numbers of registers.
+fn add_registers(out: &mut String, registers: &[Option<Reg>]) -> Result<(), AllocError> {
+    for register in registers {
+        if let Some(register) = register {
+            write!(out, " {}", register.number())?;
+        }
+    }
+    Ok(())
+}
+
 /// Adds the immediate of an instruction: the amount of a shift, and else its raw bits.
 fn add_immediate(out: &mut String, i: Instr) -> Result<(), AllocError> {
     match i {
@@ -57,17 +67,19 @@ fn add_immediate(out: &mut String, i: Instr) -> Result<(), AllocError> {
     }
 }
 
+/// Adds an instruction: its name, its registers, its immediate and its word.
+fn add_instruction(out: &mut String, i: Instr) -> Result<(), AllocError> {
+    add_name(out, i)?;
+    add_registers(out, &registers(i))?;
+    add_immediate(out, i)?;
+    writeln!(out, " {:08x}", encode(&i))
+}
+
 /// What the layer of instructions says of a word.
 pub(crate) fn word(out: &mut String, digits: &str) -> Answer {
-    let Some(i) = decode(address(digits)?) else {
-        out.push_str("none\n")?;
-        return Ok(());
-    };
-    add_name(out, i)?;
-    for register in registers(i).into_iter().flatten() {
-        write!(out, " {}", register.number())?;
+    match decode(address(digits)?) {
+        Some(i) => add_instruction(out, i)?,
+        None => out.push_str("none\n")?,
     }
-    add_immediate(out, i)?;
-    writeln!(out, " {:08x}", encode(&i))?;
     Ok(())
 }

@@ -1,7 +1,7 @@
 //! `longs NUMBER..`: a list whose count takes eight bytes, written and read again.
 
 use crate::fault::{Answer, CaseFault};
-use crate::words::number;
+use crate::words::{add_hex, number};
 use cov_base::Failure;
 use spelling::{put_long_list, read_long_list};
 use std::alloc::{AllocError, Global};
@@ -30,9 +30,7 @@ fn add_list(alloc: Global, out: &mut String, numbers: &[u64]) -> Answer {
 
 /// Adds the bytes of a long list of numbers, and how many are read from them.
 fn add_read_again(alloc: Global, out: &mut String, bytes: &[u8]) -> Answer {
-    for byte in bytes {
-        write!(out, "{byte:02x}")?;
-    }
+    add_hex(out, bytes)?;
     add_numbers_read(alloc, out, bytes)?;
     Ok(())
 }

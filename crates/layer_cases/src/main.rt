@@ -43,10 +43,11 @@ use std::io::{BufRead, BufReader, BufWriter, Write};
 fn main(rt: HostRuntime) -> io::Result<()> {
     laws::call_laws();
     let alloc = rt.alloc();
-    let mut blobs = Blobs::new(alloc);
     let mut out = BufWriter::new(alloc, io::writer(&rt))?;
-    for line in BufReader::new(alloc, rt.reader())?.lines(alloc) {
-        put_answer(alloc, &mut blobs, &mut out, line?.as_str())?;
+    let lines = BufReader::new(alloc, rt.reader())?.lines(alloc);
+    let mut blobs = Blobs::new(alloc);
+    for line in lines {
+        put_answer(alloc, &mut blobs, &mut out, line)?;
     }
     out.flush()
 }
@@ -56,11 +57,12 @@ fn put_answer<W: Write>(
     alloc: Global,
     blobs: &mut Blobs,
     out: &mut W,
-    line: &str,
+    line: io::Result<String>,
 ) -> io::Result<()> {
+    let line = line?;
     let mut answer = String::new(alloc);
-    let outcome = asking::answer(alloc, blobs, &mut answer, line);
-    put_outcome(out, line, answer.as_str(), outcome)
+    let outcome = asking::answer(alloc, blobs, &mut answer, line.as_str());
+    put_outcome(out, line.as_str(), answer.as_str(), outcome)
 }
 
 /// Puts an answer, or why there is none.

@@ -18,7 +18,7 @@ ghost use Rattle.transcript.specs.Pieces.{IsEnded};
 
 use crate::blobs::Blobs;
 use crate::fault::{Answer, CaseFault};
-use crate::words::{address, number};
+use crate::words::{add_hex, address, number};
 use cov_base::Failure;
 use decision_map::{Condition, DecisionMap, checked_objects_have_maps};
 use object_format::{
@@ -167,9 +167,7 @@ fn add_ending(
     }
     writeln!(out, "instructions: {}", ending.count)?;
     out.push_str("run: ")?;
-    for byte in &trace[trace.len().saturating_sub(32)..] {
-        write!(out, "{byte:02x}")?;
-    }
+    add_hex(out, &trace[trace.len().saturating_sub(32)..])?;
     out.push_str("\n")
 }
 

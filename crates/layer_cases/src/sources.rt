@@ -5,7 +5,7 @@
 //! | `lex` | each token's lexeme, kind, place and text, or the place of the fault |
 //! | `nested` | the place of the first token that is nested too deep |
 //! | `parse EXTENT` | the number of nodes of all units, or the place at which the source is refused |
-//! | `beginnings` | the lengths, in tokens, whose beginning is not refused at its last token |
+//! | `beginnings EXTENT` | the lengths, in tokens, whose beginning is not refused at its last token |
 //! | `regions` | the exempt regions, or the pragma that pairs with none |
 //! | `exempt FILE LINE COLUMN` | whether that place is exempt |
 
@@ -147,8 +147,12 @@ fn ends_at(tokens: &[Token], place: Pos) -> bool {
 }
 
 /// Whether tokens are refused at the last one.
-fn is_refused_at_its_end(alloc: Global, tokens: &[Token]) -> Result<bool, Failure<CaseFault>> {
-    match count_nodes(alloc, Extent::Whole, tokens) {
+fn is_refused_at_its_end(
+    alloc: Global,
+    extent: Extent,
+    tokens: &[Token],
+) -> Result<bool, Failure<CaseFault>> {
+    match count_nodes(alloc, extent, tokens) {
         Ok(_) => Ok(false),
         Err(Failure::Fault(SyntaxFault { pos })) => Ok(ends_at(tokens, pos)),
         Err(Failure::WantOfMemory) => Err(Failure::WantOfMemory),
@@ -156,9 +160,9 @@ fn is_refused_at_its_end(alloc: Global, tokens: &[Token]) -> Result<bool, Failur
 }
 
 /// Adds which beginnings of tokens are not refused at their last one.
-fn add_beginnings(alloc: Global, out: &mut String, tokens: &[Token]) -> Answer {
+fn add_beginnings(alloc: Global, out: &mut String, extent: Extent, tokens: &[Token]) -> Answer {
     for length in 0..=tokens.len() {
-        if !is_refused_at_its_end(alloc, &tokens[..length])? {
+        if !is_refused_at_its_end(alloc, extent, &tokens[..length])? {
             writeln!(out, "{length} of {} tokens", tokens.len())?;
         }
     }
@@ -166,9 +170,14 @@ fn add_beginnings(alloc: Global, out: &mut String, tokens: &[Token]) -> Answer {
 }
 
 /// Answers which beginnings of the source are not refused at their last token.
-pub(crate) fn beginnings_of_blob(alloc: Global, out: &mut String, source: &[u8]) -> Answer {
+pub(crate) fn beginnings_of_blob(
+    alloc: Global,
+    out: &mut String,
+    source: &[u8],
+    words: &str,
+) -> Answer {
     let tokens = good_tokens(alloc, source)?;
-    add_beginnings(alloc, out, tokens.as_slice())
+    add_beginnings(alloc, out, extent_of(words), tokens.as_slice())
 }
 
 /// The exempt regions of a source, or the place of the pragma that pairs with none.

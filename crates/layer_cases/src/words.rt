@@ -2,7 +2,7 @@
 
 use crate::fault::CaseFault;
 use cov_base::Failure;
-use std::alloc::Global;
+use std::alloc::{AllocError, Global};
 
 /// The first word of a text, and what stands behind the blank that ends it.
 pub(crate) fn split_word(text: &str) -> (&str, &str) {
@@ -29,4 +29,12 @@ pub(crate) fn address(word: &str) -> Result<u32, Failure<CaseFault>> {
 /// The bytes that hexadecimal digits stand for.
 pub(crate) fn bytes(alloc: Global, digits: &str) -> Result<Vec<u8>, Failure<CaseFault>> {
     hex::decode(alloc, digits).map_err(|_| Failure::Fault(CaseFault::Bytes))
+}
+
+/// Adds bytes in hexadecimal digits.
+pub(crate) fn add_hex(out: &mut String, bytes: &[u8]) -> Result<(), AllocError> {
+    for byte in bytes {
+        write!(out, "{byte:02x}")?;
+    }
+    Ok(())
 }

@@ -1,16 +1,15 @@
 -- Code that is put behind code.
-use Rattle.std.proofs.Common.{◌≡◌, ℕ, zero, suc, ◌+◌, ◌<◌, ◌≤◌, max, drop, get_or, List, [], ◌∷◌, length, arith, Result, Ok, Err, OnOk, refl, sym, ap, ◌∙◌}
+use Rattle.std.proofs.Common.{◌≡◌, ℕ, ◌+◌, ◌<◌, ◌≤◌, max, drop, get_or, List, [], ◌∷◌, length, arith, Result, Ok, Err, OnOk, refl, sym, ap, ◌∙◌}
 use Rattle.std.proofs.lemmas.List.{at_drop_more, at_drop_all}
 use Rattle.ada_meaning.specs.Tree as tree
 use Rattle.ada_tree.specs.declared.expr.Actual.{Actual}
 use Rattle.ada_tree.specs.declared.expr.Operand.{Operand}
-use Rattle.ada_tree.specs.Sizes.{expr_size}
 use Rattle.ada_tree.specs.View.{operator_of, with_operands, actuals_of}
 use Rattle.kernel_ir.proofs.Joining.{joined_nothing, joined_assoc}
 use Rattle.kernel_ir.specs.Sequence.{joined}
 use Rattle.kernel_ir.specs.declared.simple.Simple.{Simple}
 use Rattle.kernel_ir.specs.Tree.{simple, Code, no_op, and_op}
-use Rattle.lower.specs.Known.{number_of, bounds_of}
+use Rattle.lower.specs.Known.{Known}
 use Rattle.lower.specs.Chain.{operand_code, operands_code, end_of_operands}
 use Rattle.lower.specs.Lowered.{one, end_of, end_of_declarations, end_of_statements, expr_code}
 use Rattle.lower.proofs.Values.{end_is_above}
@@ -47,11 +46,11 @@ no_actual [] none = refl
 no_actual (x ∷ actuals) none = absurd (omega (arith, none))
 
 -- the code of a chain is that of its first operand, and then that of the others
-pub chain_code : (k : ℕ) (e : tree.Expr) (os : List Operand)
-    → expr_code number_of bounds_of k (with_operands e os) ≡ joined (expr_code number_of bounds_of k e) (operands_code k os)
-chain_code k e [] = sym (joined_nothing (expr_code number_of bounds_of k e))
-chain_code k e (o ∷ os) =
-    chain_code k (tree.operation (operator_of o.operator) e o.operand) os ∙ joined_assoc (expr_code number_of bounds_of k e) (operand_code k o) (operands_code k os)
+pub chain_code : (known : Known) (k : ℕ) (e : tree.Expr) (os : List Operand)
+    → expr_code known k (with_operands e os) ≡ joined (expr_code known k e) (operands_code known k os)
+chain_code known k e [] = sym (joined_nothing (expr_code known k e))
+chain_code known k e (o ∷ os) =
+    chain_code known k (tree.operation (operator_of o.operator) e o.operand) os ∙ joined_assoc (expr_code known k e) (operand_code known k o) (operands_code known k os)
 
 pub operands_above : (k : ℕ) (os : List Operand) → k < end_of_operands k os
 operands_above k [] = omega arith
@@ -60,33 +59,6 @@ operands_above k (o ∷ os) = omega (arith, operands_above k os)
 pub chain_end : (k : ℕ) (e : tree.Expr) (os : List Operand) → end_of k (with_operands e os) ≡ max (end_of k e) (end_of_operands k os)
 chain_end k e [] = omega (arith, end_is_above k e)
 chain_end k e (o ∷ os) = omega (arith, chain_end k (tree.operation (operator_of o.operator) e o.operand) os)
-
--- how large the operands of a chain are
-abbrev pub operands_size : List Operand → ℕ
-operands_size [] = 0
-operands_size (o ∷ os) = expr_size o.operand + operands_size os + 1
-
-pub chain_size : (e : tree.Expr) (os : List Operand) → expr_size (with_operands e os) ≡ expr_size e + operands_size os
-chain_size e [] = omega arith
-chain_size e (o ∷ os) = omega (arith, chain_size (tree.operation (operator_of o.operator) e o.operand) os)
-
-pub operand_within : (os : List Operand) (i : ℕ) (d : Operand) → i < length os → expr_size (get_or os i d).operand + 1 ≤ operands_size os
-operand_within [] i d h = absurd (omega arith)
-operand_within (o ∷ os) zero d h = omega arith
-operand_within (o ∷ os) (suc i) d h = omega (arith, operand_within os i d (omega arith))
-
-pub expr_positive : (e : tree.Expr) → 1 ≤ expr_size e
-expr_positive (tree.literal x) = omega arith
-expr_positive (tree.constant e) = omega arith
-expr_positive (tree.attribute o parts e) = omega arith
-expr_positive (tree.read o parts) = omega arith
-expr_positive (tree.signed s e) = omega arith
-expr_positive (tree.operation o e f) = omega arith
-expr_positive (tree.relation r e f) = omega arith
-expr_positive (tree.complement e) = omega arith
-expr_positive (tree.conversion r e) = omega arith
-expr_positive (tree.call c actuals) = omega arith
-expr_positive (tree.decision d t) = omega arith
 
 -- the code of the items of a list, one after another: of one more item, and where none is left
 pub one_more : {X : Type 0} (F : List X → Code) (f : X → Code) → ((x : X) (xs : List X) → F (x ∷ xs) ≡ joined (f x) (F xs))

@@ -11,8 +11,8 @@ use Rattle.ada_meaning.specs.Tree as tree
 use Rattle.ada_meaning.specs.Tree.{shape_of}
 use Rattle.ada_meaning.specs.Types as type
 use Rattle.cov_base.specs.declared.position.DecId.{DecId}
-use Rattle.decision_meaning.specs.Graph as logic
-use Rattle.decision_meaning.specs.Graph.{Next, Edges}
+use Rattle.cov_base.specs.Graph as logic
+use Rattle.cov_base.specs.Graph.{Next, Edges}
 use Rattle.cov_base.specs.Lists.{Everywhere}
 use Rattle.kernel_ir.proofs.Joining.{joined_fits, joined_lacks}
 use Rattle.kernel_ir.specs.declared.code.Edge.{Edge}
@@ -20,25 +20,15 @@ use Rattle.kernel_ir.specs.declared.code.Edge.TheVariants as edge
 use Rattle.kernel_ir.specs.Limits.{IsWord, SimpleFits, EdgeFits, OpFits, CodeFits, NodesFit, CodeLacks, NodesLack, IsWellFormed, count, edges_of, next_of, most_arguments}
 use Rattle.kernel_ir.specs.Tree.{Code, exit, no_op, Nodes, no_node}
 use Rattle.kernel_ir.specs.Sequence.{joined}
-use Rattle.lower.specs.Known.{number_of, bounds_of}
+use Rattle.lower.specs.Known.{known_outside}
 use Rattle.lower.specs.Lowered.{one, within, single, sign_on, past, end_of, end_of_test, end_of_call, end_of_value, end_of_declaration, end_of_declarations, end_of_statement, end_of_statements, end_of_branches, end_of_block, objects_in, width_of, expr_code, nodes_code, decide_on, decided_code, value_code, call_code, declaration_code, declarations_code, statement_code, statements_code, branches_code, block_code, body_of, kernel_of}
-use Rattle.lower.specs.Structured.{IsVisible, behind, behind_all, AreInBase, IsPlainRange, IsPlainStatic, IsPlainExpr, IsPlainTest, IsPlainValue, IsPlainCall, IsPlainDeclaration, ArePlainDeclarations, IsPlainStatement, ArePlainStatements, ArePlainBranches, IsPlainBlock, IsPlainProcedure, IsStructured}
+use Rattle.lower.specs.Structured.{IsVisible, behind, behind_all, AreInBase, IsPlainExpr, IsPlainTest, IsPlainValue, IsPlainCall, IsPlainDeclaration, ArePlainDeclarations, IsPlainStatement, ArePlainStatements, ArePlainBranches, IsPlainBlock, IsPlainProcedure, IsStructured}
 use Rattle.lower.proofs.Follows.{block_above}
+use Rattle.lower.proofs.Known.{number_in_base, bounds_in_base}
 use Rattle.lower.proofs.Marks.{one_more_decided}
 use Rattle.lower.proofs.Values.{end_is_above, test_is_above}
 
 -- numbers of the base range are words
--- what is plain is in the base range
-range_plain : (r : type.Range) → IsPlainRange r → AreInBase (bounds_of r)
-range_plain (type.between (type.static_number x) (type.static_number y)) plain = plain
-range_plain r plain = absurd plain
-
-number_plain : (e : type.Static) → IsPlainStatic e → is_within base_range (number_of e) ≡ true
-number_plain (type.static_number x) plain = plain
-number_plain (type.static_first (type.between (type.static_number x) (type.static_number y))) plain = plain
-number_plain (type.static_last (type.between (type.static_number x) (type.static_number y))) plain = plain
-number_plain e plain = absurd plain
-
 word_is : (x : ℤ) → is_within base_range x ≡ true → IsWord x
 word_is (pos n) is = record { sfits = grind (arith, ints, nat_tests) }
 word_is (negsuc n) is = record { sfits = grind (arith, ints, nat_tests) }
@@ -132,7 +122,7 @@ module _ (p : Program) where
   second_others d xs ys h = second_all (λ g. d.0 ≢ g.label.number) xs ys h
 
   mutual
-    expr_lacks : (e : tree.Expr) (n : List ℕ) (s k : ℕ) (d : DecId) → IsPlainExpr p n e → Others d (in_expr s e) → CodeLacks d (expr_code number_of bounds_of k e)
+    expr_lacks : (e : tree.Expr) (n : List ℕ) (s k : ℕ) (d : DecId) → IsPlainExpr p n e → Others d (in_expr s e) → CodeLacks d (expr_code (known_outside p) k e)
     expr_lacks (tree.literal x) n s k d plain others = (tt, tt)
     expr_lacks (tree.constant e) n s k d plain others = (tt, tt)
     expr_lacks (tree.read (tree.local_object m) tree.whole) n s k d plain others = (tt, tt)
@@ -148,15 +138,15 @@ module _ (p : Program) where
     expr_lacks e n s k d plain others = absurd plain
 
     nodes_lack : (t : tree.Test) (n : List ℕ) (s k : ℕ) (on_true on_false : Edge) (rest : Nodes) (d : DecId) → IsPlainTest p n t → Others d (in_test s t) → NodesLack d rest
-        → NodesLack d (nodes_code number_of bounds_of k t on_true on_false rest)
+        → NodesLack d (nodes_code (known_outside p) k t on_true on_false rest)
     nodes_lack (tree.condition at_place e) n s k on_true on_false rest d plain others h = (expr_lacks e n s k d plain others, h)
     nodes_lack (tree.negation t) n s k on_true on_false rest d plain others h = nodes_lack t n s k on_false on_true rest d plain others h
     nodes_lack (tree.operator true t u) n s k on_true on_false rest d plain others h =
-        nodes_lack t n s k (edge.NodeAfter 0) (past (tree.conditions_of u) on_false) (nodes_code number_of bounds_of k u on_true on_false rest) d plain.0
+        nodes_lack t n s k (edge.NodeAfter 0) (past (tree.conditions_of u) on_false) (nodes_code (known_outside p) k u on_true on_false rest) d plain.0
         (first_others d (in_test s t) (in_test s u) others)
         (nodes_lack u n s k on_true on_false rest d plain.1 (second_others d (in_test s t) (in_test s u) others) h)
     nodes_lack (tree.operator false t u) n s k on_true on_false rest d plain others h =
-        nodes_lack t n s k (past (tree.conditions_of u) on_true) (edge.NodeAfter 0) (nodes_code number_of bounds_of k u on_true on_false rest) d plain.0
+        nodes_lack t n s k (past (tree.conditions_of u) on_true) (edge.NodeAfter 0) (nodes_code (known_outside p) k u on_true on_false rest) d plain.0
         (first_others d (in_test s t) (in_test s u) others)
         (nodes_lack u n s k on_true on_false rest d plain.1 (second_others d (in_test s t) (in_test s u) others) h)
 
@@ -178,7 +168,7 @@ module _ (p : Program) where
 
   -- the nodes of a test are those of its shape
   edges_are : (t : tree.Test) (k at next : ℕ) (on_true on_false : Edge) (rest : Nodes) → next ≡ at + tree.conditions_of t
-      → edges_of at (nodes_code number_of bounds_of k t on_true on_false rest)
+      → edges_of at (nodes_code (known_outside p) k t on_true on_false rest)
       ≡ logic.nodes (shape_of t) at (leads next on_true) (leads next on_false) ++ edges_of next rest
   edges_are (tree.condition at_place e) k at next on_true on_false rest last =
       let following : next ≡ suc at = omega (arith, last) in
@@ -187,33 +177,33 @@ module _ (p : Program) where
   edges_are (tree.operator true t u) k at next on_true on_false rest last =
       let middle = at + tree.conditions_of t in
       let left = logic.nodes (shape_of t) at (logic.node middle) (leads next on_false) in
-      edges_are t k at middle (edge.NodeAfter 0) (past (tree.conditions_of u) on_false) (nodes_code number_of bounds_of k u on_true on_false rest) refl
+      edges_are t k at middle (edge.NodeAfter 0) (past (tree.conditions_of u) on_false) (nodes_code (known_outside p) k u on_true on_false rest) refl
       ∙ (λ i. logic.nodes (shape_of t) at (leads_next middle i) (leads_past (tree.conditions_of u) middle next on_false (omega (arith, last)) i)
       ++ edges_are u k middle next on_true on_false rest (omega (arith, last)) i)
       ∙ sym (append_assoc left (logic.nodes (shape_of u) middle (leads next on_true) (leads next on_false)) (edges_of next rest))
   edges_are (tree.operator false t u) k at next on_true on_false rest last =
       let middle = at + tree.conditions_of t in
       let left = logic.nodes (shape_of t) at (leads next on_true) (logic.node middle) in
-      edges_are t k at middle (past (tree.conditions_of u) on_true) (edge.NodeAfter 0) (nodes_code number_of bounds_of k u on_true on_false rest) refl
+      edges_are t k at middle (past (tree.conditions_of u) on_true) (edge.NodeAfter 0) (nodes_code (known_outside p) k u on_true on_false rest) refl
       ∙ (λ i. logic.nodes (shape_of t) at (leads_past (tree.conditions_of u) middle next on_true (omega (arith, last)) i) (leads_next middle i)
       ++ edges_are u k middle next on_true on_false rest (omega (arith, last)) i)
       ∙ sym (append_assoc left (logic.nodes (shape_of u) middle (leads next on_true) (leads next on_false)) (edges_of next rest))
 
   -- a node for each condition, of which there is one at least
   count_is : (t : tree.Test) (k : ℕ) (on_true on_false : Edge) (rest : Nodes)
-      → count (nodes_code number_of bounds_of k t on_true on_false rest) ≡ tree.conditions_of t + count rest
+      → count (nodes_code (known_outside p) k t on_true on_false rest) ≡ tree.conditions_of t + count rest
   count_is (tree.condition at_place e) k on_true on_false rest = omega arith
   count_is (tree.negation t) k on_true on_false rest = count_is t k on_false on_true rest
   count_is (tree.operator true t u) k on_true on_false rest =
       omega (
         arith,
-        count_is t k (edge.NodeAfter 0) (past (tree.conditions_of u) on_false) (nodes_code number_of bounds_of k u on_true on_false rest),
+        count_is t k (edge.NodeAfter 0) (past (tree.conditions_of u) on_false) (nodes_code (known_outside p) k u on_true on_false rest),
         count_is u k on_true on_false rest,
       )
   count_is (tree.operator false t u) k on_true on_false rest =
       omega (
         arith,
-        count_is t k (past (tree.conditions_of u) on_true) (edge.NodeAfter 0) (nodes_code number_of bounds_of k u on_true on_false rest),
+        count_is t k (past (tree.conditions_of u) on_true) (edge.NodeAfter 0) (nodes_code (known_outside p) k u on_true on_false rest),
         count_is u k on_true on_false rest,
       )
 
@@ -224,7 +214,7 @@ module _ (p : Program) where
 
   -- an edge past the nodes of a test fits where it fits behind them
   past_fits : (u : tree.Test) (k : ℕ) (on_true on_false e : Edge) (rest : Nodes) → EdgeFits e rest
-      → EdgeFits (past (tree.conditions_of u) e) (nodes_code number_of bounds_of k u on_true on_false rest)
+      → EdgeFits (past (tree.conditions_of u) e) (nodes_code (known_outside p) k u on_true on_false rest)
   past_fits u k on_true on_false (edge.Leaf outcome) rest fits = tt
   past_fits u k on_true on_false (edge.NodeAfter skipped) rest fits = omega (arith, fits, count_is u k on_true on_false rest)
 
@@ -246,8 +236,8 @@ module _ (p : Program) (slots : ℕ) (graph : DecId → List Edges) where
   -- a decision is its graph, and is not evaluated in its conditions
   decision_fits : (d : tree.Label) (t : tree.Test) (n : List ℕ) (s k : ℕ) → IsPlainTest p n t → k < slots
       → (graph (record { 0 = d.number }) ≡ logic.graph (shape_of t)) × (tree.conditions_of t ≤ 32) × HaveOthers d.number (in_test s t) × AreOwn graph (in_test s t)
-      → NodesFit (kernel_of p) slots graph (nodes_code number_of bounds_of k t (edge.Leaf true) (edge.Leaf false) no_node)
-      → OpFits (kernel_of p) slots graph (decide_on number_of bounds_of k d t)
+      → NodesFit (kernel_of p) slots graph (nodes_code (known_outside p) k t (edge.Leaf true) (edge.Leaf false) no_node)
+      → OpFits (kernel_of p) slots graph (decide_on (known_outside p) k d t)
   decision_fits d t n s k plain room own fit =
       let many = count_is p t k (edge.Leaf true) (edge.Leaf false) no_node in (
         room,
@@ -261,9 +251,9 @@ module _ (p : Program) (slots : ℕ) (graph : DecId → List Edges) where
   module _ (objects : ℕ) (some : objects < slots) where
     mutual
       expr_fits : (e : tree.Expr) (n : List ℕ) (s k : ℕ) → IsPlainExpr p n e → AreBelow objects n → end_of k e ≤ slots → AreOwn graph (in_expr s e)
-          → Fits (expr_code number_of bounds_of k e)
+          → Fits (expr_code (known_outside p) k e)
       expr_fits (tree.literal x) n s k plain below room own = ((omega (arith, room), word_is x plain), tt)
-      expr_fits (tree.constant e) n s k plain below room own = ((omega (arith, room), word_is (number_of e) (number_plain e plain)), tt)
+      expr_fits (tree.constant e) n s k plain below room own = ((omega (arith, room), word_is _ (number_in_base p e plain)), tt)
       expr_fits (tree.read (tree.local_object d) tree.whole) n s k plain below room own = ((omega (arith, room), omega (arith, below d plain, some)), tt)
       expr_fits (tree.signed o e) n s k plain below room own =
           both_fit _ _ (expr_fits e n s k plain below room own) (signs_fit k o (omega (arith, room, end_is_above k e)), tt)
@@ -287,19 +277,19 @@ module _ (p : Program) (slots : ℕ) (graph : DecId → List Edges) where
 
       nodes_fit : (t : tree.Test) (n : List ℕ) (s k : ℕ) (on_true on_false : Edge) (rest : Nodes) → IsPlainTest p n t → AreBelow objects n → end_of_test k t ≤ slots
           → AreOwn graph (in_test s t) → EdgeFits on_true rest → EdgeFits on_false rest → NodesFit (kernel_of p) slots graph rest
-          → NodesFit (kernel_of p) slots graph (nodes_code number_of bounds_of k t on_true on_false rest)
+          → NodesFit (kernel_of p) slots graph (nodes_code (known_outside p) k t on_true on_false rest)
       nodes_fit (tree.condition at_place e) n s k on_true on_false rest plain below room own true_fits false_fits h =
           (expr_fits e n s k plain below room own, omega (arith, room, end_is_above k e), true_fits, false_fits, h)
       nodes_fit (tree.negation t) n s k on_true on_false rest plain below room own true_fits false_fits h =
           nodes_fit t n s k on_false on_true rest plain below room own false_fits true_fits h
       nodes_fit (tree.operator true t u) n s k on_true on_false rest plain below room own true_fits false_fits h =
-          let right = nodes_code number_of bounds_of k u on_true on_false rest in
+          let right = nodes_code (known_outside p) k u on_true on_false rest in
           nodes_fit t n s k (edge.NodeAfter 0) (past (tree.conditions_of u) on_false) right plain.0 below (omega (arith, room))
           (first_own graph (in_test s t) (in_test s u) own) (omega (arith, count_is p u k on_true on_false rest, has_condition p u))
           (past_fits p u k on_true on_false on_false rest false_fits)
           (nodes_fit u n s k on_true on_false rest plain.1 below (omega (arith, room)) (second_own graph (in_test s t) (in_test s u) own) true_fits false_fits h)
       nodes_fit (tree.operator false t u) n s k on_true on_false rest plain below room own true_fits false_fits h =
-          let right = nodes_code number_of bounds_of k u on_true on_false rest in
+          let right = nodes_code (known_outside p) k u on_true on_false rest in
           nodes_fit t n s k (past (tree.conditions_of u) on_true) (edge.NodeAfter 0) right plain.0 below (omega (arith, room))
           (first_own graph (in_test s t) (in_test s u) own) (past_fits p u k on_true on_false on_true rest true_fits)
           (omega (arith, count_is p u k on_true on_false rest, has_condition p u))
@@ -307,37 +297,37 @@ module _ (p : Program) (slots : ℕ) (graph : DecId → List Edges) where
 
     decided_fits : (standing : Standing) (s : ℕ) (d : tree.Label) (t : tree.Test) (a b : Code) (n : List ℕ) → IsPlainTest p n t → AreBelow objects n
         → end_of_test objects t ≤ slots → AreOwn graph (in_decision s standing d t) → Fits a → Fits b
-        → Fits (decided_code number_of bounds_of objects d t a b)
+        → Fits (decided_code (known_outside p) objects d t a b)
     decided_fits standing s d t a b n plain below room own h g = (
       decision_fits d t n s objects plain some own (nodes_fit t n s objects (edge.Leaf true) (edge.Leaf false) no_node plain below room own.3 tt tt tt),
       ((some, h, g), tt),
     )
 
     value_fits : (x : tree.NewValue) (n : List ℕ) (s d : ℕ) → IsPlainValue p n x → AreBelow objects n → d < objects → end_of_value objects x ≤ slots → AreOwn graph (in_value s x)
-        → Fits (value_code number_of bounds_of objects (tree.local_object d) x)
+        → Fits (value_code (known_outside p) objects (tree.local_object d) x)
     value_fits (tree.scalar_value r e) n s d plain below lt room own =
-        both_fit _ _ (expr_fits e n s objects plain.1 below room own) (checks_fit objects (bounds_of r) some (range_plain r plain.0), ((omega (arith, lt, some), some), tt))
+        both_fit _ _ (expr_fits e n s objects plain.1 below room own) (checks_fit objects ((known_outside p).bounds r) some (bounds_in_base p r plain.0), ((omega (arith, lt, some), some), tt))
     value_fits x n s d plain below lt room own = absurd plain
 
     call_fits : (c : tree.Callee) (actuals : tree.Actuals) (n : List ℕ) (s : ℕ) → IsPlainCall p n c actuals → AreBelow objects n → end_of_call objects c actuals ≤ slots
         → AreOwn graph (in_actuals s actuals)
-        → Fits (call_code number_of bounds_of objects c actuals)
+        → Fits (call_code (known_outside p) objects c actuals)
     call_fits tree.test_put (tree.by_expression e tree.no_actual) n s plain below room own =
         both_fit _ _ (expr_fits e n s objects plain below room (first_own graph (in_expr s e) [] own)) (checks_fit objects base_range some (refl, refl), (some, tt))
     call_fits tree.test_get (tree.by_variable (tree.local_object d) tree.whole r tree.no_actual) n s plain below room own =
-        (some, (checks_fit objects (bounds_of r) some (range_plain r plain.1), ((omega (arith, some, below d plain.0), some), tt)))
-    call_fits (tree.subprogram (type.of_instance zero) m) tree.no_actual n s plain below room own = (rw (length-map p.subprograms (body_of number_of bounds_of)) plain, tt)
+        (some, (checks_fit objects ((known_outside p).bounds r) some (bounds_in_base p r plain.1), ((omega (arith, some, below d plain.0), some), tt)))
+    call_fits (tree.subprogram (type.of_instance zero) m) tree.no_actual n s plain below room own = (rw (length-map p.subprograms (body_of (known_outside p))) plain, tt)
     call_fits c actuals n s plain below room own = absurd plain
 
     declaration_fits : (d : tree.Declaration) (n : List ℕ) → IsPlainDeclaration p objects n d → AreBelow objects n → end_of_declaration objects d ≤ slots
-        → AreOwn graph (in_declarations (d ∷ [])) → Fits (declaration_code number_of bounds_of objects d)
+        → AreOwn graph (in_declarations (d ∷ [])) → Fits (declaration_code (known_outside p) objects d)
     declaration_fits (tree.initialized l d x) n plain below room own =
         (tt, value_fits x n l.number d plain.1 below plain.0 room (first_own graph (in_value l.number x) [] own))
-    declaration_fits (tree.without_value d (type.scalar r)) n plain below room own = ((omega (arith, plain.0, some), word_is (bounds_of r).low (range_plain r plain.1).0), tt)
+    declaration_fits (tree.without_value d (type.scalar r)) n plain below room own = ((omega (arith, plain.0, some), word_is _ (bounds_in_base p r plain.1).0), tt)
     declaration_fits d n plain below room own = absurd plain
 
     declarations_fit : (ds : List tree.Declaration) (n : List ℕ) → ArePlainDeclarations p objects n ds → AreBelow objects n → end_of_declarations objects ds ≤ slots
-        → AreOwn graph (in_declarations ds) → Fits (declarations_code number_of bounds_of objects ds)
+        → AreOwn graph (in_declarations ds) → Fits (declarations_code (known_outside p) objects ds)
     declarations_fit [] n plain below room own = tt
     declarations_fit (d ∷ ds) n plain below room own =
         let both : AreOwn graph (in_declarations (d ∷ []) ++ in_declarations ds) = subst (AreOwn graph) (sym (one_more_decided p d ds)) own in
@@ -347,7 +337,7 @@ module _ (p : Program) (slots : ℕ) (graph : DecId → List Edges) where
 
     mutual
       statement_fits : (s : tree.Stmt) (n : List ℕ) → IsPlainStatement p objects n s → AreBelow objects n → end_of_statement objects s ≤ slots → AreOwn graph (in_stmt s)
-          → Fits (statement_code number_of bounds_of objects s)
+          → Fits (statement_code (known_outside p) objects s)
       statement_fits (tree.null_statement l) n plain below room own = (tt, tt)
       statement_fits (tree.return_statement l) n plain below room own = (tt, (tt, tt))
       statement_fits (tree.exit_statement l) n plain below room own = (tt, (tt, tt))
@@ -358,7 +348,7 @@ module _ (p : Program) (slots : ℕ) (graph : DecId → List Edges) where
       statement_fits (tree.while_loop l d t ss) n plain below room own = (
         tt,
         (
-          decided_fits after_while l.number d t (statements_code number_of bounds_of objects ss) (single exit) n plain.0 below (omega (arith, room)) (first_own graph (in_decision l.number after_while d t) (in_stmts ss) own)
+          decided_fits after_while l.number d t (statements_code (known_outside p) objects ss) (single exit) n plain.0 below (omega (arith, room)) (first_own graph (in_decision l.number after_while d t) (in_stmts ss) own)
               (statements_fit ss n plain.1 below (omega (arith, room)) (second_own graph (in_decision l.number after_while d t) (in_stmts ss) own)) (tt, tt),
           tt,
         ),
@@ -369,7 +359,7 @@ module _ (p : Program) (slots : ℕ) (graph : DecId → List Edges) where
 
       statements_fit : (ss : tree.Stmts) (n : List ℕ) → ArePlainStatements p objects n ss → AreBelow objects n → end_of_statements objects ss ≤ slots
           → AreOwn graph (in_stmts ss)
-          → Fits (statements_code number_of bounds_of objects ss)
+          → Fits (statements_code (known_outside p) objects ss)
       statements_fit tree.no_statement n plain below room own = tt
       statements_fit (tree.and_statement s ss) n plain below room own =
           both_fit _ _ (statement_fits s n plain.0 below (omega (arith, room)) (first_own graph (in_stmt s) (in_stmts ss) own))
@@ -377,16 +367,16 @@ module _ (p : Program) (slots : ℕ) (graph : DecId → List Edges) where
 
       branches_fit : (bs : tree.Branches) (s : ℕ) (n : List ℕ) → ArePlainBranches p objects n bs → AreBelow objects n → end_of_branches objects bs ≤ slots
           → AreOwn graph (in_branches s bs)
-          → Fits (branches_code number_of bounds_of objects bs)
+          → Fits (branches_code (known_outside p) objects bs)
       branches_fit (tree.else_part ss) s n plain below room own = statements_fit ss n plain below room own
       branches_fit (tree.branch d t ss bs) s n plain below room own =
           let first = first_own graph (in_decision s after_if d t ++ in_stmts ss) (in_branches s bs) own in
-          decided_fits after_if s d t (statements_code number_of bounds_of objects ss) (branches_code number_of bounds_of objects bs) n plain.0 below (omega (arith, room)) (first_own graph (in_decision s after_if d t) (in_stmts ss) first)
+          decided_fits after_if s d t (statements_code (known_outside p) objects ss) (branches_code (known_outside p) objects bs) n plain.0 below (omega (arith, room)) (first_own graph (in_decision s after_if d t) (in_stmts ss) first)
           (statements_fit ss n plain.1 below (omega (arith, room)) (second_own graph (in_decision s after_if d t) (in_stmts ss) first))
           (branches_fit bs s n plain.2 below (omega (arith, room)) (second_own graph (in_decision s after_if d t ++ in_stmts ss) (in_branches s bs) own))
 
       block_fits : (b : tree.Block) (n : List ℕ) → IsPlainBlock p objects n b → AreBelow objects n → end_of_block objects b ≤ slots → AreOwn graph (in_block b)
-          → Fits (block_code number_of bounds_of objects b)
+          → Fits (block_code (known_outside p) objects b)
       block_fits (tree.block ds ss tree.no_handler) n plain below room own =
           let both = first_own graph (in_declarations ds ++ in_stmts ss) [] own in
           both_fit _ _ (declarations_fit ds n plain.0 below (omega (arith, room)) (first_own graph (in_declarations ds) (in_stmts ss) both))
@@ -396,7 +386,7 @@ module _ (p : Program) (slots : ℕ) (graph : DecId → List Edges) where
 
 bodies_fit : (p : Program) (graph : DecId → List Edges) (ss : List Subprogram) → Everywhere (IsPlainProcedure p) ss
     → AreOwn graph (decisions_of ss)
-    → Everywhere (λ b. CodeFits (kernel_of p) (b.width + most_arguments) graph b.code) (map (body_of number_of bounds_of) ss)
+    → Everywhere (λ b. CodeFits (kernel_of p) (b.width + most_arguments) graph b.code) (map (body_of (known_outside p)) ss)
 bodies_fit p graph [] plain own = tt
 bodies_fit p graph (s ∷ ss) plain own =
     let k = objects_in s.body in (
@@ -411,7 +401,7 @@ pub well_formed_law : (p : Program) → IsStructured p → (graph : DecId → Li
     → Everywhere (λ h. tree.conditions_of h.test ≤ 32) (decisions_of p.subprograms) → IsWellFormed graph (kernel_of p)
 well_formed_law p plain graph own numbered few = record {
   bodies = bodies_fit p graph p.subprograms plain.bodies (numbered_own graph (decisions_of p.subprograms) 0 own numbered few);
-  main = rw (length-map p.subprograms (body_of number_of bounds_of)) plain.main;
+  main = rw (length-map p.subprograms (body_of (known_outside p))) plain.main;
   layouts = tt;
   library = tt;
   predefined = omega arith;

@@ -13,7 +13,7 @@ use Rattle.kernel_ir.specs.Limits.{IsWithin, most_arguments, widest}
 use Rattle.kernel_ir.specs.Meaning as code
 use Rattle.kernel_ir.specs.World.{Memory, Ended, Ends, Cut, area_end}
 use Rattle.kernel_ir.specs.World as kernel
-use Rattle.lower.specs.Known.{number_of, bounds_of}
+use Rattle.lower.specs.Known.{known_outside}
 use Rattle.lower.specs.Lowered.{objects_in, end_of_block, width_of, body_of, kernel_of}
 use Rattle.lower.specs.Same.{Observed, Same}
 use Rattle.lower.specs.Structured.{IsPlainProcedure, IsStructured}
@@ -74,7 +74,7 @@ IsNarrow b = (1 ≤ b.width) × (b.width + most_arguments ≤ widest)
 
 module _ (p : Program) where
   abbrev body : Subprogram → Body
-  body = body_of number_of bounds_of
+  body = body_of (known_outside p)
 
   -- the body of a subprogram, in an activation
   entered : (fuel fp left : ℕ) (s : Subprogram) (w : World) (begun v : kernel.World)

@@ -1,3 +1,4 @@
+pub mod Known
 pub mod Relation
 pub mod Values
 pub mod Flows
@@ -11,3 +12,4 @@ pub mod Building
 pub mod Whole
 pub mod Forms
 pub mod AllFuels
+pub mod Examples

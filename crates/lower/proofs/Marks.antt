@@ -17,7 +17,7 @@ use Rattle.kernel_ir.specs.Obligations.{Condition, op_rows, op_conditions, code_
 use Rattle.kernel_ir.specs.declared.simple.Simple.{Simple}
 use Rattle.kernel_ir.specs.Sequence.{joined}
 use Rattle.kernel_ir.specs.Tree.{Op, simple, exit, forever, Code, no_op, and_op, Nodes, no_node}
-use Rattle.lower.specs.Known.{number_of, bounds_of}
+use Rattle.lower.specs.Known.{known_outside}
 use Rattle.lower.specs.Lowered.{one, single, start_of, sign_on, operator_on, relation_on, past, objects_in, expr_code, nodes_code, decide_on, decided_code, value_code, call_code, declaration_code, declarations_code, statement_code, statements_code, branches_code, block_code, body_of, kernel_of}
 use Rattle.lower.specs.Marked.{row_of, conditions_of, all_conditions}
 use Rattle.lower.specs.Structured.{behind, behind_all, IsPlainExpr, IsPlainTest, IsPlainValue, IsPlainCall, IsPlainDeclaration, ArePlainDeclarations, IsPlainStatement, ArePlainStatements, ArePlainBranches, IsPlainBlock, IsPlainProcedure, IsStructured}
@@ -117,7 +117,7 @@ module _ (p : Program) where
       )
 
   mutual
-    expr_marks : (e : tree.Expr) (n : List ℕ) (s k : ℕ) → IsPlainExpr p n e → Marks (expr_code number_of bounds_of k e) [] (in_expr s e)
+    expr_marks : (e : tree.Expr) (n : List ℕ) (s k : ℕ) → IsPlainExpr p n e → Marks (expr_code (known_outside p) k e) [] (in_expr s e)
     expr_marks (tree.literal x) n s k plain = record { rows = refl; conditions = λ weight. refl }
     expr_marks (tree.constant e) n s k plain = record { rows = refl; conditions = λ weight. refl }
     expr_marks (tree.read (tree.local_object d) tree.whole) n s k plain = record { rows = refl; conditions = λ weight. refl }
@@ -129,17 +129,17 @@ module _ (p : Program) where
     expr_marks (tree.complement e) n s k plain = then_none _ _ (in_expr s e) (expr_marks e n s k plain) (record { rows = refl; conditions = λ weight. refl })
     expr_marks (tree.decision d t) n s k plain =
         let held = test_holds t n s k (edge.Leaf true) (edge.Leaf false) no_node (record { 0 = d.number }) (record { 0 = 0 }) 0 (tree.conditions_of t) plain (omega arith) in
-        single_marks (decide_on number_of bounds_of k d t) (in_expr s (tree.decision d t)) held.rows
+        single_marks (decide_on (known_outside p) k d t) (in_expr s (tree.decision d t)) held.rows
         (decide_weighs elsewhere s d t (tree.conditions_of t) _ held)
     expr_marks e n s k plain = absurd plain
 
     -- the nodes of a test mark its conditions
     test_holds : (t : tree.Test) (n : List ℕ) (s k : ℕ) (on_true on_false : Edge) (rest : Nodes) (d : DecId) (i : InstId) (at next : ℕ) → IsPlainTest p n t
         → next ≡ at + tree.conditions_of t
-        → Holds d i at (nodes_code number_of bounds_of k t on_true on_false rest) (tree.conditions_of t) (in_test s t) next rest
+        → Holds d i at (nodes_code (known_outside p) k t on_true on_false rest) (tree.conditions_of t) (in_test s t) next rest
     test_holds (tree.condition place e) n s k on_true on_false rest d i at next plain last =
         let marked = expr_marks e n s k plain in
-        let code = expr_code number_of bounds_of k e in
+        let code = expr_code (known_outside p) k e in
         let following : next ≡ suc at = omega (arith, last) in
         rw following
         (record {
@@ -154,23 +154,23 @@ module _ (p : Program) where
         })
     test_holds (tree.negation t) n s k on_true on_false rest d i at next plain last = test_holds t n s k on_false on_true rest d i at next plain last
     test_holds (tree.operator true t u) n s k on_true on_false rest d i at next plain last =
-        let right = nodes_code number_of bounds_of k u on_true on_false rest in
+        let right = nodes_code (known_outside p) k u on_true on_false rest in
         both_hold d i at (at + tree.conditions_of t) next (tree.conditions_of t) (tree.conditions_of u) _ _ right rest (in_test s t) (in_test s u) refl refl
         (test_holds t n s k (edge.NodeAfter 0) (past (tree.conditions_of u) on_false) right d i at (at + tree.conditions_of t) plain.0 refl)
         (test_holds u n s k on_true on_false rest d i (at + tree.conditions_of t) next plain.1 (omega (arith, last)))
     test_holds (tree.operator false t u) n s k on_true on_false rest d i at next plain last =
-        let right = nodes_code number_of bounds_of k u on_true on_false rest in
+        let right = nodes_code (known_outside p) k u on_true on_false rest in
         both_hold d i at (at + tree.conditions_of t) next (tree.conditions_of t) (tree.conditions_of u) _ _ right rest (in_test s t) (in_test s u) refl refl
         (test_holds t n s k (past (tree.conditions_of u) on_true) (edge.NodeAfter 0) right d i at (at + tree.conditions_of t) plain.0 refl)
         (test_holds u n s k on_true on_false rest d i (at + tree.conditions_of t) next plain.1 (omega (arith, last)))
 
   value_marks : (x : tree.NewValue) (n : List ℕ) (s k d : ℕ) → IsPlainValue p n x
-      → Marks (value_code number_of bounds_of k (tree.local_object d) x) [] (in_value s x)
+      → Marks (value_code (known_outside p) k (tree.local_object d) x) [] (in_value s x)
   value_marks (tree.scalar_value r e) n s k d plain = then_none _ _ (in_expr s e) (expr_marks e n s k plain.1) (record { rows = refl; conditions = λ weight. refl })
   value_marks x n s k d plain = absurd plain
 
   call_marks : (c : tree.Callee) (actuals : tree.Actuals) (n : List ℕ) (s k : ℕ) → IsPlainCall p n c actuals
-      → Marks (call_code number_of bounds_of k c actuals) [] (in_actuals s actuals)
+      → Marks (call_code (known_outside p) k c actuals) [] (in_actuals s actuals)
   call_marks tree.test_put (tree.by_expression e tree.no_actual) n s k plain =
       both_mark _ _ [] [] (in_expr s e) [] (expr_marks e n s k plain) (record { rows = refl; conditions = λ weight. refl })
   call_marks tree.test_get (tree.by_variable (tree.local_object d) tree.whole r tree.no_actual) n s k plain = record { rows = refl; conditions = λ weight. refl }
@@ -179,7 +179,7 @@ module _ (p : Program) where
 
   decided_marks : (standing : Standing) (s : ℕ) (d : tree.Label) (t : tree.Test) (n : List ℕ) (k : ℕ) (a b : Code) (ls ms : List tree.Label) (hs gs : List Decision)
       → IsPlainTest p n t → Marks a ls hs → Marks b ms gs
-      → Marks (decided_code number_of bounds_of k d t a b) (ls ++ ms) (in_decision s standing d t ++ (hs ++ gs))
+      → Marks (decided_code (known_outside p) k d t a b) (ls ++ ms) (in_decision s standing d t ++ (hs ++ gs))
   decided_marks standing s d t n k a b ls ms hs gs plain h g =
       let held = test_holds t n s k (edge.Leaf true) (edge.Leaf false) no_node (record { 0 = d.number }) (record { 0 = 0 }) 0 (tree.conditions_of t) plain (omega arith) in
       record {
@@ -187,7 +187,7 @@ module _ (p : Program) where
             ∙ ap (λ rs. rs ++ code_rows b) h.rows ∙ ap (λ rs. map row_of ls ++ rs) g.rows ∙ sym (map-append row_of ls ms);
         conditions = λ weight. omega (
           arith,
-          sum_by-append weight (op_conditions (decide_on number_of bounds_of k d t)) ((code_conditions a ++ code_conditions b) ++ []),
+          sum_by-append weight (op_conditions (decide_on (known_outside p) k d t)) ((code_conditions a ++ code_conditions b) ++ []),
           ap (sum_by weight) (no_more (code_conditions a ++ code_conditions b)),
           sum_by-append weight (code_conditions a) (code_conditions b),
           decide_weighs standing s d t (tree.conditions_of t) _ held weight,
@@ -205,9 +205,9 @@ module _ (p : Program) where
   loop_marks a ls hs h = record { rows = no_more (code_rows a) ∙ h.rows; conditions = λ weight. ap (sum_by weight) (no_more (code_conditions a)) ∙ h.conditions weight }
 
   declaration_marks : (d : tree.Declaration) (objects : ℕ) (n : List ℕ) (k : ℕ) → IsPlainDeclaration p objects n d
-      → Marks (declaration_code number_of bounds_of k d) (declaration_labels (d ∷ [])) (in_declarations (d ∷ []))
+      → Marks (declaration_code (known_outside p) k d) (declaration_labels (d ∷ [])) (in_declarations (d ∷ []))
   declaration_marks (tree.initialized l d x) objects n k plain =
-      started_marks l _ [] (in_value l.number x ++ []) (subst (Marks (value_code number_of bounds_of k (tree.local_object d) x) []) (sym (no_more (in_value l.number x)))
+      started_marks l _ [] (in_value l.number x ++ []) (subst (Marks (value_code (known_outside p) k (tree.local_object d) x) []) (sym (no_more (in_value l.number x)))
       (value_marks x n l.number k d plain.1))
   declaration_marks (tree.without_value d (type.scalar r)) objects n k plain = record { rows = refl; conditions = λ weight. refl }
   declaration_marks d objects n k plain = absurd plain
@@ -221,10 +221,10 @@ module _ (p : Program) where
   one_more_decided (tree.without_value d t) ds = refl
 
   declarations_mark : (ds : List tree.Declaration) (objects : ℕ) (n : List ℕ) (k : ℕ) → ArePlainDeclarations p objects n ds
-      → Marks (declarations_code number_of bounds_of k ds) (declaration_labels ds) (in_declarations ds)
+      → Marks (declarations_code (known_outside p) k ds) (declaration_labels ds) (in_declarations ds)
   declarations_mark [] objects n k plain = record { rows = refl; conditions = λ weight. refl }
   declarations_mark (d ∷ ds) objects n k plain =
-      let a = declarations_code number_of bounds_of k (d ∷ ds) in
+      let a = declarations_code (known_outside p) k (d ∷ ds) in
       subst (λ hs. Marks a (declaration_labels (d ∷ ds)) hs) (one_more_decided d ds)
       (subst (λ ls. Marks a ls (in_declarations (d ∷ []) ++ in_declarations ds)) (one_more d ds)
       (both_mark _ _ (declaration_labels (d ∷ [])) (declaration_labels ds) (in_declarations (d ∷ [])) (in_declarations ds)
@@ -232,7 +232,7 @@ module _ (p : Program) where
 
   mutual
     statement_marks : (s : tree.Stmt) (objects : ℕ) (n : List ℕ) (k : ℕ) → IsPlainStatement p objects n s
-        → Marks (statement_code number_of bounds_of k s) (labels s) (in_stmt s)
+        → Marks (statement_code (known_outside p) k s) (labels s) (in_stmt s)
     statement_marks (tree.null_statement l) objects n k plain = record { rows = refl; conditions = λ weight. refl }
     statement_marks (tree.return_statement l) objects n k plain = record { rows = refl; conditions = λ weight. refl }
     statement_marks (tree.exit_statement l) objects n k plain = record { rows = refl; conditions = λ weight. refl }
@@ -245,7 +245,7 @@ module _ (p : Program) where
     statement_marks (tree.bare_loop l ss) objects n k plain =
         started_marks l _ (all_labels ss) (in_stmts ss) (loop_marks _ (all_labels ss) (in_stmts ss) (statements_mark ss objects n k plain))
     statement_marks (tree.while_loop l d t ss) objects n k plain =
-        let a = decided_code number_of bounds_of k d t (statements_code number_of bounds_of k ss) (single exit) in
+        let a = decided_code (known_outside p) k d t (statements_code (known_outside p) k ss) (single exit) in
         started_marks l _ (all_labels ss) (in_decision l.number after_while d t ++ in_stmts ss)
         (loop_marks a (all_labels ss) (in_decision l.number after_while d t ++ in_stmts ss)
         (subst (λ hs. Marks a (all_labels ss) (in_decision l.number after_while d t ++ hs)) (no_more (in_stmts ss))
@@ -254,50 +254,50 @@ module _ (p : Program) where
         (record { rows = refl; conditions = λ weight. refl })))))
     statement_marks (tree.exit_when l d t) objects n k plain =
         started_marks l _ [] (in_decision l.number after_exit d t)
-        (subst (λ hs. Marks (decided_code number_of bounds_of k d t (single exit) no_op) [] hs) (no_more (in_decision l.number after_exit d t))
+        (subst (λ hs. Marks (decided_code (known_outside p) k d t (single exit) no_op) [] hs) (no_more (in_decision l.number after_exit d t))
         (decided_marks after_exit l.number d t n k _ _ [] [] [] [] plain (record { rows = refl; conditions = λ weight. refl }) (record { rows = refl; conditions = λ weight. refl })))
     statement_marks (tree.block_statement b) objects n k plain = block_marks b objects n k plain
     statement_marks s objects n k plain = absurd plain
 
     statements_mark : (ss : tree.Stmts) (objects : ℕ) (n : List ℕ) (k : ℕ) → ArePlainStatements p objects n ss
-        → Marks (statements_code number_of bounds_of k ss) (all_labels ss) (in_stmts ss)
+        → Marks (statements_code (known_outside p) k ss) (all_labels ss) (in_stmts ss)
     statements_mark tree.no_statement objects n k plain = record { rows = refl; conditions = λ weight. refl }
     statements_mark (tree.and_statement s ss) objects n k plain =
         both_mark _ _ (labels s) (all_labels ss) (in_stmt s) (in_stmts ss) (statement_marks s objects n k plain.0) (statements_mark ss objects n k plain.1)
 
     branches_mark : (bs : tree.Branches) (s objects : ℕ) (n : List ℕ) (k : ℕ) → ArePlainBranches p objects n bs
-        → Marks (branches_code number_of bounds_of k bs) (branch_labels bs) (in_branches s bs)
+        → Marks (branches_code (known_outside p) k bs) (branch_labels bs) (in_branches s bs)
     branches_mark (tree.else_part ss) s objects n k plain = statements_mark ss objects n k plain
     branches_mark (tree.branch d t ss bs) s objects n k plain =
-        subst (λ hs. Marks (branches_code number_of bounds_of k (tree.branch d t ss bs)) (branch_labels (tree.branch d t ss bs)) hs)
+        subst (λ hs. Marks (branches_code (known_outside p) k (tree.branch d t ss bs)) (branch_labels (tree.branch d t ss bs)) hs)
         (sym (append_assoc (in_decision s after_if d t) (in_stmts ss) (in_branches s bs)))
         (decided_marks after_if s d t n k _ _ (all_labels ss) (branch_labels bs) (in_stmts ss) (in_branches s bs) plain.0 (statements_mark ss objects n k plain.1)
         (branches_mark bs s objects n k plain.2))
 
     block_marks : (b : tree.Block) (objects : ℕ) (n : List ℕ) (k : ℕ) → IsPlainBlock p objects n b
-        → Marks (block_code number_of bounds_of k b) (block_labels b) (in_block b)
+        → Marks (block_code (known_outside p) k b) (block_labels b) (in_block b)
     block_marks (tree.block ds ss tree.no_handler) objects n k plain =
-        let a = block_code number_of bounds_of k (tree.block ds ss tree.no_handler) in
+        let a = block_code (known_outside p) k (tree.block ds ss tree.no_handler) in
         subst (λ hs. Marks a (block_labels (tree.block ds ss tree.no_handler)) hs) (sym (no_more (in_declarations ds ++ in_stmts ss)))
         (subst (λ ls. Marks a ls (in_declarations ds ++ in_stmts ss)) (sym (no_more (declaration_labels ds ++ all_labels ss)))
         (both_mark _ _ (declaration_labels ds) (all_labels ss) (in_declarations ds) (in_stmts ss) (declarations_mark ds objects n k plain.0)
         (statements_mark ss objects (behind_all n ds) k plain.1)))
     block_marks (tree.block ds ss (tree.handler cs hss hs)) objects n k plain = absurd plain
 
-  bodies_rows : (ss : List Subprogram) → Everywhere (IsPlainProcedure p) ss → body_rows (map (body_of number_of bounds_of) ss) ≡ map row_of (labels_of ss)
+  bodies_rows : (ss : List Subprogram) → Everywhere (IsPlainProcedure p) ss → body_rows (map (body_of (known_outside p)) ss) ≡ map row_of (labels_of ss)
   bodies_rows [] plain = refl
   bodies_rows (s ∷ ss) plain =
-      ap (λ rs. rs ++ body_rows (map (body_of number_of bounds_of) ss)) (block_marks s.body (objects_in s.body) [] (objects_in s.body) plain.0.body).rows
+      ap (λ rs. rs ++ body_rows (map (body_of (known_outside p)) ss)) (block_marks s.body (objects_in s.body) [] (objects_in s.body) plain.0.body).rows
       ∙ ap (λ rs. map row_of (block_labels s.body) ++ rs) (bodies_rows ss plain.1) ∙ sym (map-append row_of (block_labels s.body) (labels_of ss))
 
   bodies_conditions : (ss : List Subprogram) → Everywhere (IsPlainProcedure p) ss → (weight : Condition → ℕ)
-      → sum_by weight (body_conditions (map (body_of number_of bounds_of) ss)) ≡ weighed weight (decisions_of ss)
+      → sum_by weight (body_conditions (map (body_of (known_outside p)) ss)) ≡ weighed weight (decisions_of ss)
   bodies_conditions [] plain weight = refl
   bodies_conditions (s ∷ ss) plain weight =
       omega (
         arith,
-        sum_by-append weight (code_conditions (block_code number_of bounds_of (objects_in s.body) s.body))
-            (body_conditions (map (body_of number_of bounds_of) ss)),
+        sum_by-append weight (code_conditions (block_code (known_outside p) (objects_in s.body) s.body))
+            (body_conditions (map (body_of (known_outside p)) ss)),
         (block_marks s.body (objects_in s.body) [] (objects_in s.body) plain.0.body).conditions weight,
         bodies_conditions ss plain.1 weight,
         both_weigh weight (in_block s.body) (decisions_of ss),

@@ -1,6 +1,6 @@
 -- The code of a decision finds its outcome, and what comes after it goes on by that.
 use Rattle.std.proofs.Common.{◌≡◌, ℕ, zero, suc, ◌+◌, ◌<◌, ◌≤◌, Bool, true, false, List, [], if◌then◌else◌, refl, arith}
-use Rattle.decision_meaning.specs.Path as path
+use Rattle.cov_base.specs.Path as path
 use Rattle.ada_meaning.specs.Arithmetic.{number_of_truth}
 use Rattle.ada_meaning.specs.Calls.{Calls}
 use Rattle.ada_meaning.specs.Expressions.{test, decides, completed}
@@ -15,7 +15,7 @@ use Rattle.kernel_ir.specs.Meaning as code
 use Rattle.kernel_ir.specs.Tree.{Code, no_node, choose, exit}
 use Rattle.kernel_ir.specs.World.{Memory, Ended, slot_in, with_slot, paid}
 use Rattle.kernel_ir.specs.World as kernel
-use Rattle.lower.specs.Known.{number_of, bounds_of}
+use Rattle.lower.specs.Known.{known_outside}
 use Rattle.lower.specs.Lowered.{single, end_of_test, decide_on, decided_code, kernel_of}
 use Rattle.lower.specs.Structured.{IsPlainTest}
 use Rattle.lower.proofs.Flows.{Step, turn_step}
@@ -32,7 +32,7 @@ module _ (p : Program) (calls : Calls) (kcalls : code.Calls) (fuel width fp left
       → ((outcome : Bool) (w : World) (v : kernel.World) → In (l + 2) w v → slot_in fp k v ≡ number_of_truth outcome → R (f outcome w) (g v))
       → (w : World) (v : kernel.World) → In l w v
       → R (goes_to (decides p calls 0 d t w) f)
-      (kernel.goes_on (code.does_op (kernel_of p) kcalls fuel width fp left (decide_on number_of bounds_of k d t) v) g)
+      (kernel.goes_on (code.does_op (kernel_of p) kcalls fuel width fp left (decide_on (known_outside p) k d t) v) g)
   outcome_does R stops d t k l plain behind below room f g next w v h =
       rw (goes_to_twice (test p calls 0 t 0 [] w) (completed d 0) f)
       (tested_then p calls kcalls fuel width fp left depth objects store memory n (λ r e. R r (kernel.goes_on e g)) (record { raises = stops.raises; cut = stops.cut }) k (l + 4) v
@@ -55,9 +55,9 @@ module _ (p : Program) (calls : Calls) (kcalls : code.Calls) (fuel width fp left
       → ((w : World) (v : kernel.World) → In (l + 1) w v → R (f false w) (code.does_code (kernel_of p) kcalls fuel width fp left b v))
       → (w : World) (v : kernel.World) → In l w v
       → R (goes_to (decides p calls 0 d t w) f)
-      (code.does_code (kernel_of p) kcalls fuel width fp left (decided_code number_of bounds_of k d t a b) v)
+      (code.does_code (kernel_of p) kcalls fuel width fp left (decided_code (known_outside p) k d t a b) v)
   decided_does R stops d t a b k l plain behind below room f if_true if_false w v h =
-      let op = decide_on number_of bounds_of k d t in
+      let op = decide_on (known_outside p) k d t in
       rw (goes_on_same (code.does_op (kernel_of p) kcalls fuel width fp left op v) _ _ (single_does (kernel_of p) kcalls fuel width fp left (choose k a b)))
       (outcome_does R stops d t k l plain behind below room f (code.does_op (kernel_of p) kcalls fuel width fp left (choose k a b)) chosen w v h)
     where
@@ -73,10 +73,10 @@ module _ (p : Program) (calls : Calls) (kcalls : code.Calls) (fuel width fp left
       → ((w : World) (v : kernel.World) → In 0 w v → Step (In 0) (body w) (code.does_code (kernel_of p) kcalls fuel width fp left a v))
       → (more : ℕ) (w : World) (v : kernel.World) → In 0 w v
       → Step (In 0) (turns more (decides p calls 0 d t) body w)
-      (code.turns more (code.does_code (kernel_of p) kcalls fuel width fp left (decided_code number_of bounds_of k d t a (single exit))) v)
+      (code.turns more (code.does_code (kernel_of p) kcalls fuel width fp left (decided_code (known_outside p) k d t a (single exit))) v)
   while_does d t k plain behind below room body a each zero w v h = h.seen
   while_does d t k plain behind below room body a each (suc more) w v h =
-      let turn = code.does_code (kernel_of p) kcalls fuel width fp left (decided_code number_of bounds_of k d t a (single exit)) in
+      let turn = code.does_code (kernel_of p) kcalls fuel width fp left (decided_code (known_outside p) k d t a (single exit)) in
       decided_does (λ r e. Step (In 0) r (code.after_turn e (code.turns more turn)))
       (record { raises = λ x y u s same seen. (same, seen); cut = λ u s seen. seen }) d t a (single exit) k 1 plain behind below room
       (λ b. if b then (λ u. goes_to (body u) (λ x. looped x (turns more (decides p calls 0 d t) body))) else give goes_on)

@@ -13,7 +13,7 @@ use Rattle.kernel_ir.specs.Limits.{IsWithin, kernel_instructions, code_instructi
 use Rattle.kernel_ir.specs.declared.simple.Simple.TheVariants as op
 use Rattle.kernel_ir.specs.Sequence.{joined}
 use Rattle.kernel_ir.specs.Tree.{Code, simple, exit, no_op, and_op, Nodes, no_node}
-use Rattle.lower.specs.Known.{number_of, bounds_of}
+use Rattle.lower.specs.Known.{known_outside}
 use Rattle.lower.specs.Lowered.{one, single, within, sign_on, operator_on, relation_on, complement_on, past, end_of, end_of_test, end_of_call, end_of_value, end_of_declarations, end_of_statement, end_of_statements, end_of_branches, end_of_block, objects_in, expr_code, nodes_code, decided_code, value_code, call_code, declaration_code, declarations_code, statement_code, statements_code, branches_code, block_code, body_of, kernel_of}
 use Rattle.lower.specs.Sizes.{expr_nodes, test_nodes, actuals_nodes, value_nodes, declaration_nodes, declarations_nodes, statement_nodes, statements_nodes, branches_nodes, block_nodes, all_nodes}
 use Rattle.lower.specs.Structured.{behind, behind_all, IsPlainExpr, IsPlainTest, IsPlainValue, IsPlainCall, IsPlainDeclaration, ArePlainDeclarations, IsPlainStatement, ArePlainStatements, ArePlainBranches, IsPlainBlock, IsPlainProcedure, IsStructured}
@@ -27,49 +27,49 @@ module _ (p : Program) where
   sign_short k type.absolute_value = omega arith
 
   mutual
-    expr_short : (e : tree.Expr) (n : List ℕ) (k : ℕ) → IsPlainExpr p n e → code_instructions (expr_code number_of bounds_of k e) ≤ 24 * expr_nodes e
+    expr_short : (e : tree.Expr) (n : List ℕ) (k : ℕ) → IsPlainExpr p n e → code_instructions (expr_code (known_outside p) k e) ≤ 24 * expr_nodes e
     expr_short (tree.literal x) n k plain = omega arith
     expr_short (tree.constant e) n k plain = omega arith
     expr_short (tree.read (tree.local_object d) tree.whole) n k plain = omega arith
     expr_short (tree.signed s e) n k plain =
-        omega (arith, joined_instructions (expr_code number_of bounds_of k e) (one (sign_on k s)), expr_short e n k plain, sign_short k s)
+        omega (arith, joined_instructions (expr_code (known_outside p) k e) (one (sign_on k s)), expr_short e n k plain, sign_short k s)
     expr_short (tree.operation o e f) n k plain =
-        let second = expr_code number_of bounds_of (k + 1) f in
+        let second = expr_code (known_outside p) (k + 1) f in
         omega (
           arith,
-          joined_instructions (expr_code number_of bounds_of k e) (joined second (one (operator_on k o))),
+          joined_instructions (expr_code (known_outside p) k e) (joined second (one (operator_on k o))),
           joined_instructions second (one (operator_on k o)),
           expr_short e n k plain.0,
           expr_short f n (k + 1) plain.1,
         )
     expr_short (tree.relation r e f) n k plain =
-        let second = expr_code number_of bounds_of (k + 1) f in
+        let second = expr_code (known_outside p) (k + 1) f in
         omega (
           arith,
-          joined_instructions (expr_code number_of bounds_of k e) (joined second (one (relation_on k r))),
+          joined_instructions (expr_code (known_outside p) k e) (joined second (one (relation_on k r))),
           joined_instructions second (one (relation_on k r)),
           expr_short e n k plain.0,
           expr_short f n (k + 1) plain.1,
         )
     expr_short (tree.complement e) n k plain =
-        omega (arith, joined_instructions (expr_code number_of bounds_of k e) (one (complement_on k)), expr_short e n k plain)
+        omega (arith, joined_instructions (expr_code (known_outside p) k e) (one (complement_on k)), expr_short e n k plain)
     expr_short (tree.decision d t) n k plain = omega (arith, nodes_short t n k (edge.Leaf true) (edge.Leaf false) no_node plain)
     expr_short e n k plain = absurd plain
 
     -- a decision takes 10 and 8 for each of its conditions, and the choice by its outcome 8
     nodes_short : (t : tree.Test) (n : List ℕ) (k : ℕ) (on_true on_false : Edge) (rest : Nodes) → IsPlainTest p n t
-        → nodes_instructions (nodes_code number_of bounds_of k t on_true on_false rest) ≤ 24 * test_nodes t + 8 + nodes_instructions rest
+        → nodes_instructions (nodes_code (known_outside p) k t on_true on_false rest) ≤ 24 * test_nodes t + 8 + nodes_instructions rest
     nodes_short (tree.condition at e) n k on_true on_false rest plain = omega (arith, expr_short e n k plain)
     nodes_short (tree.negation t) n k on_true on_false rest plain = omega (arith, nodes_short t n k on_false on_true rest plain)
     nodes_short (tree.operator true t u) n k on_true on_false rest plain =
-        let right = nodes_code number_of bounds_of k u on_true on_false rest in
+        let right = nodes_code (known_outside p) k u on_true on_false rest in
         omega (
           arith,
           nodes_short t n k (edge.NodeAfter 0) (past (tree.conditions_of u) on_false) right plain.0,
           nodes_short u n k on_true on_false rest plain.1,
         )
     nodes_short (tree.operator false t u) n k on_true on_false rest plain =
-        let right = nodes_code number_of bounds_of k u on_true on_false rest in
+        let right = nodes_code (known_outside p) k u on_true on_false rest in
         omega (
           arith,
           nodes_short t n k (past (tree.conditions_of u) on_true) (edge.NodeAfter 0) right plain.0,
@@ -77,48 +77,48 @@ module _ (p : Program) where
         )
 
   decided_short : (d : tree.Label) (t : tree.Test) (n : List ℕ) (k : ℕ) (a b : Code) → IsPlainTest p n t
-      → code_instructions (decided_code number_of bounds_of k d t a b) ≤ 28 * (test_nodes t + 1) + code_instructions a + code_instructions b
+      → code_instructions (decided_code (known_outside p) k d t a b) ≤ 28 * (test_nodes t + 1) + code_instructions a + code_instructions b
   decided_short d t n k a b plain = omega (arith, nodes_short t n k (edge.Leaf true) (edge.Leaf false) no_node plain)
 
   value_short : (x : tree.NewValue) (n : List ℕ) (k d : ℕ) → IsPlainValue p n x
-      → code_instructions (value_code number_of bounds_of k (tree.local_object d) x) ≤ 24 * value_nodes x + 19
+      → code_instructions (value_code (known_outside p) k (tree.local_object d) x) ≤ 24 * value_nodes x + 19
   value_short (tree.scalar_value r e) n k d plain =
       omega (
         arith,
-        joined_instructions (expr_code number_of bounds_of k e)
-            (and_op (simple (within k (bounds_of r))) (one (op.Move d k))),
+        joined_instructions (expr_code (known_outside p) k e)
+            (and_op (simple (within k ((known_outside p).bounds r))) (one (op.Move d k))),
         expr_short e n k plain.1,
       )
   value_short x n k d plain = absurd plain
 
   call_short : (c : tree.Callee) (actuals : tree.Actuals) (n : List ℕ) (k : ℕ) → IsPlainCall p n c actuals
-      → code_instructions (call_code number_of bounds_of k c actuals) ≤ 27 * actuals_nodes actuals + 18
+      → code_instructions (call_code (known_outside p) k c actuals) ≤ 27 * actuals_nodes actuals + 18
   call_short tree.test_put (tree.by_expression e tree.no_actual) n k plain =
-      omega (arith, joined_instructions (expr_code number_of bounds_of k e) (and_op (simple (within k base_range)) (one (op.Put k))), expr_short e n k plain)
+      omega (arith, joined_instructions (expr_code (known_outside p) k e) (and_op (simple (within k base_range)) (one (op.Put k))), expr_short e n k plain)
   call_short tree.test_get (tree.by_variable (tree.local_object d) tree.whole r tree.no_actual) n k plain = omega arith
   call_short (tree.subprogram (type.of_instance zero) m) tree.no_actual n k plain = omega arith
   call_short c actuals n k plain = absurd plain
 
   declaration_short : (d : tree.Declaration) (objects : ℕ) (n : List ℕ) (k : ℕ) → IsPlainDeclaration p objects n d
-      → code_instructions (declaration_code number_of bounds_of k d) ≤ 28 * declaration_nodes d
+      → code_instructions (declaration_code (known_outside p) k d) ≤ 28 * declaration_nodes d
   declaration_short (tree.initialized l d x) objects n k plain = omega (arith, value_short x n k d plain.1)
   declaration_short (tree.without_value d (type.scalar r)) objects n k plain = omega arith
   declaration_short d objects n k plain = absurd plain
 
   declarations_short : (ds : List tree.Declaration) (objects : ℕ) (n : List ℕ) (k : ℕ) → ArePlainDeclarations p objects n ds
-      → code_instructions (declarations_code number_of bounds_of k ds) ≤ 28 * declarations_nodes ds
+      → code_instructions (declarations_code (known_outside p) k ds) ≤ 28 * declarations_nodes ds
   declarations_short [] objects n k plain = omega arith
   declarations_short (d ∷ ds) objects n k plain =
       omega (
         arith,
-        joined_instructions (declaration_code number_of bounds_of k d) (declarations_code number_of bounds_of k ds),
+        joined_instructions (declaration_code (known_outside p) k d) (declarations_code (known_outside p) k ds),
         declaration_short d objects n k plain.0,
         declarations_short ds objects (behind n d) k plain.1,
       )
 
   mutual
     statement_short : (s : tree.Stmt) (objects : ℕ) (n : List ℕ) (k : ℕ) → IsPlainStatement p objects n s
-        → code_instructions (statement_code number_of bounds_of k s) ≤ 28 * statement_nodes s
+        → code_instructions (statement_code (known_outside p) k s) ≤ 28 * statement_nodes s
     statement_short (tree.null_statement l) objects n k plain = omega arith
     statement_short (tree.return_statement l) objects n k plain = omega arith
     statement_short (tree.exit_statement l) objects n k plain = omega arith
@@ -129,7 +129,7 @@ module _ (p : Program) where
     statement_short (tree.while_loop l d t ss) objects n k plain =
         omega (
           arith,
-          decided_short d t n k (statements_code number_of bounds_of k ss) (single exit) plain.0,
+          decided_short d t n k (statements_code (known_outside p) k ss) (single exit) plain.0,
           statements_short ss objects n k plain.1,
         )
     statement_short (tree.exit_when l d t) objects n k plain = omega (arith, decided_short d t n k (single exit) no_op plain)
@@ -137,46 +137,46 @@ module _ (p : Program) where
     statement_short s objects n k plain = absurd plain
 
     statements_short : (ss : tree.Stmts) (objects : ℕ) (n : List ℕ) (k : ℕ) → ArePlainStatements p objects n ss
-        → code_instructions (statements_code number_of bounds_of k ss) ≤ 28 * statements_nodes ss
+        → code_instructions (statements_code (known_outside p) k ss) ≤ 28 * statements_nodes ss
     statements_short tree.no_statement objects n k plain = omega arith
     statements_short (tree.and_statement s ss) objects n k plain =
         omega (
           arith,
-          joined_instructions (statement_code number_of bounds_of k s) (statements_code number_of bounds_of k ss),
+          joined_instructions (statement_code (known_outside p) k s) (statements_code (known_outside p) k ss),
           statement_short s objects n k plain.0,
           statements_short ss objects n k plain.1,
         )
 
     branches_short : (bs : tree.Branches) (objects : ℕ) (n : List ℕ) (k : ℕ) → ArePlainBranches p objects n bs
-        → code_instructions (branches_code number_of bounds_of k bs) ≤ 28 * branches_nodes bs
+        → code_instructions (branches_code (known_outside p) k bs) ≤ 28 * branches_nodes bs
     branches_short (tree.else_part ss) objects n k plain = statements_short ss objects n k plain
     branches_short (tree.branch d t ss bs) objects n k plain =
         omega (
           arith,
-          decided_short d t n k (statements_code number_of bounds_of k ss) (branches_code number_of bounds_of k bs) plain.0,
+          decided_short d t n k (statements_code (known_outside p) k ss) (branches_code (known_outside p) k bs) plain.0,
           statements_short ss objects n k plain.1,
           branches_short bs objects n k plain.2,
         )
 
     block_short : (b : tree.Block) (objects : ℕ) (n : List ℕ) (k : ℕ) → IsPlainBlock p objects n b
-        → code_instructions (block_code number_of bounds_of k b) ≤ 28 * block_nodes b
+        → code_instructions (block_code (known_outside p) k b) ≤ 28 * block_nodes b
     block_short (tree.block ds ss tree.no_handler) objects n k plain =
         omega (
           arith,
-          joined_instructions (declarations_code number_of bounds_of k ds) (statements_code number_of bounds_of k ss),
+          joined_instructions (declarations_code (known_outside p) k ds) (statements_code (known_outside p) k ss),
           declarations_short ds objects n k plain.0,
           statements_short ss objects (behind_all n ds) k plain.1,
         )
     block_short (tree.block ds ss (tree.handler cs hss hs)) objects n k plain = absurd plain
 
   bodies_short : (ss : List Subprogram) → Everywhere (IsPlainProcedure p) ss
-      → sum_by body_instructions (map (body_of number_of bounds_of) ss) ≤ 28 * all_nodes ss + 8 * length ss
+      → sum_by body_instructions (map (body_of (known_outside p)) ss) ≤ 28 * all_nodes ss + 8 * length ss
   bodies_short [] plain = omega arith
   bodies_short (s ∷ ss) plain =
       omega (
         arith,
-        sum_by-cons body_instructions (body_of number_of bounds_of s)
-            (map (body_of number_of bounds_of) ss),
+        sum_by-cons body_instructions (body_of (known_outside p) s)
+            (map (body_of (known_outside p)) ss),
         block_short s.body (objects_in s.body) [] (objects_in s.body) plain.0.body,
         bodies_short ss plain.1,
       )
@@ -243,7 +243,7 @@ module _ (p : Program) where
     block_narrow (tree.block ds ss (tree.handler cs hss hs)) objects n k plain = absurd plain
 
   bodies_narrow : (ss : List Subprogram) → Everywhere (IsPlainProcedure p) ss → all_nodes ss ≤ 4096
-      → Everywhere (λ b. (1 ≤ b.width) × (b.width + most_arguments ≤ widest)) (map (body_of number_of bounds_of) ss)
+      → Everywhere (λ b. (1 ≤ b.width) × (b.width + most_arguments ≤ widest)) (map (body_of (known_outside p)) ss)
   bodies_narrow [] plain few = tt
   bodies_narrow (s ∷ ss) plain few =
       let k = objects_in s.body in (

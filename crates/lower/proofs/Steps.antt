@@ -19,12 +19,13 @@ use Rattle.kernel_ir.specs.Simple.{if_valid, takes}
 use Rattle.kernel_ir.specs.Tree.{simple, forever, exit, no_op, and_op}
 use Rattle.kernel_ir.specs.World.{Memory, Ended, Ends, slot_in, slot_word, with_slot, paid, noted}
 use Rattle.kernel_ir.specs.World as kernel
-use Rattle.lower.specs.Known.{number_of, bounds_of}
+use Rattle.lower.specs.Known.{known_outside}
 use Rattle.lower.specs.Lowered.{one, single, within, end_of_value, end_of_declaration, end_of_declarations, end_of_statement, end_of_statements, end_of_branches, end_of_block, expr_code, value_code, declaration_code, declarations_code, decided_code, statement_code, statements_code, branches_code, block_code, kernel_of}
 use Rattle.lower.specs.Same.{Observed}
 use Rattle.lower.specs.Structured.{IsVisible, behind, behind_all, IsPlainValue, IsPlainDeclaration, ArePlainDeclarations, IsPlainStatement, ArePlainStatements, ArePlainBranches, IsPlainBlock}
 use Rattle.lower.proofs.Outcomes.{decided_does, while_does}
 use Rattle.lower.proofs.Flows.{Step, step_stops, step_then, step_after, step_uncaught, run_step, loop_does}
+use Rattle.lower.proofs.Known.{bounds_are}
 use Rattle.lower.proofs.Relation.{Inside, observed, fewer, worked, stored, Runs, runs_stop, runs_then, goes_to_twice}
 use Rattle.lower.proofs.Values.{Held, ticked, code_paid, observed_less, inside_ticked, inside_paid, inside_less, value_does}
 
@@ -145,11 +146,11 @@ module _ (p : Program) (calls : Calls) (kcalls : code.Calls) (fuel width fp left
   sets_does : (x : tree.NewValue) (n m : List ℕ) (l e d : ℕ) (w : World) (v : kernel.World) → IsPlainValue p n x → end_of_value objects x ≤ width → e ≡ depth → d < objects
       → ((j : ℕ) → IsVisible m j → d ≢ j → IsVisible n j) → In n l w v
       → Runs (λ u. In m l) (sets p calls fuel 0 x (local_place 0 e d) w)
-      (code.does_code (kernel_of p) kcalls fuel width fp left (value_code number_of bounds_of objects (tree.local_object d) x) v)
-  sets_does (tree.scalar_value (type.between (type.static_number low) (type.static_number high)) x) n m l e d w v plain fits here lt others h =
-      let expr = expr_code number_of bounds_of objects x in
-      let b : Bounds = record { low = low; high = high } in
-      rw (joined_does (kernel_of p) kcalls fuel width fp left expr (and_op (simple (within objects b)) (one (op.Move d objects))) v)
+      (code.does_code (kernel_of p) kcalls fuel width fp left (value_code (known_outside p) objects (tree.local_object d) x) v)
+  sets_does (tree.scalar_value r x) n m l e d w v plain fits here lt others h =
+      let expr = expr_code (known_outside p) objects x in
+      let b : Bounds = (known_outside p).bounds r in
+      rw (bounds_are p r plain.0, joined_does (kernel_of p) kcalls fuel width fp left expr (and_op (simple (within objects b)) (one (op.Move d objects))) v)
       (runs_then (Held fp depth objects store memory n (l + 3 + 2) objects v) (Runs (λ u. In m l)) (runs_stop _) (λ y. check b y >> set_word (local_place 0 e d) y)
       (code.does_code (kernel_of p) kcalls fuel width fp left (and_op (simple (within objects b)) (one (op.Move d objects))))
       (λ y u t g. rw g.slot (value_set fp depth objects store memory n m l objects e d y u t here g.slot lt (omega (arith, narrow, room)) others
@@ -157,31 +158,29 @@ module _ (p : Program) (calls : Calls) (kcalls : code.Calls) (fuel width fp left
       (value p calls 0 x (ticked w)) (code.does_code (kernel_of p) kcalls fuel width fp left expr v)
       (value_does p calls kcalls fuel width fp left depth objects store memory n x (l + 3) objects (ticked w) v plain.1 (omega arith) (omega (arith, fits, room))
       (inside_ticked fp depth objects store memory n l w v h)))
-  sets_does (tree.scalar_value r x) n m l e d w v plain fits here lt others h = absurd plain.0
   sets_does x n m l e d w v plain fits here lt others h = absurd plain
 
   declaration_does : (x : tree.Declaration) (n : List ℕ) (w : World) (v : kernel.World) → IsPlainDeclaration p objects n x → end_of_declaration objects x ≤ width
       → In n 0 w v
       → Runs (λ u. In (behind n x) 0) (declares p calls fuel 0 x w)
-      (code.does_code (kernel_of p) kcalls fuel width fp left (declaration_code number_of bounds_of objects x) v)
+      (code.does_code (kernel_of p) kcalls fuel width fp left (declaration_code (known_outside p) objects x) v)
   declaration_does (tree.initialized l d x) n w v plain fits h =
       sets_does x n (d ∷ n) 0 w.depth d (begun l w) (code_begun l v) plain.1 fits h.depth_is plain.0 (among n d)
       (begun_less fp depth objects store memory n 0 l w v (omega arith) h)
-  declaration_does (tree.without_value d (type.scalar (type.between (type.static_number low) (type.static_number high)))) n w v plain fits h =
-      stored fp depth objects store memory n (d ∷ n) 0 w.depth d _ _ (ticked (ticked w)) (paid 1 v) h.depth_is refl plain.0 (omega (arith, narrow, room)) (among n d)
+  declaration_does (tree.without_value d (type.scalar r)) n w v plain fits h =
+      stored fp depth objects store memory n (d ∷ n) 0 w.depth d _ _ (ticked (ticked w)) (paid 1 v) h.depth_is (sym (ap (λ b. b.low) (bounds_are p r plain.1))) plain.0 (omega (arith, narrow, room)) (among n d)
       (inside_paid fp depth objects store memory n 0 (ticked (ticked w)) v (inside_less fp depth objects store memory n 6 1 (ticked (ticked w)) v (omega arith)
       (inside_ticked fp depth objects store memory n 3 (ticked w) v (inside_ticked fp depth objects store memory n 0 w v h))))
-  declaration_does (tree.without_value d (type.scalar r)) n w v plain fits h = absurd plain.1
   declaration_does x n w v plain fits h = absurd plain
 
   declarations_do : (ds : List tree.Declaration) (n : List ℕ) (w : World) (v : kernel.World) → ArePlainDeclarations p objects n ds → end_of_declarations objects ds ≤ width
       → In n 0 w v
       → Runs (λ u. In (behind_all n ds) 0) (declares_all p calls fuel 0 ds w)
-      (code.does_code (kernel_of p) kcalls fuel width fp left (declarations_code number_of bounds_of objects ds) v)
+      (code.does_code (kernel_of p) kcalls fuel width fp left (declarations_code (known_outside p) objects ds) v)
   declarations_do [] n w v plain fits h = h
   declarations_do (d ∷ ds) n w v plain fits h =
-      let first = declaration_code number_of bounds_of objects d in
-      let rest = declarations_code number_of bounds_of objects ds in
+      let first = declaration_code (known_outside p) objects d in
+      let rest = declarations_code (known_outside p) objects ds in
       rw (joined_does (kernel_of p) kcalls fuel width fp left first rest v)
       (runs_then (λ u. In (behind n d) 0) (Runs (λ u. In (behind_all (behind n d) ds) 0)) (runs_stop _) (λ u. declares_all p calls fuel 0 ds)
       (code.does_code (kernel_of p) kcalls fuel width fp left rest)
@@ -194,7 +193,7 @@ module _ (p : Program) (calls : Calls) (kcalls : code.Calls) (fuel width fp left
       statement_does : (s : tree.Stmt) (n : List ℕ) (w : World) (v : kernel.World) → IsPlainStatement p objects n s → end_of_statement objects s ≤ width
           → In n 0 w v
           → Step (In n 0) (does p calls fuel 0 s None w)
-          (code.does_code (kernel_of p) kcalls fuel width fp left (statement_code number_of bounds_of objects s) v)
+          (code.does_code (kernel_of p) kcalls fuel width fp left (statement_code (known_outside p) objects s) v)
       statement_does (tree.null_statement l) n w v plain fits h = begun_less fp depth objects store memory n 0 l w v (omega arith) h
       statement_does (tree.return_statement l) n w v plain fits h = inside_paid fp depth objects store memory n 0 (begun l w) (code_begun l v)
           (begun_less fp depth objects store memory n 1 l w v (omega arith) h)
@@ -205,7 +204,7 @@ module _ (p : Program) (calls : Calls) (kcalls : code.Calls) (fuel width fp left
           (sets_does x n n 0 w.depth d (begun l w) (code_begun l v) plain.1 fits h.depth_is (h.below d plain.0) (λ j g differ. g)
           (begun_less fp depth objects store memory n 0 l w v (omega arith) h))
       statement_does (tree.procedure_call l tree.test_put (tree.by_expression x tree.no_actual)) n w v plain fits h =
-          let expr = expr_code number_of bounds_of objects x in
+          let expr = expr_code (known_outside p) objects x in
           let puts = and_op (simple (within objects base_range)) (one (op.Put objects)) in
           rw (
             joined_does (kernel_of p) kcalls fuel width fp left expr puts (code_begun l v),
@@ -221,15 +220,17 @@ module _ (p : Program) (calls : Calls) (kcalls : code.Calls) (fuel width fp left
           (value_does p calls kcalls fuel width fp left depth objects store memory n x 5 objects (ticked (begun l w)) (code_begun l v) plain (omega arith)
           (omega (arith, fits, room))
           (inside_ticked fp depth objects store memory n 2 (begun l w) (code_begun l v) (inside_begun fp depth objects store memory n l w v h))))
-      statement_does (tree.procedure_call l tree.test_get (tree.by_variable (tree.local_object d) tree.whole (type.between (type.static_number low) (type.static_number high)) tree.no_actual)) n w v plain fits h =
-          let got = get_does fp depth objects store memory w.input v.input n objects w.depth d (record { low = low; high = high }) (ticked (begun l w)) (code_begun l v) h.input (omega arith)
+      statement_does (tree.procedure_call l tree.test_get (tree.by_variable (tree.local_object d) tree.whole r tree.no_actual)) n w v plain fits h =
+          let b : Bounds = (known_outside p).bounds r in
+          let got = get_does fp depth objects store memory w.input v.input n objects w.depth d b (ticked (begun l w)) (code_begun l v) h.input (omega arith)
           (omega (arith, narrow, room)) h.depth_is plain.0
           (inside_ticked fp depth objects store memory n 0 (begun l w) (code_begun l v) (begun_less fp depth objects store memory n 0 l w v (omega arith) h)) in
-          rw (goes_to_twice {B = Option ℤ} (goes_to (taken_from 4 w.input (ticked (begun l w)))
-          (λ x. check (record { low = low; high = high }) x >> set_word (local_place 0 w.depth d) x)) (λ u. give None) (λ x. give goes_on))
+          rw (
+            bounds_are p r plain.1,
+            goes_to_twice {B = Option ℤ} (goes_to (taken_from 4 w.input (ticked (begun l w))) (λ x. check b x >> set_word (local_place 0 w.depth d) x))
+                (λ u. give None) (λ x. give goes_on),
+          )
           (run_step (In n 0) (λ u. Gives goes_on) (λ u t. refl) _ _ got)
-      statement_does (tree.procedure_call l tree.test_get (tree.by_variable (tree.local_object d) tree.whole r tree.no_actual)) n w v plain fits h =
-          absurd plain.1
       statement_does (tree.procedure_call l (tree.subprogram (type.of_instance zero) m) tree.no_actual) n w v plain fits h =
           let begins = begun_less fp depth objects store memory n 1 l w v (omega arith) h in
           runs_then (λ r. Called (fp - width) (begun l w) (code_begun l v)) (Step (In n 0)) (step_stops _) (λ r. give goes_on) Ends
@@ -239,13 +240,13 @@ module _ (p : Program) (calls : Calls) (kcalls : code.Calls) (fuel width fp left
       statement_does (tree.if_statement l bs) n w v plain fits h =
           branches_do bs n (begun l w) (code_begun l v) plain fits (begun_less fp depth objects store memory n 0 l w v (omega arith) h)
       statement_does (tree.bare_loop l ss) n w v plain fits h =
-          let body = statements_code number_of bounds_of objects ss in
+          let body = statements_code (known_outside p) objects ss in
           rw (single_does (kernel_of p) kcalls fuel width fp left (forever body) (code_begun l v))
           (loop_does fp depth objects store memory n (does_all p calls fuel 0 ss None) (code.does_code (kernel_of p) kcalls fuel width fp left body)
           (λ x y g. statements_do ss n x y plain fits g) fuel (begun l w) (code_begun l v) (begun_less fp depth objects store memory n 0 l w v (omega arith) h))
       statement_does (tree.while_loop l d t ss) n w v plain fits h =
-          let body = statements_code number_of bounds_of objects ss in
-          rw (single_does (kernel_of p) kcalls fuel width fp left (forever (decided_code number_of bounds_of objects d t body (single exit))) (code_begun l v))
+          let body = statements_code (known_outside p) objects ss in
+          rw (single_does (kernel_of p) kcalls fuel width fp left (forever (decided_code (known_outside p) objects d t body (single exit))) (code_begun l v))
           (while_does p calls kcalls fuel width fp left depth objects store memory n d t objects plain.0 (omega arith) (omega (arith, narrow, room)) (omega (arith, fits, room))
           (does_all p calls fuel 0 ss None) body
           (λ x y g. statements_do ss n x y plain.1 (omega (arith, fits)) g) fuel (begun l w) (code_begun l v) (begun_less fp depth objects store memory n 0 l w v (omega arith) h))
@@ -263,11 +264,11 @@ module _ (p : Program) (calls : Calls) (kcalls : code.Calls) (fuel width fp left
       statements_do : (ss : tree.Stmts) (n : List ℕ) (w : World) (v : kernel.World) → ArePlainStatements p objects n ss → end_of_statements objects ss ≤ width
           → In n 0 w v
           → Step (In n 0) (does_all p calls fuel 0 ss None w)
-          (code.does_code (kernel_of p) kcalls fuel width fp left (statements_code number_of bounds_of objects ss) v)
+          (code.does_code (kernel_of p) kcalls fuel width fp left (statements_code (known_outside p) objects ss) v)
       statements_do tree.no_statement n w v plain fits h = h
       statements_do (tree.and_statement s ss) n w v plain fits h =
-          let first = statement_code number_of bounds_of objects s in
-          let rest = statements_code number_of bounds_of objects ss in
+          let first = statement_code (known_outside p) objects s in
+          let rest = statements_code (known_outside p) objects ss in
           rw (joined_does (kernel_of p) kcalls fuel width fp left first rest v)
           (step_then (In n 0) (does_all p calls fuel 0 ss None) (code.does_code (kernel_of p) kcalls fuel width fp left rest)
           (λ x y g. statements_do ss n x y plain.1 (omega (arith, fits)) g)
@@ -277,11 +278,11 @@ module _ (p : Program) (calls : Calls) (kcalls : code.Calls) (fuel width fp left
       branches_do : (bs : tree.Branches) (n : List ℕ) (w : World) (v : kernel.World) → ArePlainBranches p objects n bs → end_of_branches objects bs ≤ width
           → In n 0 w v
           → Step (In n 0) (does_branch p calls fuel 0 bs None w)
-          (code.does_code (kernel_of p) kcalls fuel width fp left (branches_code number_of bounds_of objects bs) v)
+          (code.does_code (kernel_of p) kcalls fuel width fp left (branches_code (known_outside p) objects bs) v)
       branches_do (tree.else_part ss) n w v plain fits h = statements_do ss n w v plain fits h
       branches_do (tree.branch d t ss bs) n w v plain fits h =
           decided_does p calls kcalls fuel width fp left depth objects store memory n (Step (In n 0)) (step_stops _) d t
-          (statements_code number_of bounds_of objects ss) (branches_code number_of bounds_of objects bs) objects 0 plain.0 (omega arith)
+          (statements_code (known_outside p) objects ss) (branches_code (known_outside p) objects bs) objects 0 plain.0 (omega arith)
           (omega (arith, narrow, room)) (omega (arith, fits, room))
           (λ b. if b then does_all p calls fuel 0 ss None else does_branch p calls fuel 0 bs None)
           (λ u s i. statements_do ss n u s plain.1 (omega (arith, fits)) (inside_less fp depth objects store memory n 1 0 u s (omega arith) i))
@@ -291,10 +292,10 @@ module _ (p : Program) (calls : Calls) (kcalls : code.Calls) (fuel width fp left
       pub block_does : (b : tree.Block) (n : List ℕ) (w : World) (v : kernel.World) → IsPlainBlock p objects n b → end_of_block objects b ≤ width
           → In n 0 w v
           → Step (In n 0) (does_block p calls fuel 0 b None w)
-          (code.does_code (kernel_of p) kcalls fuel width fp left (block_code number_of bounds_of objects b) v)
+          (code.does_code (kernel_of p) kcalls fuel width fp left (block_code (known_outside p) objects b) v)
       block_does (tree.block ds ss tree.no_handler) n w v plain fits h =
-          let declared = declarations_code number_of bounds_of objects ds in
-          let stated = statements_code number_of bounds_of objects ss in
+          let declared = declarations_code (known_outside p) objects ds in
+          let stated = statements_code (known_outside p) objects ss in
           rw (joined_does (kernel_of p) kcalls fuel width fp left declared stated v)
           (runs_then (λ u. In (behind_all n ds) 0) (Step (In n 0)) (step_stops _) (λ u x. state.caught (does_all p calls fuel 0 ss None x) (λ e. state.raise e))
           (code.does_code (kernel_of p) kcalls fuel width fp left stated)

@@ -2,12 +2,12 @@
 use Rattle.std.proofs.Common.{◌≡◌, ℕ, zero, suc, ◌+◌, ◌<◌, ◌≤◌, ℤ, pos, neg_ℤ, nat_abs, Bool, true, false, not, ◌&&◌, List, [], ◌∷◌, if◌then◌else◌, refl, sym, ap, subst, ◌∙◌, arith}
 use Rattle.std.specs.Ordering.{int_eq}
 use Rattle.cov_base.specs.declared.event.Event.TheVariants.{Done}
-use Rattle.decision_meaning.specs.Path.{Step, vector_of}
+use Rattle.cov_base.specs.Path.{Step, vector_of}
 use Rattle.ada_meaning.specs.Arithmetic.{base_range, is_within, sign_of, exact, divides, holds, number_of_truth, is_true}
 use Rattle.ada_meaning.specs.Calls.{Calls, checked}
 use Rattle.ada_meaning.specs.Expressions.{Evaluation, value, operated, test, completed}
 use Rattle.ada_meaning.specs.Program.{Program}
-use Rattle.ada_meaning.specs.Resolved.{local_place}
+use Rattle.ada_meaning.specs.Resolved.{local_place, number_in}
 use Rattle.ada_meaning.specs.State.{Store, World, Outcome, Gives, Raises, OutOfFuel, Action, goes_to, give, raise, done, ◌>>=◌, with_seen}
 use Rattle.ada_meaning.specs.Tree as tree
 use Rattle.ada_meaning.specs.Types as type
@@ -23,10 +23,11 @@ use Rattle.kernel_ir.specs.Simple.{does_simple, if_valid, operator_of, relation_
 use Rattle.kernel_ir.specs.Tree.{simple, Code, Nodes, no_node}
 use Rattle.kernel_ir.specs.World.{Memory, Ended, Ends, Cut, slot_in, with_slot, paid, noted}
 use Rattle.kernel_ir.specs.World as kernel
-use Rattle.lower.specs.Known.{number_of, bounds_of}
+use Rattle.lower.specs.Known.{known_outside}
 use Rattle.lower.specs.Lowered.{one, sign_on, operator_on, operator_for, relation_on, relation_for, complement_on, past, end_of, end_of_test, expr_code, nodes_code, decide_on, kernel_of}
 use Rattle.lower.specs.Same.{Observed}
 use Rattle.lower.specs.Structured.{IsPlainExpr, IsPlainTest}
+use Rattle.lower.proofs.Known.{number_is}
 use Rattle.lower.proofs.Relation.{Inside, observed, worked, Runs, AtStops, runs_stop, runs_then}
 
 pub same_operator : (o : type.Operator) → operator_of (operator_for o) ≡ o
@@ -187,7 +188,7 @@ module _ (p : Program) (calls : Calls) (kcalls : code.Calls) (fuel width fp left
   passed_by : (t : tree.Test) (on_true on_false : Edge) (rest : Nodes) (d : tree.Label) (slot k at next skipped more : ℕ) (steps : List Step) (v : kernel.World)
       → skipped ≡ tree.conditions_of t + more → next ≡ at + tree.conditions_of t
       → code.walks (kernel_of p) kcalls fuel width fp left (record { 0 = d.number }) (record { 0 = 0 }) slot
-      (nodes_code number_of bounds_of k t on_true on_false rest) at skipped steps v
+      (nodes_code (known_outside p) k t on_true on_false rest) at skipped steps v
       ≡ code.walks (kernel_of p) kcalls fuel width fp left (record { 0 = d.number }) (record { 0 = 0 }) slot rest next more steps v
   passed_by (tree.condition place e) on_true on_false rest d slot k at next skipped more steps v over behind =
       let one : skipped ≡ suc more = omega (arith, over) in
@@ -196,11 +197,11 @@ module _ (p : Program) (calls : Calls) (kcalls : code.Calls) (fuel width fp left
   passed_by (tree.negation t) on_true on_false rest d slot k at next skipped more steps v over behind =
       passed_by t on_false on_true rest d slot k at next skipped more steps v over behind
   passed_by (tree.operator true t u) on_true on_false rest d slot k at next skipped more steps v over behind =
-      passed_by t (edge.NodeAfter 0) (past (tree.conditions_of u) on_false) (nodes_code number_of bounds_of k u on_true on_false rest)
+      passed_by t (edge.NodeAfter 0) (past (tree.conditions_of u) on_false) (nodes_code (known_outside p) k u on_true on_false rest)
       d slot k at (at + tree.conditions_of t) skipped (tree.conditions_of u + more) steps v (omega (arith, over)) refl
       ∙ passed_by u on_true on_false rest d slot k (at + tree.conditions_of t) next (tree.conditions_of u + more) more steps v refl (omega (arith, behind))
   passed_by (tree.operator false t u) on_true on_false rest d slot k at next skipped more steps v over behind =
-      passed_by t (past (tree.conditions_of u) on_true) (edge.NodeAfter 0) (nodes_code number_of bounds_of k u on_true on_false rest)
+      passed_by t (past (tree.conditions_of u) on_true) (edge.NodeAfter 0) (nodes_code (known_outside p) k u on_true on_false rest)
       d slot k at (at + tree.conditions_of t) skipped (tree.conditions_of u + more) steps v (omega (arith, over)) refl
       ∙ passed_by u on_true on_false rest d slot k (at + tree.conditions_of t) next (tree.conditions_of u + more) more steps v refl (omega (arith, behind))
 
@@ -212,7 +213,7 @@ module _ (p : Program) (calls : Calls) (kcalls : code.Calls) (fuel width fp left
 
   past_ends : (u : tree.Test) (e on_true on_false : Edge) (rest : Nodes) (d : tree.Label) (slot k at next : ℕ) (steps : List Step) (v : kernel.World)
       → next ≡ at + tree.conditions_of u
-      → at_end_of d slot at (nodes_code number_of bounds_of k u on_true on_false rest) (past (tree.conditions_of u) e) steps v
+      → at_end_of d slot at (nodes_code (known_outside p) k u on_true on_false rest) (past (tree.conditions_of u) e) steps v
       ≡ at_end_of d slot next rest e steps v
   past_ends u (edge.Leaf outcome) on_true on_false rest d slot k at next steps v behind = refl
   past_ends u (edge.NodeAfter skipped) on_true on_false rest d slot k at next steps v behind =
@@ -332,18 +333,13 @@ module _ (p : Program) (calls : Calls) (kcalls : code.Calls) (fuel width fp left
       pub value_does : (e : tree.Expr) (l k : ℕ) (w : World) (v : kernel.World) → IsPlainExpr p n e → objects ≤ k → end_of k e ≤ fp
           → Inside fp depth objects store memory n l w v
           → Runs (Held fp depth objects store memory n (l + 2) k v) (value p calls 0 e w)
-          (code.does_code (kernel_of p) kcalls fuel width fp left (expr_code number_of bounds_of k e) v)
+          (code.does_code (kernel_of p) kcalls fuel width fp left (expr_code (known_outside p) k e) v)
       value_does (tree.literal x) l k w v plain behind room h =
           held_set fp depth objects store memory n (l + 2) k v x x (ticked w) v refl behind (omega (arith, room)) (λ j lt. refl)
           (inside_less fp depth objects store memory n (l + 3) (l + 2 + 1) (ticked w) v (omega arith) (inside_ticked fp depth objects store memory n l w v h))
-      value_does (tree.constant (type.static_number x)) l k w v plain behind room h =
-          held_set fp depth objects store memory n (l + 2) k v _ _ (ticked w) v refl behind (omega (arith, room)) (λ j lt. refl)
-          (inside_less fp depth objects store memory n (l + 3) (l + 2 + 1) (ticked w) v (omega arith) (inside_ticked fp depth objects store memory n l w v h))
-      value_does (tree.constant (type.static_first (type.between (type.static_number x) (type.static_number y)))) l k w v plain behind room h =
-          held_set fp depth objects store memory n (l + 2) k v _ _ (ticked w) v refl behind (omega (arith, room)) (λ j lt. refl)
-          (inside_less fp depth objects store memory n (l + 3) (l + 2 + 1) (ticked w) v (omega arith) (inside_ticked fp depth objects store memory n l w v h))
-      value_does (tree.constant (type.static_last (type.between (type.static_number x) (type.static_number y)))) l k w v plain behind room h =
-          held_set fp depth objects store memory n (l + 2) k v _ _ (ticked w) v refl behind (omega (arith, room)) (λ j lt. refl)
+      value_does (tree.constant e) l k w v plain behind room h =
+          held_set fp depth objects store memory n (l + 2) k v (number_in p 0 e) ((known_outside p).number e) (ticked w) v (sym (number_is p e plain)) behind
+          (omega (arith, room)) (λ j lt. refl)
           (inside_less fp depth objects store memory n (l + 3) (l + 2 + 1) (ticked w) v (omega arith) (inside_ticked fp depth objects store memory n l w v h))
       value_does (tree.read (tree.local_object d) tree.whole) l k w v plain behind room h =
           held_set fp depth objects store memory n (l + 2) k v (w.store (local_place 0 w.depth d)) (slot_in fp d v) (ticked w) v
@@ -351,12 +347,12 @@ module _ (p : Program) (calls : Calls) (kcalls : code.Calls) (fuel width fp left
           behind (omega (arith, room)) (λ j lt. refl)
           (inside_less fp depth objects store memory n (l + 3) (l + 2 + 1) (ticked w) v (omega arith) (inside_ticked fp depth objects store memory n l w v h))
       value_does (tree.signed s e) l k w v plain behind room h =
-          one_operand l k (expr_code number_of bounds_of k e) (sign_on k s) (value p calls 0 e (ticked w)) (λ x. checked base_range (sign_of s x)) v v
+          one_operand l k (expr_code (known_outside p) k e) (sign_on k s) (value p calls 0 e (ticked w)) (λ x. checked base_range (sign_of s x)) v v
           (λ x u m g. signed_does fp depth objects store memory n (l + 2) k v s x u m behind (omega (arith, room, end_is_above k e))
           (held_less fp depth objects store memory n (l + 3) (l + 2 + 1) k v x u m (omega arith) g))
           (value_does e (l + 3) k (ticked w) v plain behind room (inside_ticked fp depth objects store memory n l w v h))
       value_does (tree.operation o e f) l k w v plain behind room h =
-          two_operands l k (expr_code number_of bounds_of k e) (expr_code number_of bounds_of (k + 1) f) (operator_on k o)
+          two_operands l k (expr_code (known_outside p) k e) (expr_code (known_outside p) (k + 1) f) (operator_on k o)
           (value p calls 0 e (ticked w)) (value p calls 0 f) (λ x y. operated o x y) v
           (λ x y s u m t i j. operation_does fp depth objects store memory n (l + 2) k v m o x y s u t behind (omega (arith, room, end_is_above (k + 1) f))
           (held_less fp depth objects store memory n (l + 3) (l + 2 + 1) k v x u m (omega arith) i)
@@ -364,7 +360,7 @@ module _ (p : Program) (calls : Calls) (kcalls : code.Calls) (fuel width fp left
           (value_does e (l + 3) k (ticked w) v plain.0 behind (omega (arith, room)) (inside_ticked fp depth objects store memory n l w v h))
           (λ u m g. value_does f (l + 3) (k + 1) u m plain.1 (omega (arith, behind)) (omega (arith, room)) g)
       value_does (tree.relation r e f) l k w v plain behind room h =
-          two_operands l k (expr_code number_of bounds_of k e) (expr_code number_of bounds_of (k + 1) f) (relation_on k r)
+          two_operands l k (expr_code (known_outside p) k e) (expr_code (known_outside p) (k + 1) f) (relation_on k r)
           (value p calls 0 e (ticked w)) (value p calls 0 f) (λ x y. give (number_of_truth (holds r x y))) v
           (λ x y s u m t i j. relation_does fp depth objects store memory n (l + 2) k v m r x y s u t behind (omega (arith, room, end_is_above (k + 1) f))
           (held_less fp depth objects store memory n (l + 3) (l + 2 + 1) k v x u m (omega arith) i)
@@ -372,13 +368,13 @@ module _ (p : Program) (calls : Calls) (kcalls : code.Calls) (fuel width fp left
           (value_does e (l + 3) k (ticked w) v plain.0 behind (omega (arith, room)) (inside_ticked fp depth objects store memory n l w v h))
           (λ u m g. value_does f (l + 3) (k + 1) u m plain.1 (omega (arith, behind)) (omega (arith, room)) g)
       value_does (tree.complement e) l k w v plain behind room h =
-          one_operand l k (expr_code number_of bounds_of k e) (complement_on k) (value p calls 0 e (ticked w))
+          one_operand l k (expr_code (known_outside p) k e) (complement_on k) (value p calls 0 e (ticked w))
           (λ x. give (number_of_truth (not (is_true x)))) v v
           (λ x u m g. complement_does fp depth objects store memory n (l + 2) k v x u m behind (omega (arith, room, end_is_above k e))
           (held_less fp depth objects store memory n (l + 3) (l + 2 + 1) k v x u m (omega arith) g))
           (value_does e (l + 3) k (ticked w) v plain behind room (inside_ticked fp depth objects store memory n l w v h))
       value_does (tree.decision d t) l k w v plain behind room h =
-          rw (single_does (kernel_of p) kcalls fuel width fp left (decide_on number_of bounds_of k d t) v)
+          rw (single_does (kernel_of p) kcalls fuel width fp left (decide_on (known_outside p) k d t) v)
           (tested_then (Runs (Held fp depth objects store memory n (l + 2) k v)) (runs_stop _) k (l + 3 + 4) v
           (ending_of d k (tree.conditions_of t) no_node (edge.Leaf true) (edge.Leaf false)) (λ x. completed d 0 x >>= λ b. give (number_of_truth b))
           (decision_held d l k v behind (omega (arith, room, test_is_above k t)) (tree.conditions_of t)) _ _
@@ -392,9 +388,9 @@ module _ (p : Program) (calls : Calls) (kcalls : code.Calls) (fuel width fp left
           → (w : World) (v : kernel.World) → Inside fp depth objects store memory n l w v → ((j : ℕ) → j < k → slot_in fp j v ≡ slot_in fp j start)
           → Tested k (l + 4) start (ending_of d k next rest on_true on_false) (test p calls 0 t at steps w)
           (code.walks (kernel_of p) kcalls fuel width fp left (record { 0 = d.number }) (record { 0 = 0 }) k
-          (nodes_code number_of bounds_of k t on_true on_false rest) at zero steps v)
+          (nodes_code (known_outside p) k t on_true on_false rest) at zero steps v)
       test_does d (tree.condition place e) on_true on_false rest k at next l steps start plain behind room last w v h below =
-          let expr = expr_code number_of bounds_of k e in
+          let expr = expr_code (known_outside p) k e in
           let longer : Bool → List Step = λ b. record { at_node = at; value = b } ∷ steps in
           let following : suc at ≡ next = omega (arith, last) in
           runs_then (Held fp depth objects store memory n (l + 2 + 2) k (paid 1 v)) (Tested k (l + 4) start (ending_of d k next rest on_true on_false)) (tested_stop k (l + 4) start _)
@@ -423,7 +419,7 @@ module _ (p : Program) (calls : Calls) (kcalls : code.Calls) (fuel width fp left
           _ _ (test_does d t on_false on_true rest k at next (l + 3) steps start plain behind room last (ticked w) v (inside_ticked fp depth objects store memory n l w v h) below)
       test_does d (tree.operator true t u) on_true on_false rest k at next l steps start plain behind room last w v h below =
           let middle = at + tree.conditions_of t in
-          let right = nodes_code number_of bounds_of k u on_true on_false rest in
+          let right = nodes_code (known_outside p) k u on_true on_false rest in
           tested_then (Tested k (l + 4) start (ending_of d k next rest on_true on_false)) (tested_stop k (l + 4) start _) k (l + 3 + 4) start
           (ending_of d k middle right (edge.NodeAfter 0) (past (tree.conditions_of u) on_false)) (λ x. if x.outcome then test p calls 0 u middle x.steps else give x)
           (by_outcome _
@@ -439,7 +435,7 @@ module _ (p : Program) (calls : Calls) (kcalls : code.Calls) (fuel width fp left
           (ticked w) v (inside_ticked fp depth objects store memory n l w v h) below)
       test_does d (tree.operator false t u) on_true on_false rest k at next l steps start plain behind room last w v h below =
           let middle = at + tree.conditions_of t in
-          let right = nodes_code number_of bounds_of k u on_true on_false rest in
+          let right = nodes_code (known_outside p) k u on_true on_false rest in
           tested_then (Tested k (l + 4) start (ending_of d k next rest on_true on_false)) (tested_stop k (l + 4) start _) k (l + 3 + 4) start
           (ending_of d k middle right (past (tree.conditions_of u) on_true) (edge.NodeAfter 0)) (λ x. if x.outcome then give x else test p calls 0 u middle x.steps)
           (by_outcome _

@@ -5,7 +5,7 @@ use Rattle.kernel_ir.specs.declared.code.Edge.{Edge}
 use Rattle.kernel_ir.specs.declared.code.Edge.TheVariants as edge
 use Rattle.kernel_ir.specs.declared.code.Node.{Node}
 use Rattle.kernel_ir.specs.Tree.{Nodes, and_node}
-use Rattle.lower.specs.Known.{number_of, bounds_of}
+use Rattle.lower.specs.Known.{Known}
 use Rattle.lower.specs.Lowered.{past, end_of_test, nodes_code}
 
 -- nodes before others
@@ -32,10 +32,10 @@ abbrev pub false_before : (neutral : Bool) → List tree.Test → Edge → Edge
 false_before neutral right e = edge_before (not neutral) right e
 
 -- the nodes of operands before others
-abbrev pub operand_nodes : (k : ℕ) → (neutral : Bool) → List tree.Test → (on_true on_false : Edge) → Nodes → Nodes
-operand_nodes k neutral [] t f rest = rest
-operand_nodes k neutral (u ∷ us) t f rest =
-    nodes_code number_of bounds_of k u (true_before neutral us t) (false_before neutral us f) (operand_nodes k neutral us t f rest)
+abbrev pub operand_nodes : Known → (k : ℕ) → (neutral : Bool) → List tree.Test → (on_true on_false : Edge) → Nodes → Nodes
+operand_nodes known k neutral [] t f rest = rest
+operand_nodes known k neutral (u ∷ us) t f rest =
+    nodes_code known k u (true_before neutral us t) (false_before neutral us f) (operand_nodes known k neutral us t f rest)
 
 -- the first slot behind those that their conditions are worked out in
 abbrev pub end_of_tests : (k : ℕ) → List tree.Test → ℕ

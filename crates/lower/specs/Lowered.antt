@@ -1,6 +1,6 @@
 -- The kernel of a program: the objects of a body and of the blocks in it are the first slots of its frame, by their numbers, and values of
 -- expressions are worked out in the slots behind them.
-use Rattle.std.specs.Prelude.{ℕ, ◌+◌, ℤ, max, true, false, List, [], ◌∷◌, length, map}
+use Rattle.std.specs.Prelude.{ℕ, ◌+◌, max, true, false, List, [], ◌∷◌, length, map}
 use Rattle.ada_meaning.specs.Arithmetic.{base_range}
 use Rattle.ada_meaning.specs.Objects.{block_objects}
 use Rattle.ada_meaning.specs.Program.{Bounds, Subprogram, Program}
@@ -17,7 +17,7 @@ use Rattle.kernel_ir.specs.declared.simple.Relation.TheVariants as relation
 use Rattle.kernel_ir.specs.declared.simple.Simple.{Simple}
 use Rattle.kernel_ir.specs.declared.simple.Simple.TheVariants as op
 use Rattle.kernel_ir.specs.Sequence.{joined}
-use Rattle.lower.specs.Known.{number_of, bounds_of}
+use Rattle.lower.specs.Known.{Known, known_outside}
 use Rattle.kernel_ir.specs.Tree.{Op, simple, choose, forever, exit, returns, decide, call, Code, no_op, and_op, Nodes, no_node, and_node}
 
 -- code of one operation
@@ -146,11 +146,16 @@ objects_in b = length (block_objects b)
 abbrev pub width_of : tree.Block → ℕ
 width_of b = end_of_block (objects_in b) b
 
--- by the bounds of ranges; k is the first slot behind the objects
-module _ (bounds : type.Range → Bounds) where
+-- an edge that leads past so many more nodes
+abbrev pub past : ℕ → Edge → Edge
+past n (edge.Leaf outcome) = edge.Leaf outcome
+past n (edge.NodeAfter skipped) = edge.NodeAfter (n + skipped)
+
+-- by the values of static expressions and the bounds of ranges; k is the first slot behind the objects
+module _ (known : Known) where
   -- sets an object to the value of the slot k, which a subtype has
   abbrev pub checked_code : (k : ℕ) → tree.Object → type.Range → Code
-  checked_code k o r = and_op (simple (within k (bounds r))) (one (op.Move (slot_of o) k))
+  checked_code k o r = and_op (simple (within k (known.bounds r))) (one (op.Move (slot_of o) k))
 
   -- sets an object to the next word of the input, which its subtype has
   abbrev pub input_code : (k : ℕ) → tree.Object → type.Range → Code
@@ -160,18 +165,11 @@ module _ (bounds : type.Range → Bounds) where
   get_code k (tree.by_variable o parts r rest) = input_code k o r
   get_code k actuals = no_op
 
--- an edge that leads past so many more nodes
-abbrev pub past : ℕ → Edge → Edge
-past n (edge.Leaf outcome) = edge.Leaf outcome
-past n (edge.NodeAfter skipped) = edge.NodeAfter (n + skipped)
-
--- by the values of static expressions too
-module _ (number : type.Static → ℤ) (bounds : type.Range → Bounds) where
   abbrev mutual
     -- the value of an expression, into a slot
     pub expr_code : (k : ℕ) → tree.Expr → Code
     expr_code k (tree.literal x) = one (op.Number k x)
-    expr_code k (tree.constant e) = one (op.Number k (number e))
+    expr_code k (tree.constant e) = one (op.Number k (known.number e))
     expr_code k (tree.read o parts) = one (op.Move k (slot_of o))
     expr_code k (tree.signed s e) = joined (expr_code k e) (one (sign_on k s))
     expr_code k (tree.operation o e f) = joined (expr_code k e) (joined (expr_code (k + 1) f) (one (operator_on k o)))
@@ -199,7 +197,7 @@ module _ (number : type.Static → ℤ) (bounds : type.Range → Bounds) where
 
   -- sets an object to a value that its subtype has
   abbrev pub value_code : (k : ℕ) → tree.Object → tree.NewValue → Code
-  value_code k o (tree.scalar_value r e) = joined (expr_code k e) (checked_code bounds k o r)
+  value_code k o (tree.scalar_value r e) = joined (expr_code k e) (checked_code k o r)
   value_code k o v = no_op
 
   -- puts the value of an expression, which the parameter's subtype Integer has
@@ -212,7 +210,7 @@ module _ (number : type.Static → ℤ) (bounds : type.Range → Bounds) where
 
   -- what a call does when its statement has started
   abbrev pub call_code : (k : ℕ) → tree.Callee → tree.Actuals → Code
-  call_code k tree.test_get actuals = get_code bounds k actuals
+  call_code k tree.test_get actuals = get_code k actuals
   call_code k tree.test_put actuals = put_code k actuals
   call_code k (tree.subprogram o n) actuals = and_op (call n) no_op
   call_code k (tree.formal_subprogram n) actuals = no_op
@@ -220,7 +218,7 @@ module _ (number : type.Static → ℤ) (bounds : type.Range → Bounds) where
   -- the code of a declaration: an object without an initial value has its subtype's first value
   abbrev pub declaration_code : (k : ℕ) → tree.Declaration → Code
   declaration_code k (tree.initialized l d v) = and_op (simple (start_of l)) (value_code k (tree.local_object d) v)
-  declaration_code k (tree.without_value d (type.scalar r)) = one (op.Number d (bounds r).low)
+  declaration_code k (tree.without_value d (type.scalar r)) = one (op.Number d (known.bounds r).low)
   declaration_code k d = no_op
 
   abbrev pub declarations_code : (k : ℕ) → List tree.Declaration → Code
@@ -257,10 +255,10 @@ module _ (number : type.Static → ℤ) (bounds : type.Range → Bounds) where
   abbrev pub body_of : Subprogram → Body
   body_of s = record { code = block_code (objects_in s.body) s.body; width = width_of s.body }
 
--- the body of a block in no generic
-abbrev pub body_of_block : tree.Block → Body
-body_of_block b = record { code = block_code number_of bounds_of (objects_in b) b; width = width_of b }
+-- the body of a block
+abbrev pub body_of_block : Known → tree.Block → Body
+body_of_block known b = record { code = block_code known (objects_in b) b; width = width_of b }
 
 -- the kernel of a program: its bodies have the numbers of the subprograms, and the exceptions are the predefined ones
 abbrev pub kernel_of : Program → Kernel
-kernel_of p = record { bodies = map (body_of number_of bounds_of) p.subprograms; main = p.main; layouts = []; library = []; exceptions = 4 }
+kernel_of p = record { bodies = map (body_of (known_outside p)) p.subprograms; main = p.main; layouts = []; library = []; exceptions = 4 }

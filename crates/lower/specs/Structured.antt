@@ -1,8 +1,9 @@
 -- Programs of structured code over objects of one word: sequences, branches and loops, with short-circuit control forms.
-use Rattle.std.specs.Prelude.{◌≡◌, ℕ, zero, ◌<◌, ◌≤◌, true, List, [], ◌∷◌, length}
+use Rattle.std.specs.Prelude.{◌≡◌, ℕ, ℤ, zero, ◌<◌, ◌≤◌, true, List, [], ◌∷◌, length, Option, Some, None}
 use Rattle.ada_meaning.specs.Arithmetic.{base_range, is_within}
 use Rattle.ada_meaning.specs.Objects.{block_objects}
 use Rattle.ada_meaning.specs.Program.{Bounds, Subprogram, Program}
+use Rattle.ada_meaning.specs.Statics.{static_value, static_bounds, values_of}
 use Rattle.ada_meaning.specs.Tree as tree
 use Rattle.ada_meaning.specs.Types as type
 use Rattle.cov_base.specs.Lists.{Everywhere, Somewhere}
@@ -28,24 +29,30 @@ abbrev pub behind_all : (visible : List ℕ) → List tree.Declaration → List 
 behind_all visible [] = visible
 behind_all visible (d ∷ ds) = behind_all (behind visible d) ds
 
--- values of a scalar type, outside of generics
-abbrev pub IsPlainRange : type.Range → Type 0
-IsPlainRange (type.between (type.static_number x) (type.static_number y)) = AreInBase (record { low = x; high = y })
-IsPlainRange r = ⊥
+-- there is a value, in the base range
+abbrev pub IsNumber : Option ℤ → Type 0
+IsNumber None = ⊥
+IsNumber (Some x) = is_within base_range x ≡ true
 
--- a number, or First or Last of a subtype
-abbrev pub IsPlainStatic : type.Static → Type 0
-IsPlainStatic (type.static_number x) = is_within base_range x ≡ true
-IsPlainStatic (type.static_first (type.between (type.static_number x) (type.static_number y))) = is_within base_range x ≡ true
-IsPlainStatic (type.static_last (type.between (type.static_number x) (type.static_number y))) = is_within base_range y ≡ true
-IsPlainStatic e = ⊥
+-- there are bounds, in the base range
+abbrev pub IsInterval : Option Bounds → Type 0
+IsInterval None = ⊥
+IsInterval (Some b) = AreInBase b
 
 module _ (p : Program) where
+  -- a static expression that has a value in no generic (RM 4.9)
+  abbrev pub HasValue : type.Static → Type 0
+  HasValue e = IsNumber (static_value (values_of p) 0 e)
+
+  -- a scalar subtype that has bounds in no generic (RM 3.5)
+  abbrev pub HasBounds : type.Range → Type 0
+  HasBounds r = IsInterval (static_bounds (values_of p) 0 r)
+
   abbrev mutual
-    -- a literal, an attribute of a type, the value of a visible object, an operation on integers, a relation, `not`, or a decision
+    -- a literal, a static expression, the value of a visible object, an operation on integers, a relation, `not`, or a decision
     pub IsPlainExpr : (visible : List ℕ) → tree.Expr → Type 0
     IsPlainExpr visible (tree.literal x) = is_within base_range x ≡ true
-    IsPlainExpr visible (tree.constant e) = IsPlainStatic e
+    IsPlainExpr visible (tree.constant e) = HasValue e
     IsPlainExpr visible (tree.read (tree.local_object d) tree.whole) = IsVisible visible d
     IsPlainExpr visible (tree.signed s e) = IsPlainExpr visible e
     IsPlainExpr visible (tree.operation o e f) = IsPlainExpr visible e × IsPlainExpr visible f
@@ -61,13 +68,13 @@ module _ (p : Program) where
     IsPlainTest visible (tree.operator neutral t u) = IsPlainTest visible t × IsPlainTest visible u
 
   abbrev pub IsPlainValue : (visible : List ℕ) → tree.NewValue → Type 0
-  IsPlainValue visible (tree.scalar_value r e) = IsPlainRange r × IsPlainExpr visible e
+  IsPlainValue visible (tree.scalar_value r e) = HasBounds r × IsPlainExpr visible e
   IsPlainValue visible v = ⊥
 
   -- Test_IO.Put of an expression, Test_IO.Get of a visible object, or a call of a procedure of the program
   abbrev pub IsPlainCall : (visible : List ℕ) → tree.Callee → tree.Actuals → Type 0
   IsPlainCall visible tree.test_put (tree.by_expression e tree.no_actual) = IsPlainExpr visible e
-  IsPlainCall visible tree.test_get (tree.by_variable (tree.local_object d) tree.whole r tree.no_actual) = IsVisible visible d × IsPlainRange r
+  IsPlainCall visible tree.test_get (tree.by_variable (tree.local_object d) tree.whole r tree.no_actual) = IsVisible visible d × HasBounds r
   IsPlainCall visible (tree.subprogram (type.of_instance zero) m) tree.no_actual = m < length p.subprograms
   IsPlainCall visible c actuals = ⊥
 
@@ -75,7 +82,7 @@ module _ (p : Program) where
   module _ (objects : ℕ) where
     abbrev pub IsPlainDeclaration : (visible : List ℕ) → tree.Declaration → Type 0
     IsPlainDeclaration visible (tree.initialized l d v) = (d < objects) × IsPlainValue visible v
-    IsPlainDeclaration visible (tree.without_value d (type.scalar r)) = (d < objects) × IsPlainRange r
+    IsPlainDeclaration visible (tree.without_value d (type.scalar r)) = (d < objects) × HasBounds r
     IsPlainDeclaration visible d = ⊥
 
     -- each with those before it visible

@@ -1,20 +1,19 @@
 //! Code of expressions.
 
 ghost use Rattle.std.specs.Prelude.{◌≡◌, ◌+◌, IfOk, OnOk};
-ghost use Rattle.ada_tree.specs.View.{static_of, range_of, scalar_range_of, sign_of, operator_of, relation_of, object_of};
+ghost use Rattle.ada_tree.specs.Programs.{bounds_of};
+ghost use Rattle.ada_tree.specs.View.{sign_of, operator_of, relation_of, object_of};
 ghost use Rattle.ada_meaning.specs.Tree as tree;
 ghost use Rattle.kernel_ir.specs.Sequence.{joined};
 ghost use Rattle.kernel_ir.specs.Tree.{no_op};
 ghost use Rattle.kernel_ir.specs.declared.simple.Simple.TheVariants as op;
-ghost use Rattle.lower.specs.Known.{number_of, bounds_of};
+ghost use Rattle.lower.specs.Known.{known_by};
 ghost use Rattle.lower.specs.Chain.{operands_code, end_of_operands};
 ghost use Rattle.lower.specs.Lowered.{one, within, slot_of, sign_on, operator_for, operator_on, relation_for, end_of, expr_code};
 
 use crate::decisions::put_decision;
-use ada_tree::{
-    Expr, ExprKind, Object, Operand, Operator, Owner, Range, Relation, ScalarRange, Sign, Static,
-    StaticValue,
-};
+use crate::statics::Statics;
+use ada_tree::{Expr, ExprKind, Object, Operand, Operator, Range, Relation, Sign};
 use kernel_ir::{Code, Simple, Slot};
 use std::alloc::{AllocError, Global};
 
@@ -40,33 +39,6 @@ pub(crate) fn put_nothing(code: &mut Code, slot: Slot) -> Result<Slot, AllocErro
     slot_behind(slot)
 }
 
-/// The bounds of a range that are written as numbers: 0 and 0 for one that hangs on an instance, which
-/// has no code yet.
-pub(crate) fn bounds_of(range: ScalarRange) -> Range
-    ensures first { result.first ≡ (bounds_of (scalar_range_of range)).low }
-    ensures last { result.last ≡ (bounds_of (scalar_range_of range)).high }
-{
-    match range {
-        ScalarRange::Known(range) => range,
-        ScalarRange::Between(Owner::Here, StaticValue::Number(first), StaticValue::Number(last)) =>
-            { Range { first, last } }
-        ScalarRange::Between(..) | ScalarRange::Formal(..) => Range { first: 0, last: 0 },
-    }
-}
-
-/// The value of a static expression that is written as a number, or as First or Last of such bounds: 0
-/// for another one, which has no code yet.
-fn number_of(value: Static) -> i32
-    ensures { result ≡ number_of (static_of value) }
-{
-    match value {
-        Static::Value(Owner::Here, StaticValue::Number(number)) => number,
-        Static::First(range) => bounds_of(range).first,
-        Static::Last(range) => bounds_of(range).last,
-        Static::Value(..) | Static::Length(_) | Static::Signed(..) | Static::Operation(..) => 0,
-    }
-}
-
 /// The slot of an object.
 pub(crate) fn slot_of(object: Object) -> Slot
     ensures { result ≡ slot_of (object_of object) }
@@ -78,7 +50,7 @@ pub(crate) fn slot_of(object: Object) -> Slot
 
 /// Raises Constraint_Error unless a slot's value lies within a range.
 pub(crate) fn within(slot: Slot, range: Range) -> Simple
-    ensures { result ≡ within slot (bounds_of (range_of range)) }
+    ensures { result ≡ within slot (bounds_of range) }
 {
     Simple::Within {
         slot,
@@ -143,7 +115,7 @@ fn put_number(code: &mut Code, to: Slot, value: i32) -> Result<Slot, AllocError>
 
 /// Puts the value of an object behind code, into a slot. Answers the slot behind it.
 fn put_read(code: &mut Code, to: Slot, object: Object) -> Result<Slot, AllocError>
-    ensures code { OnOk result (code.new ≡ joined code.old (expr_code number_of bounds_of to (tree.read (object_of object) tree.whole))) }
+    ensures code { OnOk result (code.new ≡ joined code.old (one (op.Move to (slot_of (object_of object))))) }
     ensures end { IfOk result (λ end. end ≡ to + 1) }
 {
     code.push_simple(Simple::Move {
@@ -158,39 +130,40 @@ fn put_read(code: &mut Code, to: Slot, object: Object) -> Result<Slot, AllocErro
 #[cycle(value)]
 pub(crate) fn put_expr(
     alloc: Global,
+    statics: &Statics,
     code: &mut Code,
     to: Slot,
     expr: &Expr,
 ) -> Result<Slot, AllocError>
-    ensures code { OnOk result (code.new ≡ joined code.old (expr_code number_of bounds_of to expr.now)) }
+    ensures code { OnOk result (code.new ≡ joined code.old (expr_code (known_by statics.now) to expr.now)) }
     ensures end { IfOk result (λ end. end ≡ end_of to expr.now) }
 {
     match &expr.kind {
         ExprKind::Literal(value) => put_number(code, to, *value),
-        ExprKind::Constant(value) => put_number(code, to, number_of(*value)),
+        ExprKind::Constant(value) => put_number(code, to, statics.number(*value)),
         ExprKind::Read(object) | ExprKind::Part(object, _) => put_read(code, to, *object),
         ExprKind::Attribute(..) | ExprKind::Conversion(..) | ExprKind::Call(..) => {
             put_nothing(code, to)
         }
         ExprKind::Signed(sign, operand) => {
-            let end = put_expr(alloc, code, to, operand)?;
+            let end = put_expr(alloc, statics, code, to, operand)?;
             code.push_simple(sign_on(to, *sign))?;
             Ok(end)
         }
         ExprKind::Operations(first, others) => {
-            let end = put_expr(alloc, code, to, first)?;
-            let others_end = put_operands(alloc, code, to, others)?;
+            let end = put_expr(alloc, statics, code, to, first)?;
+            let others_end = put_operands(alloc, statics, code, to, others)?;
             Ok(end.max(others_end))
         }
         ExprKind::Relation(relation, left, right) => {
-            put_relation(alloc, code, to, *relation, left, right)
+            put_relation(alloc, statics, code, to, *relation, left, right)
         }
         ExprKind::Complement(operand) => {
-            let end = put_expr(alloc, code, to, operand)?;
+            let end = put_expr(alloc, statics, code, to, operand)?;
             code.push_simple(Simple::Complement { to, from: to })?;
             Ok(end)
         }
-        ExprKind::Decision(label, test) => put_decision(alloc, code, to, *label, test),
+        ExprKind::Decision(label, test) => put_decision(alloc, statics, code, to, *label, test),
     }
 }
 
@@ -199,18 +172,21 @@ pub(crate) fn put_expr(
 #[cycle(value)]
 fn put_relation(
     alloc: Global,
+    statics: &Statics,
     code: &mut Code,
     to: Slot,
     relation: Relation,
     left: &Expr,
     right: &Expr,
 ) -> Result<Slot, AllocError>
-    ensures code { OnOk result (code.new ≡ joined code.old (expr_code number_of bounds_of to (tree.relation (relation_of relation) left.now right.now))) }
+    ensures code { OnOk result (code.new
+        ≡ joined code.old (expr_code (known_by statics.now) to
+        (tree.relation (relation_of relation) left.now right.now))) }
     ensures end { IfOk result (λ end. end ≡ end_of to (tree.relation (relation_of relation) left.now right.now)) }
 {
-    let left_end = put_expr(alloc, code, to, left)?;
+    let left_end = put_expr(alloc, statics, code, to, left)?;
     let behind = slot_behind(to)?;
-    let right_end = put_expr(alloc, code, behind, right)?;
+    let right_end = put_expr(alloc, statics, code, behind, right)?;
     code.push_simple(Simple::Compare {
         relation: relation_for(relation),
         to,
@@ -225,17 +201,18 @@ fn put_relation(
 #[cycle(value)]
 fn put_operands(
     alloc: Global,
+    statics: &Statics,
     code: &mut Code,
     to: Slot,
     operands: &[Operand],
 ) -> Result<Slot, AllocError>
-    ensures code { OnOk result (code.new ≡ joined code.old (operands_code to operands.now)) }
+    ensures code { OnOk result (code.new ≡ joined code.old (operands_code (known_by statics.now) to operands.now)) }
     ensures end { IfOk result (λ end. end ≡ end_of_operands to operands.now) }
 {
     let right = slot_behind(to)?;
     let mut end = right;
     for operand in operands {
-        end = end.max(put_expr(alloc, code, right, &operand.operand)?);
+        end = end.max(put_expr(alloc, statics, code, right, &operand.operand)?);
         code.push_simple(Simple::Arithmetic {
             operator: operator_for(operand.operator),
             to,

@@ -11,6 +11,7 @@ mod expressions;
 mod laws;
 mod lowering;
 mod statements;
+mod statics;
 
 pub use laws::{
     kernels_are_small, kernels_do_what_their_programs_do, kernels_end_where_their_programs_end,

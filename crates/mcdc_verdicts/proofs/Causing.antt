@@ -3,13 +3,13 @@ use Rattle.std.proofs.Common.{◌≡◌, ℕ, zero, suc, ◌<◌, ◌≤◌, Boo
 use Rattle.std.specs.Bool.{beq}
 use Rattle.std.proofs.lemmas.Bool.Decides.{nat_tests, eqb_tells, leb_tells}
 use Rattle.cov_base.specs.declared.event.Vector.{Vector}
-use Rattle.decision_meaning.specs.Expr.{Expr, size}
-use Rattle.decision_meaning.specs.Graph.{Next, node, leaf, graph}
-use Rattle.decision_meaning.specs.Marks.{Marks, bit, same, outcome}
-use Rattle.decision_meaning.specs.Path.{Step, LeadsTo, IsPathVector}
+use Rattle.cov_base.specs.Expr.{Expr, size}
+use Rattle.cov_base.specs.Graph.{Next, node, leaf, graph}
+use Rattle.cov_base.specs.Marks.{Marks, bit, same, outcome}
+use Rattle.cov_base.specs.Path.{Step, LeadsTo, IsPathVector}
 use Rattle.decision_meaning.specs.Pair.{turns, agrees, others_agree, is_unique_cause}
-use Rattle.decision_meaning.proofs.Bits.{some_step, is_at, bit_seen}
-use Rattle.decision_meaning.proofs.Edges.{edges_rise, size_some}
+use Rattle.cov_base.proofs.Bits.{some_step, is_at, bit_seen}
+use Rattle.cov_base.proofs.Edges.{edges_rise, size_some}
 
 -- the nodes of a path are nodes of the graph
 inside : (e : Expr) (path : List Step) (k : ℕ) → LeadsTo (graph e) path (node k) → k < size e

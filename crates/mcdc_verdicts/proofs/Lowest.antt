@@ -3,12 +3,13 @@ use Rattle.std.proofs.Common.{◌≡◌, ℕ, inl, inr, ◌||◌, Bool, true, fa
 use Rattle.std.proofs.lemmas.Bool.{cond-true, cond-false, cases_Bool}
 use Rattle.std.proofs.lemmas.Bool.Decides.{nat_tests}
 use Rattle.cov_base.specs.declared.event.Vector.{Vector}
-use Rattle.decision_meaning.specs.Expr.{Expr, size}
-use Rattle.decision_meaning.specs.Graph.{graph}
-use Rattle.decision_meaning.specs.Marks.{Marks, marks, bit, same, unmasked, precedes}
+use Rattle.cov_base.specs.Expr.{Expr, size}
+use Rattle.cov_base.specs.Graph.{graph}
+use Rattle.cov_base.specs.Marks.{Marks, marks, bit, same, precedes}
+use Rattle.decision_meaning.specs.Unmasked.{unmasked}
 use Rattle.cov_base.specs.Lists.{Everywhere, Somewhere}
 use Rattle.decision_meaning.specs.Pair.{Pair, pair_precedes, is_masking, IsLeastPair}
-use Rattle.decision_meaning.specs.Path.{IsPathVector}
+use Rattle.cov_base.specs.Path.{IsPathVector}
 use Rattle.mcdc_verdicts.specs.Search.{widest, IsWord, shows, precedes_least, lower, lowest, pair_of}
 use Rattle.mcdc_verdicts.proofs.Lists.{itself}
 use Rattle.mcdc_verdicts.proofs.Ordering.{key_from, by_keys, pairs_by_keys}

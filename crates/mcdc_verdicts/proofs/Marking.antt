@@ -6,8 +6,9 @@ use Rattle.std.proofs.Math.Nat.{mod-eq_of_lt, one-mul}
 use Rattle.std.proofs.Math.Pow.{pow-lt}
 use Rattle.std.specs.Int.{bit_at}
 use Rattle.cov_base.specs.declared.event.Vector.{Vector}
-use Rattle.decision_meaning.specs.Expr.{Expr}
-use Rattle.decision_meaning.specs.Marks.{bit, marks, rank, same, unmasked}
+use Rattle.cov_base.specs.Expr.{Expr}
+use Rattle.cov_base.specs.Marks.{bit, marks, rank, same}
+use Rattle.decision_meaning.specs.Unmasked.{unmasked}
 use Rattle.decision_meaning.specs.Pair.{turns, is_masking}
 
 both : (x y : ℕ) → x < 2 → y < 2 → nat_eq (min x y) 1 ≡ (nat_eq x 1 && nat_eq y 1)

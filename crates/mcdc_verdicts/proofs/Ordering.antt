@@ -4,7 +4,7 @@ use Rattle.std.proofs.lemmas.Bool.Decides.{nat_tests, eqb_tells}
 use Rattle.std.proofs.Math.Nat.{pow-suc, mul-le-mul_right}
 use Rattle.std.proofs.lemmas.Nat.Bits.{bit_at-zero, bit_at-trailing_zeros}
 use Rattle.std.specs.Int.{bit_at, w32, trailing_zeros}
-use Rattle.decision_meaning.specs.Marks.{Marks, bit, rank, precedes_from, precedes}
+use Rattle.cov_base.specs.Marks.{Marks, bit, rank, precedes_from, precedes}
 use Rattle.mcdc_verdicts.specs.Search.{widest}
 use Rattle.decision_meaning.specs.Pair.{pair_precedes}
 

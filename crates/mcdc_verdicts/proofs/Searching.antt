@@ -3,10 +3,11 @@ use Rattle.std.proofs.Common.{◌≡◌, ℕ, ◌<◌, ◌≤◌, ◌+◌, ◌-�
 use Rattle.std.proofs.lemmas.Bool.{cond-false}
 use Rattle.std.proofs.lemmas.Bool.Decides.{leb_tells, nat_tests}
 use Rattle.cov_base.specs.declared.event.Vector.{Vector}
-use Rattle.decision_meaning.specs.Marks.{Marks, marks, bit, same, unmasked, precedes}
-use Rattle.decision_meaning.specs.Expr.{Expr, size}
-use Rattle.decision_meaning.specs.Graph.{graph}
-use Rattle.decision_meaning.specs.Path.{IsPathVector}
+use Rattle.cov_base.specs.Marks.{Marks, marks, bit, same, precedes}
+use Rattle.decision_meaning.specs.Unmasked.{unmasked}
+use Rattle.cov_base.specs.Expr.{Expr, size}
+use Rattle.cov_base.specs.Graph.{graph}
+use Rattle.cov_base.specs.Path.{IsPathVector}
 use Rattle.cov_base.specs.Lists.{Everywhere, Somewhere}
 use Rattle.decision_meaning.specs.Pair.{Pair, pair_precedes, is_unique_cause, is_masking, IsPairOf, IsLeastPair}
 use Rattle.decision_meaning.proofs.Pairs.{unique_masks}

@@ -2,10 +2,10 @@
 use Rattle.std.proofs.Common.{◌≡◌, ◌↔◌, ℕ, zero, suc, ◌+◌, ◌<◌, ◌≤◌, inl, inr, Bool, true, false, List, [], ◌∷◌, refl, subst, arith, ⊎_elim}
 use Rattle.std.proofs.lemmas.Bool.{cases_lt}
 use Rattle.cov_base.specs.declared.event.Vector.{Vector}
-use Rattle.decision_meaning.specs.Expr.{Expr, size}
-use Rattle.decision_meaning.specs.Graph.{graph, IsTree}
-use Rattle.decision_meaning.specs.Marks.{Marks, bit}
-use Rattle.decision_meaning.specs.Path.{IsPathVector}
+use Rattle.cov_base.specs.Expr.{Expr, size}
+use Rattle.cov_base.specs.Graph.{graph, IsTree}
+use Rattle.cov_base.specs.Marks.{Marks, bit}
+use Rattle.cov_base.specs.Path.{IsPathVector}
 use Rattle.cov_base.specs.Lists.{Everywhere, Somewhere}
 use Rattle.decision_meaning.specs.Pair.{is_unique_cause, is_masking}
 use Rattle.decision_meaning.specs.Verdict.{TakesEdge, TakesAllEdges, PathTakesEdge, PathsTakeAllEdges, HasPair, HasPairOfPaths}

@@ -1,8 +1,9 @@
 -- The least vectors and pairs, as the searches find them.
 use Rattle.std.specs.Prelude.{ℕ, ◌<◌, ◌^◌, Bool, true, false, ◌&&◌, List, [], ◌∷◌, Option, Some, None, if◌then◌else◌}
 use Rattle.cov_base.specs.declared.event.Vector.{Vector}
-use Rattle.decision_meaning.specs.Expr.{Expr}
-use Rattle.decision_meaning.specs.Marks.{Marks, marks, same, unmasked, precedes}
+use Rattle.cov_base.specs.Expr.{Expr}
+use Rattle.cov_base.specs.Marks.{Marks, marks, same, precedes}
+use Rattle.decision_meaning.specs.Unmasked.{unmasked}
 use Rattle.decision_meaning.specs.Pair.{Pair, pair_precedes}
 
 -- how many conditions a decision has at most, and a word has room for

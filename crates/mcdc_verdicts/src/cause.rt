@@ -1,12 +1,12 @@
 //! The search for the least unique-cause pair.
 
 ghost use Rattle.std.specs.Prelude.{◌≡◌, ◌<◌, ◌^◌};
-ghost use Rattle.decision_meaning.specs.Expr.{Expr, size};
-ghost use Rattle.decision_meaning.specs.Graph.{graph};
-ghost use Rattle.decision_meaning.specs.Marks.{marks, outcome};
+ghost use Rattle.cov_base.specs.Expr.{Expr, size};
+ghost use Rattle.cov_base.specs.Graph.{graph};
+ghost use Rattle.cov_base.specs.Marks.{marks, outcome};
 ghost use Rattle.cov_base.specs.Lists.{Everywhere};
 ghost use Rattle.decision_meaning.specs.Pair.{IsLeastPair, is_unique_cause};
-ghost use Rattle.decision_meaning.specs.Path.{IsPathVector};
+ghost use Rattle.cov_base.specs.Path.{IsPathVector};
 ghost use Rattle.mcdc_verdicts.specs.Search.{improves, is_behind, best_with};
 ghost use Rattle.mcdc_verdicts.specs.View.{pair_view};
 

@@ -1,11 +1,11 @@
 //! Whether a list of vectors takes every edge of a decision's graph.
 
 ghost use Rattle.std.specs.Prelude.{◌≡◌, ◌↔◌, ◌<◌, ℕ, true, false, IsTrue};
-ghost use Rattle.decision_meaning.specs.Expr.{Expr, size};
-ghost use Rattle.decision_meaning.specs.Graph.{graph, IsTree};
+ghost use Rattle.cov_base.specs.Expr.{Expr, size};
+ghost use Rattle.cov_base.specs.Graph.{graph, IsTree};
 ghost use Rattle.cov_base.specs.Lists.{Everywhere};
 ghost use Rattle.decision_meaning.specs.Pair.{is_unique_cause, is_masking};
-ghost use Rattle.decision_meaning.specs.Path.{IsPathVector};
+ghost use Rattle.cov_base.specs.Path.{IsPathVector};
 ghost use Rattle.decision_meaning.specs.Verdict.{PathTakesEdge, PathsTakeAllEdges, TakesAllEdges, HasPairOfPaths};
 
 use crate::order::has;

@@ -2,7 +2,7 @@
 
 ghost use Rattle.std.specs.Prelude.{◌≡◌, ◌↔◌, ℕ, nat_eq, not, IsTrue};
 ghost use Rattle.std.specs.Ordering.{is_lt, is_gt};
-ghost use Rattle.decision_meaning.specs.Marks.{bit, marks, rank, precedes};
+ghost use Rattle.cov_base.specs.Marks.{bit, marks, rank, precedes};
 ghost use Rattle.decision_meaning.specs.Pair.{turns};
 ghost use Rattle.mcdc_verdicts.specs.Search.{widest};
 

@@ -1,12 +1,12 @@
 //! The least pair of vectors that shows a condition to matter.
 
 ghost use Rattle.std.specs.Prelude.{◌≡◌, ◌<◌, ◌^◌, Bool, None};
-ghost use Rattle.decision_meaning.specs.Expr.{Expr, size};
-ghost use Rattle.decision_meaning.specs.Graph.{graph};
-ghost use Rattle.decision_meaning.specs.Marks.{marks};
+ghost use Rattle.cov_base.specs.Expr.{Expr, size};
+ghost use Rattle.cov_base.specs.Graph.{graph};
+ghost use Rattle.cov_base.specs.Marks.{marks};
 ghost use Rattle.cov_base.specs.Lists.{Everywhere};
 ghost use Rattle.decision_meaning.specs.Pair.{IsLeastPair, is_unique_cause, is_masking};
-ghost use Rattle.decision_meaning.specs.Path.{IsPathVector};
+ghost use Rattle.cov_base.specs.Path.{IsPathVector};
 ghost use Rattle.mcdc_verdicts.specs.Search.{IsWord, shows, precedes_least, lowest, pair_of};
 ghost use Rattle.mcdc_verdicts.specs.View.{pair_view};
 

@@ -1,8 +1,8 @@
 //! What a list of statements and a list of vectors cover.
 
 ghost use Rattle.std.specs.Prelude.{◌≡◌, ◌↔◌, Bool, true, false, IsTrue};
-ghost use Rattle.decision_meaning.specs.Expr.{Expr};
-ghost use Rattle.decision_meaning.specs.Graph.{graph};
+ghost use Rattle.cov_base.specs.Expr.{Expr};
+ghost use Rattle.cov_base.specs.Graph.{graph};
 ghost use Rattle.decision_meaning.specs.Verdict.{IsStarted, Gives};
 
 use condition_graph::Graph;

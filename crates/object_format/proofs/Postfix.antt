@@ -4,7 +4,7 @@ use Rattle.std.proofs.lemmas.Bool.{and_parts, and_left, and_right, ltb-true, lt-
 use Rattle.std.proofs.lemmas.List.{append-nil}
 use Rattle.std.proofs.Math.Seq.{drop-cons}
 use Rattle.std.proofs.Math.ListN.{drop_of_length-le}
-use Rattle.decision_meaning.specs.Expr.{Expr, condition, negation, operator, size, operator_byte, postfix_from, postfix_of, is_negation, negates_once}
+use Rattle.cov_base.specs.Expr.{Expr, condition, negation, operator, size, operator_byte, postfix_from, postfix_of, is_negation, negates_once}
 use Rattle.object_format.specs.Decisions.{AreExpression}
 use Rattle.object_format.proofs.Spelling.{IsRead, read_nothing, read_condition, read_not, read_operator, read_all}
 

@@ -1,7 +1,7 @@
 -- Bytes that are the expression of a decision.
 use Rattle.std.specs.Prelude.{◌≡◌, ℕ, List, length}
 use Rattle.std.specs.List.{AllByRecursion}
-use Rattle.decision_meaning.specs.Expr.{Expr, size, IsPostfixOf}
+use Rattle.cov_base.specs.Expr.{Expr, size, IsPostfixOf}
 use Rattle.object_format.specs.declared.object.Object.{Object}
 
 -- the bytes are the postfix bytes of an expression with so many conditions

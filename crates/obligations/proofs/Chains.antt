@@ -1,7 +1,7 @@
--- The decisions in the parts of an expression and of a decision, and how large these parts are.
-use Rattle.std.proofs.Common.{◌≡◌, ℕ, zero, suc, ◌+◌, ◌<◌, ◌≤◌, Bool, List, [], ◌∷◌, ◌++◌, length, get_or, refl, sym, ◌∙◌, arith}
+-- The decisions in the parts of an expression.
+use Rattle.std.proofs.Common.{◌≡◌, ℕ, List, [], ◌∷◌, ◌++◌, refl, sym, ◌∙◌}
 use Rattle.std.proofs.lemmas.List.{append_assoc, append-nil}
-use Rattle.ada_meaning.specs.Collected.{in_expr, in_parts, in_actuals, in_value, in_test}
+use Rattle.ada_meaning.specs.Collected.{in_expr, in_parts, in_actuals, in_value}
 use Rattle.ada_meaning.specs.Tree as tree
 use Rattle.ada_tree.specs.declared.expr.Actual.{Actual}
 use Rattle.ada_tree.specs.declared.expr.Actual.TheVariants as actual
@@ -10,65 +10,14 @@ use Rattle.ada_tree.specs.declared.expr.Selector.{Selector}
 use Rattle.ada_tree.specs.declared.expr.Selector.TheVariants as selector
 use Rattle.ada_tree.specs.declared.statement.Indices.{Indices}
 use Rattle.ada_tree.specs.declared.types.ScalarRange.{ScalarRange}
-use Rattle.ada_tree.specs.Sizes.{expr_size, parts_size, actuals_size, test_size}
-use Rattle.ada_tree.specs.View.{operator_of, with_operands, with_tests, with_selector, parts_of, with_actual, actuals_of, others_of, others_by}
-use Rattle.obligations.specs.Operands.{in_operands, in_tests, in_selector, in_actual}
+use Rattle.ada_tree.specs.View.{operator_of, with_operands, parts_of, actuals_of, others_of, others_by}
+use Rattle.obligations.specs.Operands.{in_operands, in_selector, in_actual}
 
 -- a chain has those of its first operand, and then those of the others
 pub in_chain : (n : ℕ) (e : tree.Expr) (os : List Operand) → in_expr n (with_operands e os) ≡ in_expr n e ++ in_operands n os
 in_chain n e [] = sym (append-nil (in_expr n e))
 in_chain n e (o ∷ os) =
     in_chain n (tree.operation (operator_of o.operator) e o.operand) os ∙ append_assoc (in_expr n e) (in_expr n o.operand) (in_operands n os)
-
--- how large the operands of a chain are
-abbrev pub operands_size : List Operand → ℕ
-operands_size [] = 0
-operands_size (o ∷ os) = expr_size o.operand + operands_size os + 1
-
-pub chain_size : (e : tree.Expr) (os : List Operand) → expr_size (with_operands e os) ≡ expr_size e + operands_size os
-chain_size e [] = omega arith
-chain_size e (o ∷ os) = omega (arith, chain_size (tree.operation (operator_of o.operator) e o.operand) os)
-
-pub operand_within : (os : List Operand) (i : ℕ) (d : Operand) → i < length os → expr_size (get_or os i d).operand + 1 ≤ operands_size os
-operand_within [] i d h = absurd (omega arith)
-operand_within (o ∷ os) zero d h = omega arith
-operand_within (o ∷ os) (suc i) d h = omega (arith, operand_within os i d (omega arith))
-
-pub expr_positive : (e : tree.Expr) → 1 ≤ expr_size e
-expr_positive (tree.literal x) = omega arith
-expr_positive (tree.constant e) = omega arith
-expr_positive (tree.attribute o parts e) = omega arith
-expr_positive (tree.read o parts) = omega arith
-expr_positive (tree.signed s e) = omega arith
-expr_positive (tree.operation o e f) = omega arith
-expr_positive (tree.relation r e f) = omega arith
-expr_positive (tree.complement e) = omega arith
-expr_positive (tree.conversion r e) = omega arith
-expr_positive (tree.call c actuals) = omega arith
-expr_positive (tree.decision d t) = omega arith
-
--- the same of the operands of a short-circuit control form
-pub in_forms : (n : ℕ) (neutral : Bool) (t : tree.Test) (us : List tree.Test) → in_test n (with_tests neutral t us) ≡ in_test n t ++ in_tests n us
-in_forms n neutral t [] = sym (append-nil (in_test n t))
-in_forms n neutral t (u ∷ us) = in_forms n neutral (tree.operator neutral t u) us ∙ append_assoc (in_test n t) (in_test n u) (in_tests n us)
-
-abbrev pub tests_size : List tree.Test → ℕ
-tests_size [] = 0
-tests_size (t ∷ ts) = test_size t + tests_size ts + 1
-
-pub forms_size : (neutral : Bool) (t : tree.Test) (us : List tree.Test) → test_size (with_tests neutral t us) ≡ test_size t + tests_size us
-forms_size neutral t [] = omega arith
-forms_size neutral t (u ∷ us) = omega (arith, forms_size neutral (tree.operator neutral t u) us)
-
-pub test_within : (ts : List tree.Test) (i : ℕ) (d : tree.Test) → i < length ts → test_size (get_or ts i d) + 1 ≤ tests_size ts
-test_within [] i d h = absurd (omega arith)
-test_within (t ∷ ts) zero d h = omega arith
-test_within (t ∷ ts) (suc i) d h = omega (arith, test_within ts i d (omega arith))
-
-pub test_positive : (t : tree.Test) → 1 ≤ test_size t
-test_positive (tree.condition at e) = omega arith
-test_positive (tree.negation t) = omega arith
-test_positive (tree.operator neutral t u) = omega arith
 
 -- actuals have those of the first one, and then those of the others
 pub actuals_front : (n : ℕ) (a : Actual) (rest : List Actual) → in_actuals n (actuals_of (a ∷ rest)) ≡ in_actual n a ++ in_actuals n (actuals_of rest)
@@ -81,37 +30,6 @@ actuals_front n (actual.Composite o ss) rest = refl
 pub parts_front : (n : ℕ) (s : Selector) (ss : List Selector) → in_parts n (parts_of (s ∷ ss)) ≡ in_selector n s ++ in_parts n (parts_of ss)
 parts_front n (selector.Component k) ss = refl
 parts_front n (selector.Element r e) ss = refl
-
--- how large an actual and a selector are, and that they are smaller than the list that they stand in
-abbrev pub actual_size : Actual → ℕ
-actual_size (actual.Expression e) = expr_size e
-actual_size (actual.Variable o r) = 0
-actual_size (actual.Part o ss r) = parts_size (parts_of ss.items)
-actual_size (actual.Composite o ss) = parts_size (parts_of ss.items)
-
-abbrev pub selector_size : Selector → ℕ
-selector_size (selector.Component n) = 0
-selector_size (selector.Element r e) = expr_size e
-
-first_actual : (a : Actual) (rest : tree.Actuals) → actual_size a + actuals_size rest + 1 ≡ actuals_size (with_actual a rest)
-first_actual (actual.Expression e) rest = omega arith
-first_actual (actual.Variable o r) rest = omega arith
-first_actual (actual.Part o ss r) rest = omega arith
-first_actual (actual.Composite o ss) rest = omega arith
-
-pub actual_within : (xs : List Actual) (i : ℕ) (d : Actual) → i < length xs → actual_size (get_or xs i d) + 1 ≤ actuals_size (actuals_of xs)
-actual_within [] i d h = absurd (omega arith)
-actual_within (x ∷ xs) zero d h = omega (arith, first_actual x (actuals_of xs))
-actual_within (x ∷ xs) (suc i) d h = omega (arith, first_actual x (actuals_of xs), actual_within xs i d (omega arith))
-
-first_selector : (s : Selector) (rest : tree.Parts) → selector_size s + parts_size rest + 1 ≡ parts_size (with_selector s rest)
-first_selector (selector.Component n) rest = omega arith
-first_selector (selector.Element r e) rest = omega arith
-
-pub selector_within : (ss : List Selector) (i : ℕ) (d : Selector) → i < length ss → selector_size (get_or ss i d) + 1 ≤ parts_size (parts_of ss)
-selector_within [] i d h = absurd (omega arith)
-selector_within (s ∷ ss) zero d h = omega (arith, first_selector s (parts_of ss))
-selector_within (s ∷ ss) (suc i) d h = omega (arith, first_selector s (parts_of ss), selector_within ss i d (omega arith))
 
 -- (others => ..) holds those of its value
 others_held : (n : ℕ) (rs : List ScalarRange) (v : tree.NewValue) → in_value n (others_of rs v) ≡ in_value n v

@@ -1,6 +1,6 @@
 pub mod Chains
 pub mod Lists
-pub mod Postfix
+pub mod Spelling
 pub mod Sizes
 pub mod Sorting
 pub mod Places

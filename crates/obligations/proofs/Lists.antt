@@ -3,19 +3,16 @@ use Rattle.std.proofs.Common.{◌≡◌, ℕ, ◌+◌, ◌<◌, ◌≤◌, List,
 use Rattle.std.proofs.lemmas.List.{append_assoc, append-nil, map-append, at_drop_more, at_drop_all}
 use Rattle.cov_base.specs.declared.obligations.StmtEntry.{StmtEntry}
 use Rattle.cov_base.specs.declared.obligations.DecEntry.{DecEntry}
-use Rattle.cov_base.specs.declared.obligations.Region.{Region}
-use Rattle.cov_base.specs.declared.obligations.InstanceEntry.{InstanceEntry}
-use Rattle.cov_base.specs.declared.obligations.Obligations.{Obligations}
 use Rattle.ada_meaning.specs.Tree as tree
 use Rattle.ada_meaning.specs.Tree.{Label, Test, Stmt, Stmts, Handlers, else_part, block}
-use Rattle.ada_meaning.specs.Collected.{Standing, after_if, after_while, after_exit, Decision, in_decision, in_declarations, in_stmt, in_stmts, in_branches, in_alternatives, in_handlers, in_block, in_value, declaration_labels, labels, all_labels, branch_labels, alternative_labels, handler_labels, block_labels}
+use Rattle.ada_meaning.specs.Collected.{Standing, after_if, after_while, after_exit, Decision, in_decision, in_declarations, in_stmt, in_stmts, in_branches, in_alternatives, in_handlers, in_value, declaration_labels, labels, all_labels, branch_labels, alternative_labels, handler_labels}
 use Rattle.ada_meaning.specs.Obligations.{statement_entry, decision_entry, predefined_names}
 use Rattle.ada_tree.specs.View.{label_of, declaration_of, statements_of, branches_of, alternatives_of, handlers_of}
 use Rattle.ada_tree.specs.declared.statement.Alternative.{Alternative}
 use Rattle.ada_tree.specs.declared.statement.Branch.{Branch}
 use Rattle.ada_tree.specs.declared.statement.Declaration.{Declaration}
 use Rattle.ada_tree.specs.declared.statement.Handler.{Handler}
-use Rattle.obligations.specs.Entries.{Entries, no_entry, joined, listed, of_label, of_nested, of_decision, of_declarations, of_statement, of_statements, of_alternatives, of_handlers, of_block, of_branch, of_branches, predefined}
+use Rattle.obligations.specs.Entries.{Entries, no_entry, joined, listed, of_entry, of_label, of_nested, of_decision, of_declarations, of_statement, of_statements, of_alternatives, of_handlers, of_block, of_branch, of_branches, predefined}
 
 pub joined_nothing : (a : Entries) → joined a no_entry ≡ a
 unfolding joined
@@ -173,11 +170,22 @@ unfolding joined listed
 statement_added ss new ds a e l view is pushed =
     (λ k. entries_of ((pushed ∙ ap (λ x. ss ++ x ∷ []) is) k) (sym (append-nil ds) k)) ∙ ap (λ z. joined z (of_label l)) view
 
-pub decision_added : (ss : List StmtEntry) (ds new : List DecEntry) (a : Entries) (e : DecEntry) (h : Decision)
-    → entries_of ss ds ≡ a → e ≡ decision_entry h → new ≡ ds ++ e ∷ [] → entries_of ss new ≡ joined a (of_nested (h ∷ []))
-unfolding joined listed
-decision_added ss ds new a e h view is pushed =
-    (λ k. entries_of (sym (append-nil ss) k) ((pushed ∙ ap (λ x. ds ++ x ∷ []) is) k)) ∙ ap (λ z. joined z (of_nested (h ∷ []))) view
+-- entries behind entries
+pub entries_appended : (ss others new : List StmtEntry) (ds ms es : List DecEntry) (a b : Entries)
+    → entries_of ss ds ≡ a → entries_of others ms ≡ b → new ≡ ss ++ others → es ≡ ds ++ ms → entries_of new es ≡ joined a b
+unfolding joined
+entries_appended ss others new ds ms es a b view seen first second =
+    (λ k. entries_of (first k) (second k)) ∙ (λ k. joined (view k) (seen k))
+
+-- an entry of a decision, and others behind it
+pub decision_added : {A E : Type 0} (r : Result A E) (ss : List StmtEntry) (ds new : List DecEntry) (a b c : Entries) (e f : DecEntry)
+    → entries_of ss ds ≡ a → e ≡ f → new ≡ ds ++ e ∷ [] → OnOk r (c ≡ joined (entries_of ss new) b) → OnOk r (c ≡ joined a (joined (of_entry f) b))
+unfolding joined
+decision_added (Err u) ss ds new a b c e f view is pushed rest = tt
+decision_added (Ok u) ss ds new a b c e f view is pushed rest =
+    let one : entries_of ss new ≡ joined a (of_entry f) =
+    (λ k. entries_of (sym (append-nil ss) k) ((pushed ∙ ap (λ x. ds ++ x ∷ []) is) k)) ∙ ap (λ z. joined z (of_entry f)) view in
+    rest ∙ ap (λ z. joined z b) one ∙ joined_assoc a (of_entry f) b
 
 pub predefined_are : predefined ≡ predefined_names
 unfolding predefined

@@ -1,5 +1,5 @@
 -- The order of places as a total one, and what a stable sort by places leaves.
-use Rattle.std.proofs.Common.{◌≡◌, ℕ, Bool, true, false, not, cond, ◌&&◌, ◌||◌, List, refl, sym, ap, subst, ◌∙◌}
+use Rattle.std.proofs.Common.{◌≡◌, Bool, true, false, not, cond, ◌&&◌, ◌||◌, List, refl, sym, ap, ◌∙◌}
 use Rattle.std.specs.declared.cmp.Ordering.{Ordering}
 use Rattle.std.specs.declared.cmp.Ordering.TheVariants.{Less, Equal, Greater}
 use Rattle.std.specs.Ordering.{nat_cmp, is_lt, ordering_then, ordering_reverse}
@@ -10,7 +10,7 @@ use Rattle.std.proofs.lemmas.Cmp.{nat_cmp_total, on_total, then_total}
 use Rattle.cov_base.specs.TextOrder.{precedes}
 use Rattle.cov_base.specs.contracts.position.PosOrd.TheImpl as ThePlaces
 use Rattle.cov_base.specs.declared.position.Pos.{Pos}
-use Rattle.ada_meaning.specs.Obligations.{in_order, inserted}
+use Rattle.ada_meaning.specs.Obligations.{in_order}
 use Rattle.obligations.specs.contracts.exceptions.ExceptionPlaceOrd.TheImpl as TheExceptions
 use Rattle.obligations.specs.declared.exceptions.ExceptionPlace.{ExceptionPlace}
 use Rattle.obligations.specs.declared.exceptions.NamedException.{NamedException}

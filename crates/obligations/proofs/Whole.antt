@@ -8,7 +8,7 @@ use Rattle.cov_base.specs.declared.obligations.Region.{Region}
 use Rattle.cov_base.specs.declared.obligations.InstanceEntry.{InstanceEntry}
 use Rattle.cov_base.specs.declared.obligations.Obligations.{Obligations}
 use Rattle.ada_meaning.specs.Collected.{in_block, block_labels, labels_of, decisions_of}
-use Rattle.ada_meaning.specs.Obligations.{inserted, in_order, statement_entry, decision_entry, instance_entry, no_instance, predefined_names, ListedException, listed_once, listed_for, listed_by, listed, is_listed_before, ordered_labels, ordered_decisions, ordered_exceptions, obligations_of}
+use Rattle.ada_meaning.specs.Obligations.{inserted, in_order, statement_entry, decision_entry, instance_entry, no_instance, ListedException, listed_for, listed_by, listed, is_listed_before, ordered_exceptions, obligations_of}
 use Rattle.ada_meaning.specs.Types.{Subtype}
 use Rattle.ada_tree.proofs.Unfolding.{block_decisions, labels_of_block}
 use Rattle.ada_tree.specs.declared.program.ExceptionDeclaration.{ExceptionDeclaration}
@@ -18,7 +18,7 @@ use Rattle.ada_tree.specs.declared.program.Subprogram.{Subprogram}
 use Rattle.ada_tree.specs.Programs.{types_of, subprogram_of, instance_of, exception_declaration_of, program_of}
 use Rattle.obligations.specs.declared.exceptions.NamedException.{NamedException}
 use Rattle.obligations.specs.Entries.{Entries, joined, listed as entries_listed, of_subprograms, predefined}
-use Rattle.obligations.specs.Exceptions.{full_name, is_before, once, in_instance, in_instances, of_declaration, of_declarations}
+use Rattle.obligations.specs.Exceptions.{full_name, is_before, in_instances, of_declaration, of_declarations}
 use Rattle.obligations.specs.Ordered.{statement_before, decision_before}
 use Rattle.obligations.proofs.Lists.{listed_joined, nothing_listed, predefined_are}
 

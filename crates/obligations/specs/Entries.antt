@@ -3,7 +3,7 @@ use Rattle.std.specs.Prelude.{List, [], ◌∷◌, ◌++◌, codes, ℕ, map}
 use Rattle.cov_base.specs.declared.obligations.StmtEntry.{StmtEntry}
 use Rattle.cov_base.specs.declared.obligations.DecEntry.{DecEntry}
 use Rattle.ada_meaning.specs.Tree.{Label, Test, Stmt, Stmts, Alternatives, Handlers, Block}
-use Rattle.ada_meaning.specs.Collected.{Standing, after_if, Decision, in_decision, in_declarations, in_stmt, in_stmts, in_alternatives, in_handlers, in_block, declaration_labels, labels, all_labels, alternative_labels, handler_labels, block_labels, labels_of, decisions_of}
+use Rattle.ada_meaning.specs.Collected.{Standing, after_if, Decision, in_decision, in_declarations, in_stmt, in_stmts, in_alternatives, in_handlers, in_block, declaration_labels, labels, all_labels, alternative_labels, handler_labels, block_labels}
 use Rattle.ada_meaning.specs.Obligations.{statement_entry, decision_entry}
 use Rattle.ada_tree.specs.View.{label_of, declaration_of, statements_of}
 use Rattle.ada_tree.specs.declared.statement.Branch.{Branch}
@@ -25,6 +25,10 @@ joined a b = record { statements = a.statements ++ b.statements; decisions = a.d
 -- the entries of these statement obligations and decisions
 unfoldable pub listed : List Label → List Decision → Entries
 listed ls ds = record { statements = map statement_entry ls; decisions = map decision_entry ds }
+
+-- one entry of a decision
+abbrev pub of_entry : DecEntry → Entries
+of_entry e = record { statements = []; decisions = e ∷ [] }
 
 abbrev pub of_label : Label → Entries
 of_label l = listed (l ∷ []) []

@@ -1,14 +1,14 @@
 //! The entries that were met so far.
 
-ghost use Rattle.std.specs.Prelude.{◌≡◌, [], ◌∷◌, OnOk};
-ghost use Rattle.ada_meaning.specs.Collected.{Standing};
-ghost use Rattle.ada_meaning.specs.Obligations.{letter_of, statement_entry};
+ghost use Rattle.std.specs.Prelude.{◌≡◌, OnOk};
+ghost use Rattle.ada_meaning.specs.Obligations.{statement_entry};
 ghost use Rattle.ada_tree.specs.View.{label_of};
-ghost use Rattle.obligations.specs.Entries.{no_entry, joined, of_label, of_nested, the_decision};
+ghost use Rattle.obligations.specs.Entries.{no_entry, joined, of_entry, of_label};
+ghost use Rattle.obligations.specs.Spelled.{entry_of, nothing_spelled};
 
-use crate::decisions::decision_entry;
-use ada_tree::{Label, Test};
-use cov_base::{DecEntry, Letter, StmtEntry};
+use crate::decisions::Spelling;
+use ada_tree::Label;
+use cov_base::{Bytes, DecEntry, DecisionExpr, Letter, Seq, StmtEntry, StmtId};
 use std::alloc::{AllocError, Global};
 use std::marker::Model;
 
@@ -48,19 +48,45 @@ impl Listing {
         Ok(())
     }
 
-    /// Adds the entry of a decision with this letter, which the statement with this number holds.
+    /// The expression of the next decision, of which nothing is spelled yet.
+    pub(crate) fn spelling(&self) -> Spelling
+        ensures { result ≡ nothing_spelled }
+    {
+        Spelling::new(self.alloc)
+    }
+
+    /// Adds the entry of a decision with this letter, which the statement with this number holds, and behind
+    /// it those that are nested in its conditions.
     pub(crate) fn add_decision(
         &mut self,
         letter: Letter,
         statement: u32,
         label: Label,
-        test: &Test,
+        spelling: Spelling,
     ) -> Result<(), AllocError>
-        ensures { (standing : Standing) → letter.0 ≡ letter_of standing
-            → OnOk result (self.new ≡ joined self.old (of_nested (the_decision standing statement (label_of label) test.now ∷ []))) }
+        ensures { OnOk result (self.new ≡ joined self.old (joined (of_entry (entry_of letter.0 statement (label_of label) spelling)) spelling.nested)) }
     {
-        let entry = decision_entry(self.alloc, letter, statement, label, test)?;
-        self.decisions.push(entry)?;
+        let mut nested = spelling.nested;
+        self.decisions.push(DecEntry {
+            statement: StmtId(statement),
+            file: label.place.file,
+            line: label.place.line,
+            column: label.place.col,
+            letter,
+            expression: DecisionExpr {
+                postfix: Bytes::from(spelling.postfix),
+            },
+            conditions: Seq::from(spelling.conditions),
+        })?;
+        self.append(&mut nested)
+    }
+
+    /// Adds entries behind these, and leaves none there.
+    fn append(&mut self, others: &mut Listing) -> Result<(), AllocError>
+        ensures { OnOk result (self.new ≡ joined self.old others.old) }
+    {
+        self.statements.append(&mut others.statements)?;
+        self.decisions.append(&mut others.decisions)?;
         Ok(())
     }
 

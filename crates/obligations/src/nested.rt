@@ -2,15 +2,18 @@
 //! parameters and in the conditions of other decisions.
 
 ghost use Rattle.std.specs.Prelude.{◌≡◌, OnOk};
-ghost use Rattle.ada_meaning.specs.Collected.{Standing, in_expr, in_parts, in_actuals, in_value, in_turns, in_test};
+ghost use Rattle.ada_meaning.specs.Collected.{Standing, in_expr, in_parts, in_actuals, in_value, in_turns};
 ghost use Rattle.ada_meaning.specs.Obligations.{letter_of};
-ghost use Rattle.ada_tree.specs.View.{parts_of, actuals_of, label_of, turns_of, value_of};
+ghost use Rattle.ada_tree.specs.View.{parts_of, actuals_of, label_of, neutral_of, turns_of, value_of};
 ghost use Rattle.obligations.specs.Entries.{joined, of_decision, of_nested};
-ghost use Rattle.obligations.specs.Operands.{in_actual, in_operands, in_selector, in_tests};
+ghost use Rattle.obligations.specs.Operands.{in_actual, in_operands, in_selector};
+ghost use Rattle.obligations.specs.Spelled.{with_others, with_test};
 
+use crate::decisions::{NOT, Spelling, form_byte};
 use crate::listing::Listing;
 use ada_tree::{
-    Actual, Decision, Expr, ExprKind, Label, LoopRange, NewValue, Operand, Selector, Test, TestKind,
+    Actual, Decision, Expr, ExprKind, Label, LoopRange, NewValue, Operand, Selector, ShortCircuit,
+    Test, TestKind,
 };
 use cov_base::Letter;
 use std::alloc::AllocError;
@@ -29,7 +32,8 @@ pub(crate) fn add_decision(
     add_labelled(listing, letter, statement, decision.label, &decision.test)
 }
 
-/// The same of a decision by its label and its test.
+/// The same of a decision by its label and its test: its expression is spelled and what is nested in it
+/// is found on one walk.
 #[cycle(nested)]
 fn add_labelled(
     listing: &mut Listing,
@@ -41,32 +45,45 @@ fn add_labelled(
     ensures { (standing : Standing) → letter.0 ≡ letter_of standing
         → OnOk result (listing.new ≡ joined listing.old (of_decision standing statement (label_of label) test.now)) }
 {
-    listing.add_decision(letter, statement, label, test)?;
-    add_in_test(listing, statement, test)
+    let mut spelling = listing.spelling();
+    add_test(&mut spelling, statement, test)?;
+    listing.add_decision(letter, statement, label, spelling)
 }
 
-/// Adds the entries of the decisions in the conditions of another.
+/// Adds a test to the expression of its decision, and the entries of the decisions in its conditions.
 #[cycle(nested)]
-fn add_in_test(listing: &mut Listing, statement: u32, test: &Test) -> Result<(), AllocError>
-    ensures { OnOk result (listing.new ≡ joined listing.old (of_nested (in_test statement test.now))) }
+fn add_test(spelling: &mut Spelling, statement: u32, test: &Test) -> Result<(), AllocError>
+    ensures { OnOk result (spelling.new ≡ with_test statement test.now spelling.old) }
 {
     match &test.kind {
-        TestKind::Condition(_, expr) => add_in_expression(listing, statement, expr),
-        TestKind::Negation(operand) => add_in_test(listing, statement, operand),
-        TestKind::ShortCircuit(_, first, others) => {
-            add_in_test(listing, statement, first)?;
-            add_in_tests(listing, statement, others)
+        TestKind::Condition(place, expr) => {
+            spelling.add_condition(*place)?;
+            add_in_expression(&mut spelling.nested, statement, expr)
+        }
+        TestKind::Negation(operand) => {
+            add_test(spelling, statement, operand)?;
+            spelling.add_operator(NOT)
+        }
+        TestKind::ShortCircuit(form, first, others) => {
+            add_test(spelling, statement, first)?;
+            add_tests(spelling, *form, statement, others)
         }
     }
 }
 
-/// Adds those in the operands right of the first one.
+/// The same of the operands of a short-circuit control form right of the first one.
 #[cycle(nested)]
-fn add_in_tests(listing: &mut Listing, statement: u32, tests: &[Test]) -> Result<(), AllocError>
-    ensures { OnOk result (listing.new ≡ joined listing.old (of_nested (in_tests statement tests.now))) }
+fn add_tests(
+    spelling: &mut Spelling,
+    form: ShortCircuit,
+    statement: u32,
+    tests: &[Test],
+) -> Result<(), AllocError>
+    ensures { OnOk result (spelling.new ≡ with_others statement (neutral_of form) tests.now spelling.old) }
 {
     for test in tests {
-        add_in_test(listing, statement, test)?;
+        add_test(spelling, statement, test)?;
+        spelling.add_operator(form_byte(form))?;
     }
     Ok(())
 }

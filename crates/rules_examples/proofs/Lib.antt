@@ -8,3 +8,4 @@ pub mod GenericsShown
 pub mod WholeShown
 pub mod ApartShown
 pub mod DoublingShown
+pub mod ObligedShown

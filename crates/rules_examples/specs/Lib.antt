@@ -10,3 +10,4 @@ pub mod Generics
 pub mod Whole
 pub mod Apart
 pub mod Doubling
+pub mod Obliged

@@ -16,6 +16,7 @@ ghost use Rattle.rules_examples.specs.Generics.{Generics};
 ghost use Rattle.rules_examples.specs.Whole.{Whole};
 ghost use Rattle.rules_examples.specs.Apart.{Apart};
 ghost use Rattle.rules_examples.specs.Doubling.{Doubling};
+ghost use Rattle.rules_examples.specs.Obliged.{Obliged};
 
 /// Objects of type Integer, assignments and calls of Test_IO.
 pub fn objects()
@@ -65,4 +66,9 @@ pub fn apart()
 /// Constants of which each is twice the one before it, forty in a row.
 pub fn doubling()
     ensures { Doubling }
+{}
+
+/// Obligations entry by entry: of recursion, instances, exceptions, and composite types.
+pub fn obliged()
+    ensures { Obliged }
 {}

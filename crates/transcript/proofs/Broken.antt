@@ -1,6 +1,6 @@
 -- Where a replay breaks.
 use Rattle.std.proofs.Common.{◌≡◌, ℕ, ◌⊎◌, inl, inr, ⊎_elim, ◌↔◌, List, [], ◌∷◌, ◌++◌, length, Option, Some, None, refl, sym, ap, subst, ◌∙◌, arith}
-use Rattle.decision_meaning.specs.Path.{Step}
+use Rattle.cov_base.specs.Path.{Step}
 use Rattle.transcript.specs.Facts.{Facts}
 use Rattle.transcript.specs.Visit.{Visit, steps, onto}
 use Rattle.transcript.specs.Reading.{Follows, AllFollow}

@@ -3,8 +3,8 @@ use Rattle.std.proofs.Common.{◌≡◌, ℕ, ◌%◌, nat_eq, Bool, true, false
 use Rattle.cov_base.specs.declared.event.Event.{Event}
 use Rattle.cov_base.specs.declared.event.Event.TheVariants.{Start, Done}
 use Rattle.rv_semantics.specs.declared.stepped.Seen.{Seen}
-use Rattle.decision_meaning.specs.Expr.{Expr, condition, operator}
-use Rattle.decision_meaning.specs.Graph.{node, leaf, target, graph, next_in, IsTree}
+use Rattle.cov_base.specs.Expr.{Expr, condition, operator}
+use Rattle.cov_base.specs.Graph.{node, leaf, target, graph, next_in, IsTree}
 use Rattle.cov_base.specs.Lists.{Somewhere}
 use Rattle.transcript.proofs.Told.{completed_among}
 use Rattle.transcript.specs.Facts.{Facts, Row, Condition, AreFair}

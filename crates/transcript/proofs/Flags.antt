@@ -4,10 +4,10 @@ use Rattle.cov_base.specs.declared.position.DecId.{DecId}
 use Rattle.cov_base.specs.declared.position.InstId.{InstId}
 use Rattle.cov_base.specs.declared.event.Vector.{Vector}
 use Rattle.rv_semantics.specs.declared.stepped.Seen.{Seen}
-use Rattle.decision_meaning.specs.Graph.{node, leaf, Edges, IsTree}
+use Rattle.cov_base.specs.Graph.{node, leaf, Edges, IsTree}
 use Rattle.cov_base.specs.Lists.{Somewhere}
-use Rattle.decision_meaning.specs.Path.{Step, LeadsTo, vector_of, IsVectorOfLeaf}
-use Rattle.decision_meaning.proofs.Reached.{one_path}
+use Rattle.cov_base.specs.Path.{Step, LeadsTo, vector_of, IsVectorOfLeaf}
+use Rattle.cov_base.proofs.Reached.{one_path}
 use Rattle.transcript.specs.Facts.{Facts, Condition, AreFair}
 use Rattle.transcript.specs.Visit.{Visit, visit_by, visit_of, visits, steps}
 use Rattle.transcript.specs.Reading.{Completes, IsCompletedFrom, Follows, AllFollow}

@@ -5,7 +5,7 @@ use Rattle.cov_base.specs.declared.position.DecId.{DecId}
 use Rattle.cov_base.specs.declared.position.InstId.{InstId}
 use Rattle.cov_base.specs.declared.event.Vector.{Vector}
 use Rattle.rv_semantics.specs.declared.stepped.Seen.{Seen}
-use Rattle.decision_meaning.specs.Path.{Step}
+use Rattle.cov_base.specs.Path.{Step}
 use Rattle.transcript.specs.Facts.{Facts, Condition}
 use Rattle.transcript.specs.Visit.{Key, Visit, visit_at, visit_by, visits, same_key, steps}
 use Rattle.transcript.specs.Reading.{Completes, IsCompletedFrom, Led, Follows, AllFollow}

@@ -1,7 +1,7 @@
 -- What is kept of each key after visits that all follow is enough for the next visit.
 use Rattle.std.proofs.Common.{◌≡◌, ⊎_elim, ◌↔◌, List, [], ◌∷◌, ◌++◌, Option, Some, None, sym, subst, ◌∙◌}
 use Rattle.cov_base.specs.declared.event.Vector.{Vector}
-use Rattle.decision_meaning.specs.Graph.{next_in}
+use Rattle.cov_base.specs.Graph.{next_in}
 use Rattle.transcript.specs.Facts.{Facts}
 use Rattle.transcript.specs.Visit.{Key, Visit, onto}
 use Rattle.transcript.specs.Reading.{Follows, AllFollow}

@@ -1,7 +1,7 @@
 -- Where each visit follows those before it, each key's steps lead from the root to where it stands.
 use Rattle.std.proofs.Common.{◌≡◌, ℕ, zero, suc, ◌⊎◌, ⊎_elim, Bool, true, false, cond, List, [], ◌∷◌, Some, refl, sym, subst, eq-eqb, arith}
-use Rattle.decision_meaning.specs.Graph.{node, Edges, next_in}
-use Rattle.decision_meaning.specs.Path.{Step}
+use Rattle.cov_base.specs.Graph.{node, Edges, next_in}
+use Rattle.cov_base.specs.Path.{Step}
 use Rattle.transcript.specs.Facts.{Facts}
 use Rattle.transcript.specs.Visit.{Key, Visit, same_key, steps}
 use Rattle.transcript.specs.Reading.{Led, Follows}

@@ -2,9 +2,9 @@
 use Rattle.std.proofs.Common.{◌≡◌, ℕ, zero, suc, Bool, true, false, cond, ◌↔◌, List, [], ◌∷◌, ◌++◌, Option, Some, None, option_map, refl, sym, ap, subst, ◌∙◌, eqb-true, eq-eqb}
 use Rattle.cov_base.specs.declared.position.DecId.{DecId}
 use Rattle.cov_base.specs.declared.event.Vector.{Vector}
-use Rattle.decision_meaning.specs.Graph.{Next, node, leaf, Edges, next_in}
-use Rattle.decision_meaning.specs.Path.{Step, LeadsTo, vector_of}
-use Rattle.decision_meaning.proofs.Reached.{root_not_entered}
+use Rattle.cov_base.specs.Graph.{Next, node, leaf, Edges, next_in}
+use Rattle.cov_base.specs.Path.{Step, LeadsTo, vector_of}
+use Rattle.cov_base.proofs.Reached.{root_not_entered}
 use Rattle.transcript.specs.Facts.{Facts, AreFair}
 use Rattle.transcript.specs.Visit.{Visit, steps}
 use Rattle.transcript.specs.Reading.{Completes, EndsWith}

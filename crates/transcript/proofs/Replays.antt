@@ -1,8 +1,8 @@
 -- What is kept of each key is enough to rebuild the vectors, and to see where visits stop following.
 use Rattle.std.proofs.Common.{◌≡◌, ℕ, zero, suc, ◌+◌, inl, inr, Bool, true, false, cond, List, [], ◌∷◌, ◌++◌, length, Option, Some, None, option_map, eqb, ne_eqb, refl, sym, ap, subst, ◌∙◌, arith}
 use Rattle.cov_base.specs.declared.event.Vector.{Vector}
-use Rattle.decision_meaning.specs.Graph.{Next, node, leaf, Edges, next_in}
-use Rattle.decision_meaning.specs.Path.{Step, LeadsTo, vector_of}
+use Rattle.cov_base.specs.Graph.{Next, node, leaf, Edges, next_in}
+use Rattle.cov_base.specs.Path.{Step, LeadsTo, vector_of}
 use Rattle.transcript.specs.Facts.{Facts}
 use Rattle.transcript.specs.Visit.{Key, Visit, same_key, steps, onto}
 use Rattle.transcript.specs.Reading.{Led, Follows, AllFollow}

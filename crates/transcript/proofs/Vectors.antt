@@ -5,8 +5,8 @@ use Rattle.cov_base.specs.declared.position.InstId.{InstId}
 use Rattle.cov_base.specs.declared.event.Event.TheVariants.{Done}
 use Rattle.cov_base.specs.declared.event.Vector.{Vector}
 use Rattle.rv_semantics.specs.declared.stepped.Seen.{Seen}
-use Rattle.decision_meaning.specs.Graph.{node, leaf, Edges, next_in}
-use Rattle.decision_meaning.specs.Path.{Step, vector_of, IsPathVector, IsVectorOfLeaf}
+use Rattle.cov_base.specs.Graph.{node, leaf, Edges, next_in}
+use Rattle.cov_base.specs.Path.{Step, vector_of, IsPathVector, IsVectorOfLeaf}
 use Rattle.transcript.specs.Facts.{Facts, AreFair}
 use Rattle.transcript.specs.Visit.{Visit, visits, steps}
 use Rattle.transcript.specs.Reading.{IsCompletedFrom, Tells}

@@ -4,8 +4,8 @@ use Rattle.cov_base.specs.declared.event.Event.{Event}
 use Rattle.cov_base.specs.declared.event.Event.TheVariants.{Done}
 use Rattle.cov_base.specs.declared.event.Vector.{Vector}
 use Rattle.rv_semantics.specs.declared.stepped.Seen.{Seen}
-use Rattle.decision_meaning.specs.Graph.{Next, node, leaf, Edges, next_in}
-use Rattle.decision_meaning.specs.Path.{Step, vector_of}
+use Rattle.cov_base.specs.Graph.{Next, node, leaf, Edges, next_in}
+use Rattle.cov_base.specs.Path.{Step, vector_of}
 use Rattle.transcript.specs.Facts.{Facts}
 use Rattle.transcript.specs.Visit.{Key, Visit, visit_of, visited, steps}
 use Rattle.transcript.specs.Reading.{started}

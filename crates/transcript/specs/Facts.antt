@@ -3,8 +3,8 @@ use Rattle.std.specs.Prelude.{◌≡◌, ℕ, ◌%◌, Bool, true, List, Option,
 use Rattle.cov_base.specs.declared.position.StmtId.{StmtId}
 use Rattle.cov_base.specs.declared.position.DecId.{DecId}
 use Rattle.cov_base.specs.declared.position.InstId.{InstId}
-use Rattle.decision_meaning.specs.Expr.{Expr}
-use Rattle.decision_meaning.specs.Graph.{Edges, graph, IsTree}
+use Rattle.cov_base.specs.Expr.{Expr}
+use Rattle.cov_base.specs.Graph.{Edges, graph, IsTree}
 
 -- the row of an address: its instruction is executed once for each start of this statement, in this instance
 pub record Row : Type 0 where

@@ -6,8 +6,8 @@ use Rattle.cov_base.specs.declared.event.Event.{Event}
 use Rattle.cov_base.specs.declared.event.Event.TheVariants.{Start, Done}
 use Rattle.cov_base.specs.declared.event.Vector.{Vector}
 use Rattle.rv_semantics.specs.declared.stepped.Seen.{Seen}
-use Rattle.decision_meaning.specs.Graph.{node, leaf, Edges, next_in}
-use Rattle.decision_meaning.specs.Path.{Step, LeadsTo, vector_of}
+use Rattle.cov_base.specs.Graph.{node, leaf, Edges, next_in}
+use Rattle.cov_base.specs.Path.{Step, LeadsTo, vector_of}
 use Rattle.cov_base.specs.Lists.{Somewhere}
 use Rattle.transcript.specs.Facts.{Facts, Row}
 use Rattle.transcript.specs.Visit.{Visit, visit_of, visits, visited, steps}

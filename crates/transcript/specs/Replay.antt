@@ -2,8 +2,8 @@
 use Rattle.std.specs.Prelude.{◌≡◌, ℕ, ◌+◌, nat_eq, bit_or, ◌^◌, List, [], ◌∷◌, ◌++◌, length, Option, Some, None, if◌then◌else◌}
 use Rattle.cov_base.specs.declared.event.Event.{Event}
 use Rattle.cov_base.specs.declared.event.Vector.{Vector}
-use Rattle.decision_meaning.specs.Graph.{Next, node, leaf, Edges, next_in}
-use Rattle.decision_meaning.specs.Path.{Step, vector_of}
+use Rattle.cov_base.specs.Graph.{Next, node, leaf, Edges, next_in}
+use Rattle.cov_base.specs.Path.{Step, vector_of}
 use Rattle.transcript.specs.Facts.{Facts}
 use Rattle.transcript.specs.Visit.{Key, Visit, same_key, steps, onto}
 use Rattle.transcript.specs.Reading.{Follows, AllFollow}

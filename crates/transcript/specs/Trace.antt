@@ -6,9 +6,9 @@ use Rattle.cov_base.specs.declared.event.Event.{Event}
 use Rattle.cov_base.specs.declared.event.Event.TheVariants.{Start, Done}
 use Rattle.cov_base.specs.declared.event.Vector.{Vector}
 use Rattle.rv_semantics.specs.declared.stepped.Seen.{Seen}
-use Rattle.decision_meaning.specs.Marks.{same}
+use Rattle.cov_base.specs.Marks.{same}
 use Rattle.cov_base.specs.Lists.{Somewhere, Everywhere}
-use Rattle.decision_meaning.specs.Path.{IsVectorOfLeaf}
+use Rattle.cov_base.specs.Path.{IsVectorOfLeaf}
 use Rattle.transcript.specs.Facts.{Facts, Condition}
 use Rattle.transcript.specs.Visit.{Visit, visit_at}
 use Rattle.transcript.specs.Reading.{IsCompletedFrom}

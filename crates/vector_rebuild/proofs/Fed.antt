@@ -6,7 +6,7 @@ use Rattle.std.proofs.lemmas.List.Elements.{filter_map-append}
 use Rattle.cov_base.specs.declared.event.Vector.{Vector}
 use Rattle.cov_base.specs.declared.failure.Failure.{Failure}
 use Rattle.cov_base.specs.declared.failure.Failure.TheVariants.{Fault, WantOfMemory}
-use Rattle.decision_meaning.specs.Graph.{Next, next_in}
+use Rattle.cov_base.specs.Graph.{Next, next_in}
 use Rattle.trace_format.specs.declared.trace.HistoryEntry.{HistoryEntry}
 use Rattle.transcript.proofs.Joined.{follow_append}
 use Rattle.transcript.proofs.Kept.{kept_follows, kept_completes, kept_keeps}

@@ -8,8 +8,8 @@ use Rattle.decision_map.proofs.Needed.{graph_of_spelled}
 use Rattle.decision_map.specs.declared.condition.Condition.{Condition}
 use Rattle.decision_map.specs.Decisions.{graph_at}
 use Rattle.decision_map.specs.Roles.{condition_of, condition_at}
-use Rattle.decision_meaning.specs.Expr.{Expr, condition, negation, operator, size}
-use Rattle.decision_meaning.specs.Graph.{Next, node, nodes, graph}
+use Rattle.cov_base.specs.Expr.{Expr, condition, negation, operator, size}
+use Rattle.cov_base.specs.Graph.{Next, node, nodes, graph}
 use Rattle.line_table.specs.declared.roles.Role.{Role}
 use Rattle.object_format.specs.Checked.{IsSound}
 use Rattle.object_format.specs.Decisions.{AreExpression}

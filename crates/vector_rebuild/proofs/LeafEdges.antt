@@ -4,9 +4,9 @@ use Rattle.cov_base.specs.declared.event.Event.{Event}
 use Rattle.cov_base.specs.declared.event.Event.TheVariants.{Start, Done}
 use Rattle.cov_base.specs.declared.event.Vector.{Vector}
 use Rattle.cov_base.specs.declared.position.DecId.{DecId}
-use Rattle.decision_meaning.specs.Graph.{next_in}
+use Rattle.cov_base.specs.Graph.{next_in}
 use Rattle.cov_base.specs.Lists.{Somewhere}
-use Rattle.decision_meaning.specs.Path.{IsVectorOfLeaf, IsOutcome}
+use Rattle.cov_base.specs.Path.{IsVectorOfLeaf, IsOutcome}
 use Rattle.trace_format.specs.declared.trace.Block.{Block as FileBlock}
 use Rattle.transcript.proofs.Lists.{weaker, in_append, in_left, in_right, one_of, at_one}
 use Rattle.transcript.proofs.Vectors.{one_vector}

@@ -5,7 +5,7 @@ use Rattle.cov_base.specs.declared.position.InstId.{InstId}
 use Rattle.cov_base.specs.declared.event.Event.{Event}
 use Rattle.cov_base.specs.declared.event.Event.TheVariants.{Start, Done}
 use Rattle.cov_base.specs.declared.event.Vector.{Vector}
-use Rattle.decision_meaning.specs.Path.{IsVectorOfLeaf}
+use Rattle.cov_base.specs.Path.{IsVectorOfLeaf}
 use Rattle.transcript.specs.Facts.{Facts, Condition}
 use Rattle.transcript.specs.Trace.{Block, Trace, flag, IsFlagged}
 

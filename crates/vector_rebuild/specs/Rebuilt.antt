@@ -7,8 +7,8 @@ use Rattle.cov_base.specs.declared.event.Event.TheVariants.{Done}
 use Rattle.cov_base.specs.declared.event.Vector.{Vector}
 use Rattle.cov_base.specs.declared.failure.Failure.{Failure}
 use Rattle.cov_base.specs.declared.failure.Failure.TheVariants.{Fault, WantOfMemory}
-use Rattle.decision_meaning.specs.Graph.{Next}
-use Rattle.decision_meaning.specs.Path.{Step as PathStep}
+use Rattle.cov_base.specs.Graph.{Next}
+use Rattle.cov_base.specs.Path.{Step as PathStep}
 use Rattle.transcript.specs.Facts.{Facts}
 use Rattle.transcript.specs.Replay.{Half as Open, Keeps, with_step, half_by, over_by}
 use Rattle.transcript.specs.Reading.{Follows, AllFollow, AreDoneAt}

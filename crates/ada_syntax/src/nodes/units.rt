@@ -168,6 +168,14 @@ impl Nodes for WithClause {
     }
 }
 
+/// The number of nodes of what a unit declares, without its context clauses. The count stands still at
+/// 2^32 - 1.
+pub fn item_node_count(item: &LibraryItem) -> u32
+    ensures { result ≡ capped (count.item_nodes item.now) }
+{
+    item.nodes()
+}
+
 /// The number of nodes of a unit: of its tokens but for `( ) , ; : . ' =>`. The count stands still
 /// at 2^32 - 1.
 pub fn node_count(unit: &Unit) -> u32

@@ -1,8 +1,8 @@
 //! Reads, writes and puts that fail, files that are not there, and words that are no command.
 
 use super::{
-    COMPILE, COVERAGE, Case, NO_FAULTS, P1_REPORT, Plan, RUN, all_files, hold, holds, quiet,
-    unread_status,
+    COMPILE, CONSOLIDATE, COVERAGE, Case, NO_FAULTS, P1_REPORT, Plan, RUN, all_files, hold, holds,
+    quiet, unread_status,
 };
 use commands::Status;
 use cov_io::MemFiles;
@@ -101,7 +101,7 @@ fn are_refused(alloc: Global, before: &MemFiles, cases: &[Case<'_>]) -> Result<b
     Ok(true)
 }
 
-fn file_faults() -> [Case<'static>; 8] {
+fn file_faults() -> [Case<'static>; 10] {
     [
         unread(COMPILE, 0, &[0], "gnatcov: cannot read p1.adb\n"),
         unwritten(COMPILE, &[1]),
@@ -111,6 +111,8 @@ fn file_faults() -> [Case<'static>; 8] {
         unread(COVERAGE, 0, &[0], "gnatcov: cannot read p1.obj\n"),
         unread(COVERAGE, 1, &[1], "gnatcov: cannot read p1.trace\n"),
         unread(COVERAGE, 2, &[2], "gnatcov: cannot read copy.trace\n"),
+        unread(CONSOLIDATE, 2, &[2], "gnatcov: cannot read copy.trace\n"),
+        unwritten(CONSOLIDATE, &[3]),
     ]
 }
 

@@ -1,4 +1,4 @@
-use Rattle.decision_meaning.specs.Expr.{size}
+use Rattle.cov_base.specs.Expr.{size}
 use Rattle.decision_meaning.specs.Pair.{is_unique_cause, is_masking}
 use Rattle.decision_meaning.proofs.Symmetry.{unique_cause_swaps, masking_swaps, lesser_first}
 use Rattle.decision_meaning.proofs.a_pair_may_be_exchanged.Goals as goal

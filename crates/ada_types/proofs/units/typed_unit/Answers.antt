@@ -1,6 +1,7 @@
-use Rattle.std.proofs.Common.{◌≡◌, rules, Some, subst}
+use Rattle.std.proofs.Common.{◌≡◌, rules, Some, IfSome, IfOk, sym, subst}
 use Rattle.ada_names.specs.Names.{Region}
 use Rattle.ada_names.specs.Library.{declarations_of_item, statements_of_item}
+use Rattle.ada_types.specs.Checked.{body_of}
 use Rattle.ada_types.specs.Rules.{parts_of_block}
 use Rattle.ada_types.specs.TypingCode.{SomeRefused, typed_parts, unit_context}
 use Rattle.ada_types.proofs.UnitLaws as law
@@ -15,11 +16,18 @@ returns-in_err-block c =
     (λ (s : Region). SomeRefused (parts_of_block (unit_context s places) (declarations_of_item u.item) (statements_of_item u.item)) f) c.in_ok-seen.ensures c.in_err-block.ensures) in
     search (rules, r)
 
-pub returns : goal.returns
-returns c =
+pub returns-clause-typed : goal.returns-clause-typed
+returns-clause-typed c =
     let places = c.args.places.now in
     let u = c.args.unit.now in
     let b = c.in_ok-block.block in
     law.unit_shown c.args.library.now places c.args.number u b (subst
     (λ (s : Region). typed_parts (unit_context s places) (declarations_of_item u.item) (statements_of_item u.item) ≡ Some b) c.in_ok-seen.ensures c.in_ok-block.ensures)
-    c.plain_subprogram.result c.mistyped.result c.ok_or.result c.plain_subprogram.ensures c.mistyped.ensures c.ok_or.ensures.value
+    c.plain_subprogram.result c.mistyped.result c.ok_or.result c.plain_subprogram.ensures.procedure c.mistyped.ensures c.ok_or.ensures.value
+
+pub returns-clause-entry : goal.returns-clause-entry
+returns-clause-entry c =
+    let e = body_of c.args.unit.now in
+    subst (λ r. IfOk r (λ s. s.entry ≡ e)) (sym c.ok_or.ensures.value)
+    (law.entry_kept e c.plain_subprogram.result c.mistyped.result
+    (subst (λ x. IfSome c.plain_subprogram.result (λ s. s.entry ≡ x)) c.body_entry.ensures c.plain_subprogram.ensures.entry))

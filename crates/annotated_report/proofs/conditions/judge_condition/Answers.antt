@@ -1,6 +1,6 @@
 use Rattle.std.proofs.Common.{◌++◌, ◌∙◌, ap, length, Bool}
 use Rattle.std.proofs.lemmas.Result.{on_ok_weaker}
-use Rattle.decision_meaning.proofs.Edges.{length_graph}
+use Rattle.cov_base.proofs.Edges.{length_graph}
 use Rattle.mcdc_verdicts.specs.View.{pair_view}
 use Rattle.annotated_report.specs.Findings.{expr_of, pair_finding}
 use Rattle.annotated_report.specs.Shown.{pair_line}

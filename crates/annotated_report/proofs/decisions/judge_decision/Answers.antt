@@ -1,5 +1,5 @@
 use Rattle.std.proofs.Common.{◌∙◌, sym, ap, length, arith}
-use Rattle.decision_meaning.proofs.Edges.{length_graph}
+use Rattle.cov_base.proofs.Edges.{length_graph}
 use Rattle.annotated_report.specs.Findings.{expr_of}
 use Rattle.std.proofs.lemmas.Grind.{common_steps}
 use Rattle.annotated_report.proofs.decisions.judge_decision.Goals as goal

@@ -1,8 +1,8 @@
 use Rattle.std.proofs.Common.{◌<◌, ◌∙◌, [], length, sym, subst, arith}
 use Rattle.std.proofs.lemmas.List.{get_or_read}
-use Rattle.decision_meaning.specs.Graph.{graph}
+use Rattle.cov_base.specs.Graph.{graph}
 use Rattle.cov_base.specs.Lists.{Everywhere}
-use Rattle.decision_meaning.specs.Path.{IsPathVector}
+use Rattle.cov_base.specs.Path.{IsPathVector}
 use Rattle.annotated_report.specs.Findings.{expr_of}
 use Rattle.annotated_report.proofs.Spelled.{spelled_at, placed_at, paths_at, item_at}
 use Rattle.std.proofs.lemmas.Grind.{common_steps}

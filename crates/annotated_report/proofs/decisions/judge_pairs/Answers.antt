@@ -3,7 +3,7 @@ use Rattle.std.proofs.lemmas.Bool.{cond-true}
 use Rattle.std.proofs.lemmas.Result.{on_ok_weaker}
 use Rattle.cov_base.specs.declared.event.Vector.{Vector}
 use Rattle.cov_base.specs.Lists.{Everywhere}
-use Rattle.decision_meaning.specs.Path.{IsPathVector}
+use Rattle.cov_base.specs.Path.{IsPathVector}
 use Rattle.annotated_report.specs.declared.finding.Finding.{Finding}
 use Rattle.annotated_report.specs.declared.finding.PairLine.{PairLine}
 use Rattle.annotated_report.specs.Findings.{asks_pairs, expr_of, unpaired}

@@ -1,4 +1,4 @@
-use Rattle.decision_meaning.specs.Expr.{size}
+use Rattle.cov_base.specs.Expr.{size}
 use Rattle.annotated_report.specs.LeastPair.{kind_of}
 use Rattle.annotated_report.proofs.Giving.{started_law, gives_law, covered_law}
 use Rattle.annotated_report.proofs.LeastPairs.{least_pair_is}

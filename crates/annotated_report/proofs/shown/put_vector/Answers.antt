@@ -1,5 +1,5 @@
 use Rattle.std.proofs.Common.{arith, ap, ◌∙◌, ◌++◌, ◌∷◌, []}
-use Rattle.decision_meaning.specs.Marks.{marks}
+use Rattle.cov_base.specs.Marks.{marks}
 use Rattle.annotated_report.proofs.Vectors.{letters_more}
 use Rattle.annotated_report.proofs.shown.put_vector.Goals as goal
 

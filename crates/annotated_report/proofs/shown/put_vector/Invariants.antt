@@ -1,5 +1,5 @@
 use Rattle.std.proofs.Common.{◌≡◌, ◌≤◌, ◌-◌, ◌++◌}
-use Rattle.decision_meaning.specs.Marks.{marks}
+use Rattle.cov_base.specs.Marks.{marks}
 use Rattle.annotated_report.specs.Shown.{vector_from, vector_text}
 use Rattle.annotated_report.proofs.shown.put_vector.Given as goal
 

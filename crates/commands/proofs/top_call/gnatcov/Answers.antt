@@ -1,5 +1,6 @@
 use Rattle.commands.proofs.ClauseLaws.{usage_law, done_law, files_law, others_law, line_law, rose_law, read_fault_law, write_fault_law}
-use Rattle.commands.proofs.CompleteLaws.{compile_law, run_law, trap_law, coverage_law}
+use Rattle.commands.proofs.CompleteLaws.{compile_law, run_law, trap_law, coverage_law, consolidate_law}
+use Rattle.commands.proofs.ConsolidateLaws.{consolidated_law, program_law}
 use Rattle.commands.proofs.HeadlineLaws.{headline_law}
 use Rattle.commands.proofs.PairLaws.{pairs_law}
 use Rattle.commands.proofs.RunsLaw.{runs_law}
@@ -38,6 +39,12 @@ returns-clause-source g c = headline_law _ _ _ c.answer.ensures
 pub returns-clause-pairs : goal.returns-clause-pairs
 returns-clause-pairs g c = pairs_law _ _ _ c.answer.ensures
 
+pub returns-clause-consolidated : goal.returns-clause-consolidated
+returns-clause-consolidated g c = consolidated_law _ _ _ c.answer.ensures
+
+pub returns-clause-merged : goal.returns-clause-merged
+returns-clause-merged g c = program_law _ _ _ c.answer.ensures
+
 pub returns-clause-compiles : goal.returns-clause-compiles
 returns-clause-compiles g c = compile_law _ _ _ c.answer.ensures
 
@@ -49,3 +56,6 @@ returns-clause-no_trap g c = trap_law _ _ _ c.answer.ensures
 
 pub returns-clause-covers : goal.returns-clause-covers
 returns-clause-covers g c = coverage_law _ _ _ c.answer.ensures
+
+pub returns-clause-consolidates : goal.returns-clause-consolidates
+returns-clause-consolidates g c = consolidate_law _ _ _ c.answer.ensures

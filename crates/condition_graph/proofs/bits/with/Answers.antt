@@ -1,5 +1,5 @@
 use Rattle.std.proofs.Common.{Bool, cond, eqb, sym, ap, ◌∙◌}
-use Rattle.decision_meaning.specs.Marks.{bit}
+use Rattle.cov_base.specs.Marks.{bit}
 use Rattle.condition_graph.proofs.BitLemmas.{bit_with_true, bit_with_false}
 use Rattle.condition_graph.proofs.bits.with.Goals as goal
 

@@ -1,4 +1,4 @@
-use Rattle.decision_meaning.specs.Marks.{bit}
+use Rattle.cov_base.specs.Marks.{bit}
 use Rattle.condition_graph.specs.declared.node.Next.TheVariants.{Node}
 use Rattle.condition_graph.specs.declared.node.Exits.{Exits}
 use Rattle.condition_graph.proofs.Findings.{finds_before}

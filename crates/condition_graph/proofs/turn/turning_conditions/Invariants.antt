@@ -1,5 +1,5 @@
 use Rattle.std.proofs.Common.{◌≡◌, ℕ, map, drop}
-use Rattle.decision_meaning.specs.Marks.{bit, marks}
+use Rattle.cov_base.specs.Marks.{bit, marks}
 use Rattle.decision_meaning.specs.Turn.{open_from, can_turn_from}
 use Rattle.condition_graph.specs.Target.{edges_of}
 use Rattle.condition_graph.proofs.turn.turning_conditions.Given as goal

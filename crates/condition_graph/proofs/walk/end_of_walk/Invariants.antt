@@ -1,6 +1,6 @@
 use Rattle.std.proofs.Common.{◌≡◌, map, drop}
-use Rattle.decision_meaning.specs.Marks.{bit}
-use Rattle.decision_meaning.specs.Path.{walked_from, walked}
+use Rattle.cov_base.specs.Marks.{bit}
+use Rattle.cov_base.specs.Path.{walked_from, walked}
 use Rattle.condition_graph.specs.Target.{edges_of, place_of}
 use Rattle.condition_graph.proofs.walk.end_of_walk.Given as goal
 

@@ -1,8 +1,8 @@
 use Rattle.std.proofs.Common.{◌≡◌, ◌≤◌, List, map, ap, sym, subst, arith, ◌∙◌}
-use Rattle.decision_meaning.specs.Expr.{size}
-use Rattle.decision_meaning.specs.Graph.{Edges, graph, leaf, next_in}
-use Rattle.decision_meaning.specs.Marks.{bit}
-use Rattle.decision_meaning.specs.Path.{LeadsTo}
+use Rattle.cov_base.specs.Expr.{size}
+use Rattle.cov_base.specs.Graph.{Edges, graph, leaf, next_in}
+use Rattle.cov_base.specs.Marks.{bit}
+use Rattle.cov_base.specs.Path.{LeadsTo}
 use Rattle.cov_base.specs.declared.event.Vector.{Vector}
 use Rattle.condition_graph.specs.Target.{edges_of, place_of}
 use Rattle.condition_graph.proofs.Places.{next_of_item, length_of_graph}

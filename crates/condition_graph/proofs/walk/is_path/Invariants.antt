@@ -1,7 +1,7 @@
 use Rattle.std.proofs.Common.{◌≡◌, Bool, List, map}
-use Rattle.decision_meaning.specs.Expr.{Expr}
-use Rattle.decision_meaning.specs.Graph.{leaf, graph}
-use Rattle.decision_meaning.specs.Path.{Step, LeadsTo, vector_of}
+use Rattle.cov_base.specs.Expr.{Expr}
+use Rattle.cov_base.specs.Graph.{leaf, graph}
+use Rattle.cov_base.specs.Path.{Step, LeadsTo, vector_of}
 use Rattle.condition_graph.specs.Target.{edges_of, place_of}
 use Rattle.condition_graph.proofs.Ways.{IsWalk, OnWay}
 use Rattle.condition_graph.proofs.walk.is_path.Given as goal

@@ -1,7 +1,7 @@
 use Rattle.std.proofs.Common.{◌≡◌, true, sym, subst, arith}
 use Rattle.std.proofs.lemmas.Bool.Decides.{nat_tests}
 use Rattle.decision_map.specs.Decisions.{expression_at}
-use Rattle.decision_meaning.specs.Path.{IsPathVector}
+use Rattle.cov_base.specs.Path.{IsPathVector}
 use Rattle.coverage_set.proofs.consolidated.is_possible.Goals as goal
 
 pub returns-then-not-has : goal.returns-then-not-has

@@ -1,7 +1,7 @@
 use Rattle.std.proofs.Common.{◌≤◌, true, false, not, take, Some, sym, ap, subst, arith, option_map, IfSome, eqb}
 use Rattle.std.proofs.lemmas.Bool.{and_parts}
 use Rattle.std.proofs.lemmas.Option.{IfSome_then}
-use Rattle.decision_meaning.specs.Marks.{same}
+use Rattle.cov_base.specs.Marks.{same}
 use Rattle.trace_format.specs.declared.trace.Block.{Block}
 use Rattle.decision_map.specs.declared.fault.FitFault.TheVariants.{Edge}
 use Rattle.decision_map.specs.Blocks.{agrees}

@@ -1,6 +1,6 @@
 use Rattle.std.proofs.Common.{drop}
 use Rattle.cov_base.specs.Lists.{Everywhere}
-use Rattle.decision_meaning.specs.Path.{IsPathVector}
+use Rattle.cov_base.specs.Path.{IsPathVector}
 use Rattle.layer_cases.proofs.decisions.are_paths.Given as goal
 
 -- if the vectors that are left are of paths, all are

@@ -1,10 +1,11 @@
 use Rattle.std.proofs.lemmas.Grind.{common_steps}
 use Rattle.std.proofs.Common.{sym, ap, ◌∙◌, arith}
 use Rattle.ada_meaning.specs.Tree as tree
+use Rattle.ada_tree.proofs.Chains.{tests_size, forms_size, test_within, test_positive}
 use Rattle.ada_tree.specs.Sizes.{test_size}
 use Rattle.ada_tree.specs.View.{neutral_of, test_at}
 use Rattle.lower.specs.Forms.{conditions_in}
-use Rattle.lower.proofs.Forms.{tests_size, form_size, form_conditions, test_within, test_positive, count_is}
+use Rattle.lower.proofs.Forms.{form_conditions, count_is}
 use Rattle.lower.proofs.edges.+conditions.Goals as goal
 
 pub conditions_in-conditions_of-requires : goal.conditions_in-conditions_of-requires
@@ -16,7 +17,7 @@ conditions_of-conditions_in-requires t c =
     let first = c.in-ShortCircuit.first.value in
     let others = c.in-ShortCircuit.others.items in
     let is = ap test_size (sym c.test.view_is ∙ ap test_at c.in-ShortCircuit.is) in
-    (omega (arith, is, form_size (neutral_of c.in-ShortCircuit.field-0) first others, test_positive first, ap tests_size c.deref-in-ShortCircuit-2.ensures.value), tt)
+    (omega (arith, is, forms_size (neutral_of c.in-ShortCircuit.field-0) first others, test_positive first, ap tests_size c.deref-in-ShortCircuit-2.ensures.value), tt)
 
 pub conditions_of-returns-in_ok-conditions_in-in-ShortCircuit : goal.conditions_of-returns-in_ok-conditions_in-in-ShortCircuit
 conditions_of-returns-in_ok-conditions_in-in-ShortCircuit t c =

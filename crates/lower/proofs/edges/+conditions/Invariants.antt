@@ -1,7 +1,7 @@
 use Rattle.std.proofs.Common.{◌≡◌, ◌+◌, ◌*◌, drop}
+use Rattle.ada_tree.proofs.Chains.{tests_size}
 use Rattle.ada_tree.specs.Sizes.{test_size}
 use Rattle.lower.specs.Forms.{conditions_in}
-use Rattle.lower.proofs.Forms.{tests_size}
 use Rattle.lower.proofs.edges.+conditions.Given as goal
 
 abbrev pub decreases-conditions_of : goal.decreases-conditions_of

@@ -2,7 +2,7 @@ use Rattle.std.proofs.Common.{◌≡◌, ◌+◌, ◌*◌, ◌≤◌, max, drop}
 use Rattle.ada_tree.specs.Sizes.{stmt_size, stmts_size, branches_size, block_size}
 use Rattle.ada_tree.specs.View.{statements_of, branches_of}
 use Rattle.kernel_ir.specs.Sequence.{joined}
-use Rattle.lower.specs.Known.{number_of, bounds_of}
+use Rattle.lower.specs.Known.{known_by}
 use Rattle.lower.specs.Lowered.{end_of_statements, statements_code}
 use Rattle.lower.proofs.statements.+statement.Given as goal
 
@@ -27,7 +27,7 @@ decreases-put_block l = 4 * block_size l.block.now
 -- what is left to put, behind what was put, is the whole
 abbrev pub invariant-put_statements-loop-statement : goal.invariant-put_statements-loop-statement
 invariant-put_statements-loop-statement l =
-    (joined l.code (statements_code number_of bounds_of l.objects (statements_of (drop l.statement-index l.statements)))
-    ≡ joined l.fn.code (statements_code number_of bounds_of l.fn.objects (statements_of l.fn.statements)))
+    (joined l.code (statements_code (known_by l.statics) l.objects (statements_of (drop l.statement-index l.statements)))
+    ≡ joined l.fn.code (statements_code (known_by l.fn.statics) l.fn.objects (statements_of l.fn.statements)))
     × (max l.end (end_of_statements l.objects (statements_of (drop l.statement-index l.statements))) ≡ end_of_statements l.fn.objects (statements_of l.fn.statements))
     × (l.objects + 1 ≤ l.end)

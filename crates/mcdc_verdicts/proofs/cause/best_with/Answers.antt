@@ -1,9 +1,10 @@
 use Rattle.std.proofs.Common.{◌≡◌, false, List, sym, subst, ◌∙◌}
-use Rattle.decision_meaning.specs.Graph.{Edges}
-use Rattle.decision_meaning.specs.Marks.{marks, unmasked}
+use Rattle.cov_base.specs.Graph.{Edges}
+use Rattle.cov_base.specs.Marks.{marks}
+use Rattle.decision_meaning.specs.Unmasked.{unmasked}
 use Rattle.cov_base.specs.Lists.{Everywhere}
 use Rattle.decision_meaning.specs.Pair.{is_unique_cause}
-use Rattle.decision_meaning.specs.Path.{IsPathVector}
+use Rattle.cov_base.specs.Path.{IsPathVector}
 use Rattle.mcdc_verdicts.specs.View.{pair_view}
 use Rattle.mcdc_verdicts.proofs.Searching.{behind_row, masked_row}
 use Rattle.mcdc_verdicts.proofs.cause.best_with.Goals as goal

@@ -1,6 +1,6 @@
 use Rattle.std.proofs.Common.{◌≡◌, true, false, not, sym, ap, subst, ◌∙◌}
-use Rattle.decision_meaning.specs.Marks.{marks, same, outcome}
-use Rattle.decision_meaning.specs.Path.{IsPathVector}
+use Rattle.cov_base.specs.Marks.{marks, same, outcome}
+use Rattle.cov_base.specs.Path.{IsPathVector}
 use Rattle.mcdc_verdicts.proofs.Causing.{TurnsOnly, cause_by_outcomes, no_cause, path-unseen, beq-same, same-swap}
 use Rattle.mcdc_verdicts.proofs.cause.is_cause.Goals as goal
 

@@ -2,10 +2,10 @@ use Rattle.std.proofs.Common.{arith}
 use Rattle.std.proofs.lemmas.Grind.{common_steps}
 use Rattle.std.proofs.Common.{◌≡◌, [], None, drop, sym, ap, subst, ◌∙◌}
 use Rattle.std.proofs.lemmas.List.{drop_all}
-use Rattle.decision_meaning.specs.Expr.{size}
+use Rattle.cov_base.specs.Expr.{size}
 use Rattle.cov_base.specs.Lists.{Everywhere}
 use Rattle.decision_meaning.specs.Pair.{IsLeastPair, is_unique_cause}
-use Rattle.decision_meaning.specs.Path.{IsPathVector}
+use Rattle.cov_base.specs.Path.{IsPathVector}
 use Rattle.mcdc_verdicts.specs.Search.{IsWord, best_of}
 use Rattle.mcdc_verdicts.specs.View.{pair_view}
 use Rattle.mcdc_verdicts.proofs.Searching.{search_finds}

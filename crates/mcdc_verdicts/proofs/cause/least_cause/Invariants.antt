@@ -1,9 +1,9 @@
 use Rattle.std.proofs.Common.{◌≡◌, drop, None}
-use Rattle.decision_meaning.specs.Expr.{Expr}
-use Rattle.decision_meaning.specs.Graph.{graph}
+use Rattle.cov_base.specs.Expr.{Expr}
+use Rattle.cov_base.specs.Graph.{graph}
 use Rattle.cov_base.specs.Lists.{Everywhere}
 use Rattle.decision_meaning.specs.Pair.{is_unique_cause}
-use Rattle.decision_meaning.specs.Path.{IsPathVector}
+use Rattle.cov_base.specs.Path.{IsPathVector}
 use Rattle.mcdc_verdicts.specs.Search.{IsWord, best_of}
 use Rattle.mcdc_verdicts.specs.View.{pair_view}
 use Rattle.mcdc_verdicts.proofs.cause.least_cause.Given as goal

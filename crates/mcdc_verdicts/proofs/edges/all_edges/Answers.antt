@@ -1,10 +1,10 @@
 use Rattle.std.proofs.Common.{◌≡◌, ◌<◌, true, false, List, length, ap, subst, arith, refl}
-use Rattle.decision_meaning.specs.Expr.{Expr, size}
-use Rattle.decision_meaning.specs.Graph.{Edges, graph, IsTree}
-use Rattle.decision_meaning.specs.Path.{IsPathVector}
+use Rattle.cov_base.specs.Expr.{Expr, size}
+use Rattle.cov_base.specs.Graph.{Edges, graph, IsTree}
+use Rattle.cov_base.specs.Path.{IsPathVector}
 use Rattle.cov_base.specs.Lists.{Everywhere}
 use Rattle.decision_meaning.specs.Verdict.{PathsTakeAllEdges}
-use Rattle.decision_meaning.proofs.Edges.{length_graph}
+use Rattle.cov_base.proofs.Edges.{length_graph}
 use Rattle.mcdc_verdicts.proofs.Taking.{both_are_all, pairs_of_paths, takes_all}
 use Rattle.mcdc_verdicts.proofs.edges.all_edges.Goals as goal
 

@@ -1,6 +1,6 @@
 use Rattle.std.proofs.Common.{◌≡◌, ◌<◌, ℕ, Bool}
-use Rattle.decision_meaning.specs.Expr.{Expr}
-use Rattle.decision_meaning.specs.Graph.{graph}
+use Rattle.cov_base.specs.Expr.{Expr}
+use Rattle.cov_base.specs.Graph.{graph}
 use Rattle.decision_meaning.specs.Verdict.{PathTakesEdge}
 use Rattle.mcdc_verdicts.proofs.edges.all_edges.Given as goal
 

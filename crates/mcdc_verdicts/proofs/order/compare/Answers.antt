@@ -1,5 +1,5 @@
 use Rattle.std.proofs.Common.{sym, ◌∙◌}
-use Rattle.decision_meaning.specs.Marks.{marks}
+use Rattle.cov_base.specs.Marks.{marks}
 use Rattle.mcdc_verdicts.proofs.Searching.{one_way}
 use Rattle.mcdc_verdicts.proofs.order.compare.Goals as goal
 

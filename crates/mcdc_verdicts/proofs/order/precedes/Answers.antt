@@ -1,5 +1,5 @@
 use Rattle.std.proofs.Common.{◌<◌, sym, arith}
-use Rattle.decision_meaning.specs.Marks.{marks}
+use Rattle.cov_base.specs.Marks.{marks}
 use Rattle.mcdc_verdicts.proofs.Ordering.{no_difference, first_difference}
 use Rattle.mcdc_verdicts.proofs.order.precedes.Goals as goal
 

@@ -1,8 +1,8 @@
 use Rattle.std.proofs.Common.{◌≡◌, drop, None}
-use Rattle.decision_meaning.specs.Expr.{Expr}
-use Rattle.decision_meaning.specs.Graph.{graph}
+use Rattle.cov_base.specs.Expr.{Expr}
+use Rattle.cov_base.specs.Graph.{graph}
 use Rattle.cov_base.specs.Lists.{Everywhere}
-use Rattle.decision_meaning.specs.Path.{IsPathVector}
+use Rattle.cov_base.specs.Path.{IsPathVector}
 use Rattle.mcdc_verdicts.specs.Search.{IsWord, shows, lowest}
 use Rattle.mcdc_verdicts.proofs.pair.lowest.Given as goal
 

@@ -1,10 +1,10 @@
 use Rattle.std.proofs.Common.{List, Option, subst}
 use Rattle.cov_base.specs.declared.event.Vector.{Vector}
-use Rattle.decision_meaning.specs.Expr.{size}
-use Rattle.decision_meaning.specs.Graph.{Edges}
+use Rattle.cov_base.specs.Expr.{size}
+use Rattle.cov_base.specs.Graph.{Edges}
 use Rattle.cov_base.specs.Lists.{Everywhere}
 use Rattle.decision_meaning.specs.Pair.{IsLeastPair, is_masking}
-use Rattle.decision_meaning.specs.Path.{IsPathVector}
+use Rattle.cov_base.specs.Path.{IsPathVector}
 use Rattle.mcdc_verdicts.specs.View.{pair_view}
 use Rattle.mcdc_verdicts.proofs.Searching.{no_cause_pair}
 use Rattle.mcdc_verdicts.proofs.pair.unique_cause.Goals as goal

@@ -1,6 +1,6 @@
 use Rattle.std.proofs.Common.{◌≡◌, ◌↔◌, drop}
-use Rattle.decision_meaning.specs.Expr.{Expr}
-use Rattle.decision_meaning.specs.Graph.{graph}
+use Rattle.cov_base.specs.Expr.{Expr}
+use Rattle.cov_base.specs.Graph.{graph}
 use Rattle.decision_meaning.specs.Verdict.{Gives}
 use Rattle.mcdc_verdicts.proofs.verdict.gives.Given as goal
 

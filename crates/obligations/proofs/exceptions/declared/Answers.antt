@@ -1,4 +1,4 @@
-use Rattle.std.proofs.Common.{[], ◌∙◌, refl, ap, ◌++◌, arith}
+use Rattle.std.proofs.Common.{◌∙◌, refl, arith}
 use Rattle.ada_tree.specs.declared.program.ExceptionDeclaration.{ExceptionDeclaration}
 use Rattle.obligations.specs.Exceptions.{of_declaration, of_declarations}
 use Rattle.obligations.proofs.Growing.{one_grown, none_grown}

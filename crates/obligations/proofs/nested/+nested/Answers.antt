@@ -1,24 +1,28 @@
-use Rattle.std.proofs.Common.{[], ◌∷◌, refl, rules, sym, ap, ◌∙◌, arith}
-use Rattle.ada_meaning.specs.Collected.{in_expr, in_parts, in_actuals, in_test}
+use Rattle.std.proofs.Common.{[], refl, rules, sym, ap, ◌∙◌, arith}
+use Rattle.ada_meaning.specs.Collected.{in_expr, in_parts, in_actuals}
 use Rattle.ada_tree.specs.declared.expr.Operand.{Operand}
 use Rattle.ada_tree.specs.Sizes.{expr_size, test_size}
 use Rattle.ada_tree.specs.View.{label_of, neutral_of, parts_of, actuals_of, expr_at, test_at}
-use Rattle.obligations.specs.Entries.{the_decision, of_nested}
-use Rattle.obligations.specs.Operands.{in_operands, in_tests, in_selector, in_actual}
-use Rattle.obligations.proofs.Chains.{in_chain, in_forms, operands_size, chain_size, operand_within, expr_positive, tests_size, forms_size, test_within, test_positive, actual_size, actual_within, actuals_front, selector_size, selector_within, parts_front}
+use Rattle.obligations.specs.Entries.{of_nested}
+use Rattle.obligations.specs.Operands.{in_operands, in_selector, in_actual}
+use Rattle.obligations.specs.Spelled.{with_others, with_test}
+use Rattle.ada_tree.proofs.Chains.{operands_size, chain_size, operand_within, expr_positive, tests_size, forms_size, test_within, test_positive, actual_size, actual_within, selector_size, selector_within}
+use Rattle.obligations.proofs.Chains.{in_chain, actuals_front, parts_front}
 use Rattle.obligations.proofs.Lists.{then_added, same_added, one_more, none_left, nothing_listed, nothing_added, nested_parts}
+use Rattle.obligations.proofs.Spelling.{others_behind, spelled_so, whole_decision}
 use Rattle.obligations.proofs.nested.+nested.Goals as goal
 
 pub add_labelled-returns : goal.add_labelled-returns
 add_labelled-returns t c = λ standing letter.
     let n = c.args.statement in
     let test = c.args.test.now in
-    let own = the_decision standing n (label_of c.args.label) test ∷ [] in
-    same_added c.add_in_test.result _ _ _ _ (nested_parts own (in_test n test))
-    (then_added c.add_in_test.result _ _ _ (of_nested own) (of_nested (in_test n test)) (c.in_ok-add_decision.ensures standing letter) c.add_in_test.ensures)
+    let s = c.add_test.new.spelling in
+    same_added c.add_decision.result _ _ _ _
+    (whole_decision standing c.args.letter.0 n (label_of c.args.label) test s letter (c.in_ok-add_test.ensures ∙ ap (with_test n test) c.spelling-spelling.ensures))
+    c.add_decision.ensures
 
-pub add_in_test-add_in_tests-requires : goal.add_in_test-add_in_tests-requires
-add_in_test-add_in_tests-requires t c =
+pub add_test-add_tests-requires : goal.add_test-add_tests-requires
+add_test-add_tests-requires t c =
     let first = c.in-ShortCircuit.first.value in
     let others = c.in-ShortCircuit.others.items in
     let is = ap test_size (sym c.test.view_is ∙ ap test_at c.in-ShortCircuit.is) in (
@@ -26,7 +30,7 @@ add_in_test-add_in_tests-requires t c =
         arith,
         c.decreases,
         is,
-        forms_size (neutral_of c.in-ShortCircuit.field-0) first others,
+        forms_size (neutral_of c.in-ShortCircuit.form) first others,
         test_positive first,
         ap
             tests_size c.deref-in-ShortCircuit-2.ensures.value,
@@ -34,19 +38,20 @@ add_in_test-add_in_tests-requires t c =
       tt,
     )
 
-pub add_in_test-returns-in_ok-add_in_test-in-ShortCircuit : goal.add_in_test-returns-in_ok-add_in_test-in-ShortCircuit
-add_in_test-returns-in_ok-add_in_test-in-ShortCircuit t c =
+pub add_test-returns-in_ok-add_test-in-ShortCircuit : goal.add_test-returns-in_ok-add_test-in-ShortCircuit
+add_test-returns-in_ok-add_test-in-ShortCircuit t c =
     let n = c.args.statement in
     let first = c.in-ShortCircuit.first.value in
     let others = c.in-ShortCircuit.others.items in
+    let form = neutral_of c.in-ShortCircuit.form in
     rw (← c.test.view_is, c.in-ShortCircuit.is)
-    (same_added c.add_in_tests.result _ _ _ _
-    (nested_parts (in_test n first) (in_tests n others) ∙ ap of_nested (sym (in_forms n (neutral_of c.in-ShortCircuit.field-0) first others)))
-    (then_added c.add_in_tests.result _ _ _ (of_nested (in_test n first)) (of_nested (in_tests n others))
-    (rw c.deref-in-ShortCircuit.ensures at c.in_ok-add_in_test-in-ShortCircuit.ensures) (rw c.deref-in-ShortCircuit-2.ensures.value at c.add_in_tests.ensures)))
+    (spelled_so c.add_tests.result _ _ _
+    (ap (with_others n form others) (rw c.deref-in-ShortCircuit.ensures at c.in_ok-add_test-in-ShortCircuit.ensures)
+    ∙ others_behind n form first others c.args.spelling.now)
+    (rw c.deref-in-ShortCircuit-2.ensures.value at c.add_tests.ensures))
 
-pub add_in_tests-add_in_test-requires : goal.add_in_tests-add_in_test-requires
-add_in_tests-add_in_test-requires t c = (
+pub add_tests-add_test-requires : goal.add_tests-add_test-requires
+add_tests-add_test-requires t c = (
   omega (
     arith,
     c.decreases,
@@ -56,19 +61,6 @@ add_in_tests-add_in_test-requires t c = (
   ),
   tt,
 )
-
-pub add_in_tests-loop-test-preserved : goal.add_in_tests-loop-test-preserved
-add_in_tests-loop-test-preserved t c =
-    let u = c.test-item.result in
-    let n = c.args.statement in
-    one_more (λ us. of_nested (in_tests n us)) (λ u. of_nested (in_test n u)) (λ u us. sym (nested_parts (in_test n u) (in_tests n us)))
-    c.args.tests.now c.loop-test.test-index u u _ _ c.loop-test-test.true c.test-item.is c.in_ok-add_in_test.ensures
-    ∙ c.loop-test.invariant
-
-pub add_in_tests-returns : goal.add_in_tests-returns
-add_in_tests-returns t c =
-    none_left (λ us. of_nested (in_tests c.args.statement us)) nothing_listed
-    c.args.tests.now c.loop-test.test-index _ _ (omega (arith, c.loop-test-test.false)) c.loop-test.invariant
 
 pub add_in_expression-add_in_operands-requires : goal.add_in_expression-add_in_operands-requires
 add_in_expression-add_in_operands-requires t c =

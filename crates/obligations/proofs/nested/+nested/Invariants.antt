@@ -2,20 +2,21 @@
 use Rattle.std.proofs.Common.{◌≡◌, ◌+◌, ◌*◌, drop}
 use Rattle.ada_tree.specs.Sizes.{expr_size, parts_size, actuals_size, test_size}
 use Rattle.ada_meaning.specs.Collected.{in_parts, in_actuals}
-use Rattle.ada_tree.specs.View.{parts_of, actuals_of}
+use Rattle.ada_tree.specs.View.{parts_of, actuals_of, neutral_of}
 use Rattle.obligations.specs.Entries.{joined, of_nested}
-use Rattle.obligations.specs.Operands.{in_operands, in_tests}
-use Rattle.obligations.proofs.Chains.{operands_size, tests_size, actual_size, selector_size}
+use Rattle.obligations.specs.Operands.{in_operands}
+use Rattle.obligations.specs.Spelled.{with_others}
+use Rattle.ada_tree.proofs.Chains.{operands_size, tests_size, actual_size, selector_size}
 use Rattle.obligations.proofs.nested.+nested.Given as goal
 
 abbrev pub decreases-add_labelled : goal.decreases-add_labelled
 decreases-add_labelled l = 2 * test_size l.test.now + 1
 
-abbrev pub decreases-add_in_test : goal.decreases-add_in_test
-decreases-add_in_test l = 2 * test_size l.test.now
+abbrev pub decreases-add_test : goal.decreases-add_test
+decreases-add_test l = 2 * test_size l.test.now
 
-abbrev pub decreases-add_in_tests : goal.decreases-add_in_tests
-decreases-add_in_tests l = 2 * tests_size l.tests.now + 1
+abbrev pub decreases-add_tests : goal.decreases-add_tests
+decreases-add_tests l = 2 * tests_size l.tests.now + 1
 
 abbrev pub decreases-add_in_expression : goal.decreases-add_in_expression
 decreases-add_in_expression l = 2 * expr_size l.expr.now
@@ -49,6 +50,7 @@ abbrev pub invariant-add_in_operands-loop-operand : goal.invariant-add_in_operan
 invariant-add_in_operands-loop-operand l =
     joined l.listing (of_nested (in_operands l.statement (drop l.operand-index l.operands))) ≡ joined l.fn.listing (of_nested (in_operands l.fn.statement l.fn.operands))
 
-abbrev pub invariant-add_in_tests-loop-test : goal.invariant-add_in_tests-loop-test
-invariant-add_in_tests-loop-test l =
-    joined l.listing (of_nested (in_tests l.statement (drop l.test-index l.tests))) ≡ joined l.fn.listing (of_nested (in_tests l.fn.statement l.fn.tests))
+abbrev pub invariant-add_tests-loop-test : goal.invariant-add_tests-loop-test
+invariant-add_tests-loop-test l =
+    with_others l.statement (neutral_of l.form) (drop l.test-index l.tests) l.spelling
+    ≡ with_others l.fn.statement (neutral_of l.fn.form) l.fn.tests l.fn.spelling

@@ -1,7 +1,7 @@
 use Rattle.std.proofs.Common.{Bool, sym, subst, ◌∙◌}
 use Rattle.decision_map.specs.Decisions.{expression_at, graph_at}
-use Rattle.decision_meaning.specs.Graph.{IsTree, next_in}
-use Rattle.decision_meaning.specs.Path.{IsVectorOfLeaf, IsOutcome}
+use Rattle.cov_base.specs.Graph.{IsTree, next_in}
+use Rattle.cov_base.specs.Path.{IsVectorOfLeaf, IsOutcome}
 use Rattle.object_facts.proofs.Fair.{fair}
 use Rattle.object_facts.specs.Object.{facts_of, condition_of}
 use Rattle.vector_rebuild.proofs.LeafEdges.{value_at, ends_one, ends_no_leaf}

@@ -1,7 +1,7 @@
 use Rattle.std.proofs.Common.{◌∙◌, ap, ap₂, codes}
 use Rattle.std.proofs.lemmas.Result.{IfOk-weaker}
 use Rattle.clap.specs.Words.{App, new_app, with_rule}
-use Rattle.command_words.specs.Lines.{output_option, required_name, required_option}
+use Rattle.command_words.specs.Lines.{output_option, required_option}
 use Rattle.command_words.proofs.commands.compile_line.compile_line.Goals as goal
 
 pub returns : goal.returns

@@ -1,7 +1,7 @@
 use Rattle.std.proofs.Common.{◌∙◌, ap, ap₂, codes}
 use Rattle.std.proofs.lemmas.Result.{IfOk-weaker}
 use Rattle.clap.specs.Words.{App, new_app, with_rule}
-use Rattle.command_words.specs.Lines.{any_names, required_option}
+use Rattle.command_words.specs.Lines.{required_option}
 use Rattle.command_words.proofs.commands.coverage_line.coverage_line.Goals as goal
 
 pub returns : goal.returns

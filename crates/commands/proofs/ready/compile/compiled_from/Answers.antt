@@ -1,4 +1,4 @@
-use Rattle.std.proofs.Common.{List, ℕ, inl, subst, ◌∙◌}
+use Rattle.std.proofs.Common.{List, inl, subst, ◌∙◌}
 use Rattle.std.proofs.lemmas.Result.{IfOk-weaker, IfErr-weaker}
 use Rattle.compiler.specs.Source.{IsObjectOf, IsCheap}
 use Rattle.cov_base.specs.declared.obligations.SourceFile.{SourceFile}

@@ -6,7 +6,7 @@ use Rattle.commands.proofs.ready.coverage.from_file.Goals as goal
 pub returns-in_err-object-clause-prepares : goal.returns-in_err-object-clause-prepares
 returns-in_err-object-clause-prepares g c =
     let p = err_from_is_err_and c.from_residual.result c.from_residual.ensures.1 in
-    λ name holds. rw (p.1, p.2) (coverage_no_object _ _ _ c.args.level c.args.annotate name c.args.bytes.now
+    λ name holds. rw (p.1, p.2) (coverage_no_object _ _ _ c.args.product name c.args.bytes.now
     (map (λ name. name.now) c.args.traces.now) c.in_err-object.field-0.0
     refl holds c.in_err-object.ensures.refused)
 

@@ -1,10 +1,9 @@
-use Rattle.std.proofs.Common.{refl, map, subst, sym}
+use Rattle.std.proofs.Common.{◌∙◌, refl, map, subst, sym}
 use Rattle.std.proofs.lemmas.Result.{err_from_is_err_and}
 use Rattle.commands.specs.Content.{IsFileOf}
-use Rattle.commands.specs.Covering.{HasPaths, IsReportOf}
+use Rattle.commands.specs.Covering.{IsMadeOf}
 use Rattle.commands.specs.Ready.{verdict_view}
 use Rattle.object_format.specs.declared.object.Object.{Object}
-use Rattle.commands.proofs.DecisionLaws.{added_paths}
 use Rattle.commands.proofs.ObjectLaws.{has_map}
 use Rattle.commands.proofs.StopLaws.{coverage_stops, coverage_made}
 use Rattle.commands.proofs.ready.coverage.over_object.Goals as goal
@@ -17,25 +16,22 @@ returns-in_err-add_traces-clause-prepares g c =
     let p = err_from_is_err_and c.from_residual-in_err-add_traces.result c.from_residual-in_err-add_traces.ensures.1 in
     λ name bytes holds is.
     let of_map : IsFileOf c.in_ok-decisions.decisions bytes = subst (λ (o : Object). IsFileOf o bytes) (sym c.in_ok-decisions.ensures) is in
-    rw (p.1, p.2) (coverage_stops _ _ _ _ _ c.args.level c.args.annotate name bytes
+    rw (p.1, p.2) (coverage_stops _ _ _ _ _ c.args.product name bytes
     (map (λ name. name.now) c.args.traces.now) c.in_ok-decisions.decisions c.in_err-add_traces.field-0.0
     refl refl holds of_map c.in_err-add_traces.ensures.stopped)
 
-pub reported-requires-clause-sound : goal.reported-requires-clause-sound
-reported-requires-clause-sound g c = c.requires.object.sound
+pub made-requires-clause-sound : goal.made-requires-clause-sound
+made-requires-clause-sound g c = c.requires.object.sound
 
-pub reported-requires-clause-paths : goal.reported-requires-clause-paths
-reported-requires-clause-paths g c =
-    let traces = c.in_ok-add_traces.ensures.read in
-    subst (λ (o : Object). HasPaths o c.add_traces.new.coverage) c.in_ok-decisions.ensures
-    (added_paths c.in_ok-decisions.decisions _ c.add_traces.new.coverage traces.0 c.new-coverage.ensures.events traces.2)
+pub made-requires-clause-own : goal.made-requires-clause-own
+made-requires-clause-own g c = c.in_ok-add_traces.ensures.read.2.object ∙ c.new-coverage.ensures.object
 
 pub returns-clause-prepares : goal.returns-clause-prepares
 returns-clause-prepares g c =
     let traces = c.in_ok-add_traces.ensures.read in
-    let report = subst (λ (o : Object). IsReportOf c.args.level o c.add_traces.new.coverage (verdict_view c.reported.result)) (sym c.in_ok-decisions.ensures) c.reported.ensures in
+    let made = subst (λ (o : Object). IsMadeOf c.args.product o c.add_traces.new.coverage (verdict_view c.made.result)) (sym c.in_ok-decisions.ensures) c.made.ensures in
     λ name bytes holds is.
     let of_map : IsFileOf c.in_ok-decisions.decisions bytes = subst (λ (o : Object). IsFileOf o bytes) (sym c.in_ok-decisions.ensures) is in
-    coverage_made _ _ _ _ c.args.level c.args.annotate name bytes (map (λ name. name.now) c.args.traces.now) traces.0
+    coverage_made _ _ _ _ c.args.product name bytes (map (λ name. name.now) c.args.traces.now) traces.0
     c.in_ok-decisions.decisions _ _ _ refl c.in_ok-add_traces.ensures.reads holds of_map traces.1
-    c.new-coverage.ensures.events c.new-coverage.ensures.runs traces.2 report
+    (c.new-coverage.ensures.object ∙ sym c.in_ok-decisions.ensures) c.new-coverage.ensures.events c.new-coverage.ensures.runs traces.2 made

@@ -1,6 +1,6 @@
 use Rattle.std.proofs.Common.{◌≡◌, List, map, ap, sym, subst, ◌∙◌}
-use Rattle.decision_meaning.specs.Graph.{Edges}
-use Rattle.decision_meaning.specs.Path.{IsPathVector}
+use Rattle.cov_base.specs.Graph.{Edges}
+use Rattle.cov_base.specs.Path.{IsPathVector}
 use Rattle.condition_graph.specs.Target.{edges_of}
 use Rattle.condition_graph.proofs.graph.Graph.is_path.Goals as goal
 

@@ -1,5 +1,5 @@
 use Rattle.std.proofs.Common.{◌≡◌, List, map, ap, sym, ◌∙◌}
-use Rattle.decision_meaning.specs.Graph.{Edges}
+use Rattle.cov_base.specs.Graph.{Edges}
 use Rattle.condition_graph.specs.declared.node.Exits.{Exits}
 use Rattle.condition_graph.specs.Target.{edges_of}
 use Rattle.condition_graph.specs.Entry.{all_first}

@@ -1,5 +1,5 @@
 use Rattle.std.proofs.Common.{◌≡◌, ℕ, List, map, arith, ap, ◌∙◌}
-use Rattle.decision_meaning.specs.Graph.{graph}
+use Rattle.cov_base.specs.Graph.{graph}
 use Rattle.condition_graph.specs.Target.{edges_of}
 use Rattle.condition_graph.specs.Reading.{State, read_down, started}
 use Rattle.condition_graph.proofs.Places.{length_of_graph}

@@ -1,8 +1,8 @@
 use Rattle.std.proofs.Common.{List, map, ap, ◌∙◌}
-use Rattle.decision_meaning.specs.Graph.{Edges}
-use Rattle.decision_meaning.specs.Marks.{bit}
-use Rattle.decision_meaning.specs.Path.{walked}
-use Rattle.decision_meaning.proofs.Walks.{walk_law}
+use Rattle.cov_base.specs.Graph.{Edges}
+use Rattle.cov_base.specs.Marks.{bit}
+use Rattle.cov_base.specs.Path.{walked}
+use Rattle.cov_base.proofs.Walks.{walk_law}
 use Rattle.condition_graph.specs.declared.node.Exits.{Exits}
 use Rattle.condition_graph.specs.Target.{edges_of, outcome_at}
 use Rattle.condition_graph.proofs.graph.Graph.outcome.Goals as goal

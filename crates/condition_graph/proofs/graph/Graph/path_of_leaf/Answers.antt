@@ -1,8 +1,8 @@
 use Rattle.std.proofs.lemmas.Grind.{common_steps}
 use Rattle.std.proofs.Common.{◌≡◌, ◌<◌, ◌∷◌, true, false, List, length, map, ap, sym, subst, arith, ◌∙◌}
-use Rattle.decision_meaning.specs.Graph.{Edges, leaf, graph, next_in}
-use Rattle.decision_meaning.specs.Path.{vector_of, IsVectorOfLeaf}
-use Rattle.decision_meaning.proofs.Edges.{length-nodes}
+use Rattle.cov_base.specs.Graph.{Edges, leaf, graph, next_in}
+use Rattle.cov_base.specs.Path.{vector_of, IsVectorOfLeaf}
+use Rattle.cov_base.proofs.Edges.{length-nodes}
 use Rattle.condition_graph.specs.Target.{edges_of}
 use Rattle.condition_graph.specs.Entry.{climbed}
 use Rattle.condition_graph.proofs.Climbs.{leaf_climb}

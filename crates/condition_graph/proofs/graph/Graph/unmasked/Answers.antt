@@ -1,9 +1,9 @@
 use Rattle.std.proofs.Common.{◌≡◌, Bool, List, map, ap, subst, ◌∙◌}
-use Rattle.decision_meaning.specs.Graph.{Edges, graph}
-use Rattle.decision_meaning.specs.Marks.{bit, marks, outcome}
-use Rattle.decision_meaning.specs.Path.{IsPathVector, walked}
+use Rattle.cov_base.specs.Graph.{Edges, graph}
+use Rattle.cov_base.specs.Marks.{bit, marks, outcome}
+use Rattle.cov_base.specs.Path.{IsPathVector, walked}
 use Rattle.decision_meaning.specs.Turn.{can_turn}
-use Rattle.decision_meaning.proofs.Walks.{walk_law}
+use Rattle.cov_base.proofs.Walks.{walk_law}
 use Rattle.decision_meaning.proofs.Turns.{turn_law}
 use Rattle.condition_graph.specs.Target.{edges_of, outcome_at}
 use Rattle.condition_graph.proofs.graph.Graph.unmasked.Goals as goal

@@ -1,7 +1,7 @@
 use Rattle.std.proofs.Common.{◌≡◌, List, Some, ap, subst, ◌∙◌}
 use Rattle.std.proofs.lemmas.Result.{err_from_is_err_and}
 use Rattle.condition_graph.specs.Target.{place_of}
-use Rattle.decision_meaning.specs.Graph.{Next, Edges, next_in}
+use Rattle.cov_base.specs.Graph.{Next, Edges, next_in}
 use Rattle.object_facts.proofs.Fair.{fair}
 use Rattle.object_facts.specs.Object.{facts_of}
 use Rattle.transcript.specs.Replay.{put_half}

@@ -1,0 +1,6 @@
+pub mod Walks
+pub mod Edges
+pub mod Bits
+pub mod Follows
+pub mod Reached
+pub mod Postfix

@@ -1,0 +1,17 @@
+pub mod Cells
+pub mod Objects
+pub mod Stores
+pub mod Frames
+pub mod Names
+pub mod Values
+pub mod Sets
+pub mod Steps
+pub mod Calls
+pub mod Flows
+pub mod Statements
+pub mod Bodies
+pub mod Sizes
+pub mod Numbers
+pub mod Fragments
+pub mod Copies
+pub mod Programs

@@ -1,0 +1,30 @@
+//! The kernel code of declarations and statements over objects of every type, and what it does. There are no
+//! functions here: the definitions stand in `specs/`, and `proofs/` shows that code and source go on together.
+//!
+//! | Definition | Says |
+//! |---|---|
+//! | `Cells` | which words of memory hold which scalar parts of objects, and when a memory holds what a store has |
+//! | `Objects` | the words of objects that stand at addresses |
+//! | `Stores` | what first values, and copies, do to a store |
+//! | `Frames` | what a state of a program and one of its kernel have in common, at ten units of cost for one |
+//! | `Values`, `Sets` | the code of names, values, actuals, assignments, copies and `(others => ..)` |
+//! | `Calls` | what a call is handed, what it leaves, and what calls of functions and procedures do |
+//! | `Flows`, `Statements` | the code of loops over ranges, choices, handlers, declarations, calls and statements |
+//! | `Numbers` | which numbers of a program machine code has room for |
+//! | `Sizes` | how many nodes a text has, and how many instructions its code has for each of them |
+//! | `Fragments`, `Copies` | what code marks, names and leaves, and how long it is; a kernel of bodies |
+//!
+//! The law is `block_does` in `proofs/Statements.antt`: where the cells of objects lie apart from what is kept
+//! and from the slots that are worked in, and calls do what `Calls` says, a block and its code both go on,
+//! return, raise one exception or are cut off, with the same events and output, at most ten times the cost, and
+//! memory that holds what the store has. It holds under each fuel, which is the same on both sides.
+//!
+//! What code is like is one law, `block_like` in `proofs/Blocks.antt`: the code of a block marks its statement
+//! obligations in the order of the text, and each condition of its decisions once; it names slots, bodies,
+//! layouts and exceptions that are there, and numbers of 32 bits; it leaves no loop but its own; and it has at
+//! most 60 instructions for each node. By `proofs/Copies.antt` a kernel of such bodies is well-formed, and is
+//! small enough for machine code where its bodies and layouts have no more than 4,096 nodes.
+//!
+//! That bodies do what `Calls` says is not shown yet. `lower` makes code of programs whose objects are single
+//! words, by definitions of its own.
+#![tactic(auto)]
