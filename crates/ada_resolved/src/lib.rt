@@ -10,10 +10,12 @@
 
 mod arithmetic;
 mod constants;
+mod forms;
 mod known;
 mod sizes;
 mod values;
 
 pub use constants::constants_in;
+pub use forms::{RecordForm, TypeForm, TypeIn};
 pub use sizes::{TypeSizes, sizes_are_exact};
 pub use values::{bounds_in, number_in};

@@ -188,7 +188,7 @@ fn stands_in(instances: &[Instance], generic: Option<u32>, instance: u32) -> boo
 /// computed once, so types that double stay small.
 #[derive(Drop)]
 pub struct TypeSizes<'a> {
-    program: &'a Program,
+    pub(crate) program: &'a Program,
     last_instance: u32,
     rows: Vec<Seq<Option<u32>>>,
     ghost instances: { last_instance ≡ length program.now.instances },
