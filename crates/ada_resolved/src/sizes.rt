@@ -207,6 +207,13 @@ impl<'a> TypeSizes<'a> {
         })
     }
 
+    /// The program whose types these are.
+    pub fn program(&self) -> &'a Program
+        ensures { result.now ≡ self.now.program.now }
+    {
+        self.program
+    }
+
     /// The size of a type in words, in the instance with this number, which is 0 in no generic. There is
     /// none where a bound has no value, or a part takes more than 262,144 words.
     pub fn size_in(&self, instance: u32, subtype: Subtype) -> Option<u32>

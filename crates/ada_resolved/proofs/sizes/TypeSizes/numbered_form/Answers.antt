@@ -41,12 +41,14 @@ returns-in-Some-bounds_in c =
     (sym c.bounds_in.ensures ∙ ap (option_map bounds_of) c.in-Some-bounds_in.is)
 
 pub invariant_of-result : goal.invariant_of-result
-invariant_of-result c = record { small = subst (λ ts. all_words (shapes_of c.args.self.now.program.now c.args.instance c.args.number ts) ≤ word_limit)
-    (sym c.as_slice-in-Record.ensures)
-    (record_small c.args.self.now.program.now c.args.instance c.args.number c.in-Some-size_in.field-0 c.in-Some.declaration.now c.in-Record.components
-    (ap (λ xs. slice_get xs c.args.number) (sym c.as_slice.ensures) ∙ sym c.declaration_at.ensures ∙ ap option_copied c.in-Some.is)
-    c.in-Record.is
-    (sym c.size_in.ensures ∙ c.in-Some-size_in.is)) }
+invariant_of-result c = record {
+  small = subst (λ ts. all_words (shapes_of c.args.self.now.program.now c.args.instance c.args.number ts) ≤ word_limit)
+      (sym c.as_slice-in-Record.ensures)
+      (record_small c.args.self.now.program.now c.args.instance c.args.number c.in-Some-size_in.field-0 c.in-Some.declaration.now c.in-Record.components
+      (ap (λ xs. slice_get xs c.args.number) (sym c.as_slice.ensures) ∙ sym c.declaration_at.ensures ∙ ap option_copied c.in-Some.is)
+      c.in-Record.is
+      (sym c.size_in.ensures ∙ c.in-Some-size_in.is));
+}
 
 pub returns-in-Record : goal.returns-in-Record
 returns-in-Record c =
