@@ -1,6 +1,6 @@
 -- What types are built of, by instance. Where a type has no size, objects of it take no words: it is like a record
 -- without a component.
-use Rattle.std.specs.Prelude.{ℕ, List, [], ◌∷◌, take, Option, Some, None}
+use Rattle.std.specs.Prelude.{ℕ, List, [], ◌∷◌, length, take, Option, Some, None}
 use Rattle.ada_meaning.specs.Program.{Program}
 use Rattle.ada_meaning.specs.Resolved.{shape_in}
 use Rattle.ada_meaning.specs.Shape.{Shape, group, Shapes, no_shape, and_shape}
@@ -33,3 +33,7 @@ shape_of p t = known_shape (program_of p) t.instance (type_of p t)
 abbrev pub shapes_of : Tree → (inst below : ℕ) → List Subtype → Shapes
 shapes_of p inst below [] = no_shape
 shapes_of p inst below (t ∷ ts) = and_shape (shape_of p (record { instance = inst; subtype = t; below = below })) (shapes_of p inst below ts)
+
+-- a type that an object names in an instance
+abbrev pub named_type : Tree → ℕ → Subtype → TypeIn
+named_type p inst t = record { instance = inst; subtype = t; below = length p.types }

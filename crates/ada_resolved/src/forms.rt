@@ -6,7 +6,7 @@ ghost use Rattle.ada_meaning.specs.Shape.{group, no_shape};
 ghost use Rattle.ada_tree.specs.declared.types.Subtype.TheVariants as subtype;
 ghost use Rattle.ada_tree.specs.Programs.{program_of, types_of};
 ghost use Rattle.ada_tree.specs.View.{numbered};
-ghost use Rattle.ada_resolved.specs.Forms.{known_shape, shape_of, shapes_of};
+ghost use Rattle.ada_resolved.specs.Forms.{known_shape, named_type, shape_of, shapes_of};
 ghost use Rattle.ada_resolved.specs.Sizes.{all_words, word_limit, words};
 
 use crate::known::owner_in;
@@ -21,7 +21,7 @@ pub struct TypeIn {
     pub instance: u32,
     pub subtype: Subtype,
     /// How many types of the table stand before the one that names it: all, where an object names it.
-    pub below: u32,
+    pub below: usize,
 }
 
 /// What a type is built of.
@@ -40,7 +40,7 @@ pub enum TypeForm<'a> {
 pub struct RecordForm<'a> {
     sizes: &'a TypeSizes<'a>,
     instance: u32,
-    below: u32,
+    below: usize,
     components: &'a [Subtype],
     ghost small: { all_words (shapes_of sizes.now.program.now instance below components.now) ≤ word_limit },
 }
@@ -106,11 +106,22 @@ impl TypeSizes<'_> {
         match of.subtype {
             Subtype::Scalar(_) => self.size_in(of.instance, of.subtype),
             Subtype::Composite(_, number) => {
-                if of.below <= number {
+                if of.below <= number as usize {
                     return Some(0);
                 }
                 self.size_in(of.instance, of.subtype)
             }
+        }
+    }
+
+    /// A type that an object names in an instance: all types of the table stand before it.
+    pub fn named(&self, instance: u32, subtype: Subtype) -> TypeIn
+        ensures { result ≡ named_type self.now.program.now instance subtype }
+    {
+        TypeIn {
+            instance,
+            subtype,
+            below: self.program.types.len(),
         }
     }
 
@@ -164,14 +175,14 @@ impl TypeSizes<'_> {
                 let component = TypeIn {
                     instance,
                     subtype: *component,
-                    below: number,
+                    below: number as usize,
                 };
                 TypeForm::Array(range, component)
             }
             CompositeType::Record(components) => TypeForm::Record(RecordForm {
                 sizes: self,
                 instance,
-                below: number,
+                below: number as usize,
                 components: components.as_slice(),
             }),
         }
@@ -184,7 +195,7 @@ impl TypeSizes<'_> {
         match of.subtype {
             Subtype::Scalar(range) => self.scalar_form(of.instance, range),
             Subtype::Composite(owner, number) => {
-                if of.below <= number {
+                if of.below <= number as usize {
                     return self.nothing();
                 }
                 self.numbered_form(owner_in(of.instance, owner), number)

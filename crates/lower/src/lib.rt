@@ -5,6 +5,7 @@
 //! ending on every input, at no more than three times the cost.
 #![tactic(auto)]
 
+mod context;
 mod decisions;
 mod edges;
 mod expressions;
