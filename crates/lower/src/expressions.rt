@@ -9,7 +9,8 @@ ghost use Rattle.kernel_ir.specs.Tree.{no_op};
 ghost use Rattle.kernel_ir.specs.declared.simple.Simple.TheVariants as op;
 ghost use Rattle.lower.specs.Known.{known_by};
 ghost use Rattle.lower.specs.Chain.{operands_code, end_of_operands};
-ghost use Rattle.lower.specs.Lowered.{one, within, slot_of, sign_on, operator_for, operator_on, relation_for, end_of, expr_code};
+ghost use Rattle.statement_code.specs.Values.{one, within, sign_on, operator_for, operator_on, relation_for};
+ghost use Rattle.lower.specs.Lowered.{slot_of, end_of, expr_code};
 
 use crate::decisions::put_decision;
 use crate::statics::Statics;
