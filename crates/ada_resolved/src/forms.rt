@@ -96,7 +96,7 @@ impl RecordForm<'_> {
 }
 
 impl TypeSizes<'_> {
-    ghost use Rattle.ada_resolved.specs.Built.{shape_of_form};
+    ghost use Rattle.ada_resolved.specs.Built.{IsIn, shape_of_form};
 
     /// The size of a type; none where it has no size.
     fn size(&self, of: TypeIn) -> Option<u32>
@@ -135,7 +135,8 @@ impl TypeSizes<'_> {
 
     /// A record without a component.
     fn nothing(&self) -> TypeForm<'_>
-        ensures { shape_of_form self.now.program.now result ≡ group no_shape }
+        ensures shape { shape_of_form self.now.program.now result ≡ group no_shape }
+        ensures program { IsIn self.now.program.now result }
     {
         TypeForm::Record(RecordForm {
             sizes: self,
@@ -147,7 +148,8 @@ impl TypeSizes<'_> {
 
     /// What a scalar type is.
     fn scalar_form(&self, instance: u32, range: ScalarRange) -> TypeForm<'_>
-        ensures { (below : ℕ) → shape_of_form self.now.program.now result ≡ shape_of self.now.program.now
+        ensures program { IsIn self.now.program.now result }
+        ensures shape { (below : ℕ) → shape_of_form self.now.program.now result ≡ shape_of self.now.program.now
             (record { instance = instance; subtype = subtype.Scalar range; below = below }) }
     {
         match bounds_in(self.program, instance, range) {
@@ -158,7 +160,8 @@ impl TypeSizes<'_> {
 
     /// What the array or record with this number in the table of types is built of.
     fn numbered_form(&self, instance: u32, number: u32) -> TypeForm<'_>
-        ensures { shape_of_form self.now.program.now result ≡ known_shape (program_of self.now.program.now) instance
+        ensures program { IsIn self.now.program.now result }
+        ensures shape { shape_of_form self.now.program.now result ≡ known_shape (program_of self.now.program.now) instance
             (unwrap_or (slice_get (types_of self.now.program.now.types) number) (numbered number)) }
     {
         let Some(declaration) = declaration_at(self.program.types.as_slice(), number) else {
@@ -190,7 +193,8 @@ impl TypeSizes<'_> {
 
     /// What a type is built of: a record without a component, where the type has no size.
     pub fn form(&self, of: TypeIn) -> TypeForm<'_>
-        ensures { shape_of_form self.now.program.now result ≡ shape_of self.now.program.now of }
+        ensures shape { shape_of_form self.now.program.now result ≡ shape_of self.now.program.now of }
+        ensures program { IsIn self.now.program.now result }
     {
         match of.subtype {
             Subtype::Scalar(range) => self.scalar_form(of.instance, range),

@@ -37,7 +37,7 @@ tests_above k [] = omega arith
 tests_above k (t ∷ ts) = omega (arith, tests_above k ts)
 
 -- past one operand, and past those right of it
-past_twice : (c : ℕ) (us : List tree.Test) (e : Edge) → past c (edge_before false us e) ≡ past (c + conditions_in us) e
+pub past_twice : (c : ℕ) (us : List tree.Test) (e : Edge) → past c (edge_before false us e) ≡ past (c + conditions_in us) e
 past_twice c [] e = let same : c ≡ c + 0 = omega arith in ap (λ n. past n e) same
 past_twice c (u ∷ us) (edge.Leaf outcome) = refl
 past_twice c (u ∷ us) (edge.NodeAfter skipped) =

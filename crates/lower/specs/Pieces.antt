@@ -1,6 +1,6 @@
 -- The pieces that code of expressions is put together of, by what the code of a body is made by.
 use Rattle.std.specs.Prelude.{ℕ, ◌+◌, Bool, true, false, List, [], ◌∷◌}
-use Rattle.ada_meaning.specs.Calls.{word_bounds}
+use Rattle.ada_meaning.specs.Program.{Bounds, Mode, Target}
 use Rattle.ada_meaning.specs.Resolved.{ResolvedParameter}
 use Rattle.ada_meaning.specs.Shape.{Shape}
 use Rattle.ada_meaning.specs.Tree as tree
@@ -14,10 +14,10 @@ use Rattle.kernel_ir.specs.declared.code.Edge.{Edge}
 use Rattle.kernel_ir.specs.declared.code.Edge.TheVariants as edge
 use Rattle.kernel_ir.specs.declared.simple.Simple.TheVariants as op
 use Rattle.kernel_ir.specs.Sequence.{joined}
-use Rattle.kernel_ir.specs.Tree.{Op, simple, decide, Code, no_op, and_op, Nodes, no_node}
-use Rattle.statement_code.specs.Values.{one, within, address_on, fetch_on, operator_on, unless_out, expr_code, actuals_code, parts_code, nodes_code}
+use Rattle.kernel_ir.specs.Tree.{Op, simple, decide, call, Code, no_op, and_op, Nodes, no_node}
+use Rattle.statement_code.specs.Values.{single, one, within, address_on, fetch_on, operator_on, unless_out, body_number, moves_code, expr_code, actuals_code, parts_code, nodes_code}
 use Rattle.lower.specs.declared.context.BodyContext.{BodyContext}
-use Rattle.lower.specs.Context.{names_for, shape_for, home_for, site_for}
+use Rattle.lower.specs.Context.{names_for, parameters_for, shape_for, home_for, site_for}
 use Rattle.lower.specs.Forms.{true_before, false_before}
 
 -- how many slots an actual takes: one, and one more for the address of a part of a variable
@@ -31,9 +31,9 @@ slots_of (actual.Variable o r) = 1
 slots_of (actual.Part o ss r) = part_slots ss.items
 slots_of (actual.Composite o ss) = 1
 
--- a value in the slot k, where a parameter takes it: it is checked against the parameter's subtype (RM 6.4.1)
-abbrev pub taken_on : (k : ℕ) → ResolvedParameter → Code
-taken_on k q = one (within k (word_bounds q.shape))
+-- the value of a part whose address stands in the slot k, into the slot behind it, for a scalar parameter of a mode
+abbrev pub loaded_on : (k : ℕ) → Mode → Bounds → Code
+loaded_on k m b = unless_out m (and_op (simple (op.Load (k + 1) k)) (one (within (k + 1) b)))
 
 module _ (c : BodyContext) where
   abbrev pub expr_for : (k : ℕ) → tree.Expr → Code
@@ -70,21 +70,27 @@ module _ (c : BodyContext) where
   operand_nodes_for k neutral (u ∷ us) t f rest =
       nodes_for k u (true_before neutral us t) (false_before neutral us f) (operand_nodes_for k neutral us t f rest)
 
-  -- a variable, or a part of one, for a scalar parameter
-  abbrev pub variable_for : (k : ℕ) → ResolvedParameter → Object → Code
-  variable_for k q o = unless_out q.mode (and_op (simple (fetch_on k (home_for c (object_of o)))) (taken_on k q))
+  -- A variable, or a part of one, for a scalar parameter of a mode: unless the mode is out, its value is checked against the bounds of the
+  -- parameter's subtype (RM 6.4.1).
+  abbrev pub variable_for : (k : ℕ) → Mode → Bounds → Object → Code
+  variable_for k m b o = unless_out m (and_op (simple (fetch_on k (home_for c (object_of o)))) (one (within k b)))
 
-  abbrev pub part_for : (k : ℕ) → ResolvedParameter → Object → List Selector → Code
-  part_for k q o [] = variable_for k q o
-  part_for k q o (s ∷ ss) =
-      joined (located_for k (object_of o) (parts_of (s ∷ ss))) (unless_out q.mode (and_op (simple (op.Load (k + 1) k)) (taken_on (k + 1) q)))
+  abbrev pub part_for : (k : ℕ) → Mode → Bounds → Object → List Selector → Code
+  part_for k m b o [] = variable_for k m b o
+  part_for k m b o (s ∷ ss) =
+      joined (located_for k (object_of o) (parts_of (s ∷ ss))) (loaded_on k m b)
 
-  -- one actual, for the first of these parameters
-  abbrev pub actual_for : (k : ℕ) → ResolvedParameter → Actual → Code
-  actual_for k q (actual.Expression e) = joined (expr_for k e) (taken_on k q)
-  actual_for k q (actual.Variable o r) = variable_for k q o
-  actual_for k q (actual.Part o ss r) = part_for k q o ss.items
-  actual_for k q (actual.Composite o ss) = located_for k (object_of o) (parts_of ss.items)
+  -- one actual
+  abbrev pub actual_for : (k : ℕ) → Mode → Bounds → Actual → Code
+  actual_for k m b (actual.Expression e) = joined (expr_for k e) (one (within k b))
+  actual_for k m b (actual.Variable o r) = variable_for k m b o
+  actual_for k m b (actual.Part o ss r) = part_for k m b o ss.items
+  actual_for k m b (actual.Composite o ss) = located_for k (object_of o) (parts_of ss.items)
+
+  -- a call of what has these parameters: the actuals, their values and addresses behind the frame, and the call
+  abbrev pub call_for : (k : ℕ) → Target → tree.Actuals → Code
+  call_for k t actuals =
+      joined (actuals_for k (parameters_for c t) actuals) (joined (moves_code c.width k 0 actuals) (single (call (body_number (site_for c) t))))
 
   -- the value of an object, or of a part of one
   abbrev pub read_for : (k : ℕ) → Object → List Selector → Code

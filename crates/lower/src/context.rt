@@ -5,9 +5,7 @@ ghost use Rattle.ada_tree.specs.Programs.{bounds_of, target_of};
 ghost use Rattle.ada_tree.specs.View.{callee_of, exception_of, object_of, scalar_range_of, static_of};
 ghost use Rattle.lower.specs.Context as spec;
 
-use ada_resolved::{
-    TypeIn, TypeSizes, bounds_in, exception_in, number_in, owner_in, target_in,
-};
+use ada_resolved::{TypeIn, TypeSizes, bounds_in, exception_in, number_in, owner_in, target_in};
 use ada_tree::{
     Callee, ExceptionName, Mode, Object, Parameter, Range, ScalarRange, Static, Subprogram,
     Subtype, Target,
@@ -104,11 +102,7 @@ fn place_among(places: &[LibraryPlace], declaration: u32) -> Option<LibraryPlace
 }
 
 /// The place of an object of the library level in an instance.
-fn place_at(
-    library: &[Seq<LibraryPlace>],
-    instance: u32,
-    declaration: u32,
-) -> Option<LibraryPlace>
+fn place_at(library: &[Seq<LibraryPlace>], instance: u32, declaration: u32) -> Option<LibraryPlace>
     ensures { result ≡ spec.place_among declaration (unwrap_or (slice_get library.now instance) []) }
 {
     place_among(library.get(instance as usize)?.as_slice(), declaration)
@@ -126,11 +120,7 @@ fn parameters_at(subprograms: &[Subprogram], number: u32) -> &[Parameter]
 
 /// How many bodies stand before that of a subprogram in an instance. A list of 2 ^ 32 bodies is too large
 /// for memory.
-fn bodies_before(
-    bodies: &[BodyCopy],
-    instance: u32,
-    subprogram: u32,
-) -> Result<u32, AllocError>
+fn bodies_before(bodies: &[BodyCopy], instance: u32, subprogram: u32) -> Result<u32, AllocError>
     ensures { IfOk result (λ n. n ≡ spec.bodies_before instance subprogram bodies.now) }
 {
     let mut before: u32 = 0;
@@ -182,8 +172,7 @@ impl<'a> BodyContext<'a> {
     pub fn bounds(&self, range: ScalarRange) -> Range
         ensures { bounds_of result ≡ (names_for self.now).bounds (scalar_range_of range) }
     {
-        bounds_in(self.sizes.program(), self.instance, range)
-            .unwrap_or(Range { first: 0, last: 0 })
+        bounds_in(self.sizes.program(), self.instance, range).unwrap_or(Range { first: 0, last: 0 })
     }
 
     /// The type of an object, if there is such an object.

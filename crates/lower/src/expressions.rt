@@ -61,7 +61,7 @@ pub(crate) fn within(slot: Slot, range: Range) -> Simple
 }
 
 /// An operator on one integer, on a slot. Unary plus is a check against the base range.
-fn sign_on(slot: Slot, sign: Sign) -> Simple
+pub(crate) fn sign_on(slot: Slot, sign: Sign) -> Simple
     ensures { result ≡ sign_on slot (sign_of sign) }
 {
     match sign {
@@ -78,7 +78,7 @@ fn sign_on(slot: Slot, sign: Sign) -> Simple
 }
 
 /// An operator on two integers.
-fn operator_for(operator: Operator) -> kernel_ir::Operator
+pub(crate) fn operator_for(operator: Operator) -> kernel_ir::Operator
     ensures { result ≡ operator_for (operator_of operator) }
 {
     match operator {
@@ -92,7 +92,7 @@ fn operator_for(operator: Operator) -> kernel_ir::Operator
 }
 
 /// A relation of two values.
-fn relation_for(relation: Relation) -> kernel_ir::Relation
+pub(crate) fn relation_for(relation: Relation) -> kernel_ir::Relation
     ensures { result ≡ relation_for (relation_of relation) }
 {
     match relation {
