@@ -13,9 +13,12 @@
 mod check;
 mod consolidated;
 mod fault;
+mod head;
 mod laws;
+mod stream;
 mod trace;
 mod view;
+mod watch;
 mod write;
 
 pub use consolidated::{
