@@ -1,18 +1,18 @@
 -- What the front of a trace file tells of the whole.
-use Rattle.std.proofs.Common.{◌≡◌, ℕ, ◌+◌, ◌<◌, ◌≤◌, Bool, true, false, cond, ltb, List, length, take, drop, Option, Some, None, Result, Ok, Err, refl, sym, ap, subst, ◌∙◌, arith, inl, inr}
+use Rattle.std.proofs.Common.{◌≡◌, ℕ, ◌<◌, ◌≤◌, Bool, true, false, cond, ltb, List, length, take, drop, Some, None, Result, Ok, Err, refl, sym, ap, subst, ◌∙◌, arith, inl, inr}
 use Rattle.std.specs.Prelude.{bytes_eq, ◌==◌}
 use Rattle.std.proofs.lemmas.Bool.{cases_lt, le-ltb, lt-ltb, eqb-true}
-use Rattle.std.proofs.lemmas.List.{length-drop, length-take, take-take, drop-take, drop-drop}
+use Rattle.std.proofs.lemmas.List.{length-drop, length-take, take-take, drop-take}
 use Rattle.spelling.specs.declared.fault.LayerFault.{LayerFault}
-use Rattle.spelling.specs.declared.fault.LayerFault.TheVariants.{Short, Magic, Version, Long, Damaged}
+use Rattle.spelling.specs.declared.fault.LayerFault.TheVariants.{Short, Magic, Version}
 use Rattle.spelling.specs.Format.{digest, number, ◌&◌, list_of, read_word}
 use Rattle.spelling.specs.Fixed.{number_value, number_fixed, digest_fixed, both_values, and_fixed, long_reads, short_reads}
 use Rattle.spelling.specs.Layers.{◌>>=◌, or_short, open_file, when}
 use Rattle.trace_format.specs.declared.head.Head.{Head}
 use Rattle.trace_format.specs.Formats.{block_entry, trace_magic, trace_parts}
 use Rattle.trace_format.specs.Checks.{layer_fault, trace_of}
-use Rattle.trace_format.specs.Places.{block_count, head_parts, heading}
-use Rattle.trace_format.proofs.PlacesLaws.{some, at_place, list_without_count, digest_there, ending_there, Opens}
+use Rattle.trace_format.specs.Places.{block_count, head_parts, heading, Opens, IsHead}
+use Rattle.trace_format.proofs.PlacesLaws.{some, at_place, list_without_count}
 
 abbrev opened : List ℕ → Result (ℕ × List ℕ) LayerFault
 opened bytes = Ok (number_value (take 4 (drop 4 bytes)), drop 8 bytes)
@@ -77,13 +77,6 @@ parts_without_head bytes short =
                 rw (one, two, none) refl
           ]
     ]
-
--- what the front tells, where it is right
-pub record IsHead (bytes : List ℕ) (h : Head) : Type 0 where
-  pub opens : Opens bytes
-  pub object : h.object ≡ take 32 (drop 8 bytes)
-  pub ending : h.ending ≡ number_value (take 4 (drop 40 bytes))
-  pub blocks : h.blocks ≡ block_count bytes
 
 -- ---- what the front is answered, against the whole
 

@@ -1,24 +1,19 @@
 -- What a trace file is read as, told by what stands where.
-use Rattle.std.proofs.Common.{◌≡◌, ℕ, suc, ◌+◌, ◌-◌, ◌*◌, ◌<◌, ◌≤◌, ◌^◌, Bool, true, false, cond, ltb, List, [], ◌∷◌, ◌++◌, length, take, drop, Option, Some, None, Result, Ok, Err, refl, sym, ap, subst, ◌∙◌, arith, inl, inr}
-use Rattle.std.specs.Prelude.{bytes_eq, ◌==◌}
-use Rattle.std.proofs.lemmas.Bool.{cases_lt, le-ltb, lt-ltb, ltb-false}
-use Rattle.std.proofs.lemmas.List.{length-drop, length-take, take-take, drop-take, drop-drop, take_all}
+use Rattle.std.proofs.Common.{◌≡◌, ℕ, ◌+◌, ◌-◌, ◌*◌, ◌<◌, ◌≤◌, true, false, ltb, List, length, take, drop, Option, Some, None, Ok, Err, refl, sym, ap, ◌∙◌, arith, inl, inr}
+use Rattle.std.proofs.lemmas.Bool.{cases_lt, le-ltb, lt-ltb}
+use Rattle.std.proofs.lemmas.List.{length-drop, length-take, drop-drop, take_all}
 use Rattle.sha2.specs.Sha256.{sha256}
 use Rattle.spelling.specs.declared.fault.LayerFault.{LayerFault}
-use Rattle.spelling.specs.declared.fault.LayerFault.TheVariants.{Short, Magic, Version, Long, Damaged}
-use Rattle.spelling.specs.Format.{Format, digest, number, ◌&◌, list_of, read_many, read_word}
+use Rattle.spelling.specs.declared.fault.LayerFault.TheVariants.{Short}
+use Rattle.spelling.specs.Format.{Format, digest, number, list_of, read_many, read_word}
 use Rattle.spelling.specs.Entries.{values, IsFixed}
 use Rattle.spelling.specs.Fixed.{number_value, number_fixed, digest_fixed, long_reads, short_reads}
-use Rattle.spelling.specs.Layers.{File, or_short, open_file, close_file, single}
+use Rattle.spelling.specs.Layers.{open_file, close_file}
 use Rattle.spelling.proofs.EntryLists.{many_fixed}
-use Rattle.trace_format.specs.declared.trace.Block.{Block}
-use Rattle.trace_format.specs.declared.trace.HistoryEntry.{HistoryEntry}
-use Rattle.trace_format.specs.declared.trace.Trace.{Trace}
-use Rattle.trace_format.specs.declared.fault.TraceFault.{TraceFault}
-use Rattle.trace_format.specs.Trace.{TraceFile, closed_by}
+use Rattle.trace_format.specs.Trace.{closed_by}
 use Rattle.trace_format.specs.Formats.{block_entry, block_value, block_fixed, history_entry, history_value, history_fixed, trace_magic, trace_parts}
-use Rattle.trace_format.specs.Checks.{layer_fault, layered, ordered, trace_of}
-use Rattle.trace_format.specs.Places.{block_count, first_blocks, history_count, first_history, closing_place, trace_at, closing_of}
+use Rattle.trace_format.specs.Checks.{layer_fault, ordered, trace_of}
+use Rattle.trace_format.specs.Places.{block_count, first_blocks, history_count, first_history, closing_place, trace_at, closing_of, Opens}
 
 abbrev pub some : {A : Type 0} → A → Option A
 some x = Some x
@@ -109,11 +104,6 @@ parts_without_history bytes head short =
     rw (digest_there bytes (omega (arith, head)), ending_there bytes (omega (arith, head)), blocks_there bytes (omega (arith, head)), history_missing bytes head short) refl
 
 -- ---- the whole file
-
--- a file whose front is right
-pub record Opens (bytes : List ℕ) : Type 0 where
-  pub opens : open_file trace_magic bytes ≡ Ok (1, drop 8 bytes)
-  pub long : 48 ≤ length bytes
 
 short_of : (bytes : List ℕ) → open_file trace_magic bytes ≡ Ok (1, drop 8 bytes) → trace_parts.read (drop 8 bytes) ≡ None → trace_of bytes ≡ Err (layer_fault Short)
 unfolding trace_of

@@ -1,5 +1,5 @@
 -- How a file that is fetched a part at a time goes on.
-use Rattle.std.proofs.Common.{◌≡◌, ℕ, suc, ◌+◌, ◌-◌, ◌^◌, ◌<◌, ◌≤◌, min, List, [], ◌∷◌, ◌++◌, length, take, drop, get_or, Option, Some, None, refl, sym, ap, subst, ◌∙◌, arith, add-one, ◌⊎◌, inl, inr}
+use Rattle.std.proofs.Common.{◌≡◌, ℕ, ◌+◌, ◌-◌, ◌^◌, ◌<◌, ◌≤◌, min, List, [], ◌∷◌, ◌++◌, length, take, drop, get_or, Option, Some, None, refl, sym, ap, subst, ◌∙◌, arith, add-one, inl, inr}
 use Rattle.std.specs.Prelude.{IfSome, IsSomeAnd, slice_get, slice_set}
 use Rattle.std.specs.FinMap as map
 use Rattle.std.proofs.Math.Seq.{take-add, take-suc}
@@ -7,7 +7,7 @@ use Rattle.std.proofs.lemmas.List.{length-take, length-drop, get_or-take, get_or
 use Rattle.std.proofs.lemmas.Bool.{cases_lt}
 use Rattle.std.proofs.lemmas.Option.{slice_get_past, slice_get_within, slice_get-get_or, get_or_from_slice_get}
 use Rattle.sha2.specs.Hashers.{Holds256}
-use Rattle.cov_io.specs.Outside.{Held, Holds, HoldsPart, IsPart}
+use Rattle.cov_io.specs.Outside.{Held, HoldsPart, IsPart}
 use Rattle.trace_format.specs.declared.stream.Stream.{Stream}
 use Rattle.trace_format.specs.Stream.{AreTold, StandsAt, HasNext}
 

@@ -4,6 +4,7 @@ pub mod Checks
 pub mod Stream
 pub mod Watch
 pub mod Places
+pub mod Reader
 pub mod Consolidated
 pub mod ConsolidatedFormats
 pub mod ConsolidatedChecks

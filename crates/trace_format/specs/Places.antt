@@ -1,5 +1,5 @@
 -- What stands where in a trace file, for one who reads it from its front.
-use Rattle.std.specs.Prelude.{◌≡◌, ℕ, ◌+◌, ◌*◌, Bool, List, length, take, drop, Result, Ok, Err, nat_lt, ◌==◌, bytes_eq, if◌then◌else◌}
+use Rattle.std.specs.Prelude.{◌≡◌, ℕ, ◌+◌, ◌*◌, ◌≤◌, List, length, take, drop, Result, Ok, Err, nat_lt, ◌==◌, bytes_eq, if◌then◌else◌}
 use Rattle.spelling.specs.declared.fault.LayerFault.{LayerFault}
 use Rattle.spelling.specs.declared.fault.LayerFault.TheVariants.{Short, Version, Long, Damaged}
 use Rattle.spelling.specs.Format.{Format, digest, number, ◌&◌}
@@ -58,3 +58,15 @@ abbrev pub closing_of : List ℕ → List ℕ → Result (List ℕ) LayerFault
 closing_of tail wanted = if nat_lt (length tail) 32 then Err Short
     else (if nat_lt 32 (length tail) then Err Long
     else (if bytes_eq tail wanted then Ok tail else Err Damaged))
+
+-- a file whose front is right
+pub record Opens (bytes : List ℕ) : Type 0 where
+  pub opens : open_file trace_magic bytes ≡ Ok (1, drop 8 bytes)
+  pub long : 48 ≤ length bytes
+
+-- what the front tells, where it is right
+pub record IsHead (bytes : List ℕ) (h : Head) : Type 0 where
+  pub opens : Opens bytes
+  pub object : h.object ≡ take 32 (drop 8 bytes)
+  pub ending : h.ending ≡ number_value (take 4 (drop 40 bytes))
+  pub blocks : h.blocks ≡ block_count bytes

@@ -1,6 +1,6 @@
 //! The front of a trace file, up to the count of its blocks.
 
-ghost use Rattle.std.specs.Prelude.{◌≡◌};
+ghost use Rattle.std.specs.Prelude.{◌≡◌, ◌<◌, ◌^◌, IfOk};
 ghost use Rattle.trace_format.specs.Places.{heading};
 
 use crate::trace::{MAGIC, VERSION};
@@ -18,7 +18,8 @@ pub struct Head {
 
 /// The front of a trace file that begins with these bytes.
 pub fn head_of(bytes: &[u8]) -> Result<Head, LayerFault>
-    ensures { result ≡ heading bytes.now }
+    ensures head { result ≡ heading bytes.now }
+    ensures few { IfOk result (λ head. head.blocks < 2 ^ 32) }
 {
     let (version, rest) = opened(&MAGIC, bytes)?;
     if version != VERSION {

@@ -1,4 +1,4 @@
-use Rattle.std.proofs.Common.{◌≡◌, ◌++◌, take, refl, subst, ap, sym, ◌∙◌, arith, rules}
+use Rattle.std.proofs.Common.{take, subst, arith, rules}
 use Rattle.sha2.specs.Hashers.{Holds256}
 use Rattle.trace_format.proofs.StreamLaws.{taken_part}
 use Rattle.trace_format.proofs.stream.Stream.digest.Goals as goal

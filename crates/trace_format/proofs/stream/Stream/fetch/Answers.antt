@@ -1,4 +1,4 @@
-use Rattle.std.proofs.Common.{refl, arith, rules}
+use Rattle.std.proofs.Common.{refl, arith}
 use Rattle.trace_format.proofs.StreamLaws.{told_part, fetched_next}
 use Rattle.trace_format.proofs.stream.Stream.fetch.Goals as goal
 
