@@ -2,7 +2,7 @@
 use Rattle.std.proofs.Common.{◌≡◌, ℕ, zero, suc, ◌+◌, ◌-◌, ◌*◌, ◌<◌, ◌≤◌, ◌^◌, min, List, [], ◌∷◌, ◌++◌, length, take, drop, None, Result, Ok, Err, refl, sym, ap, subst, ◌∙◌, append_assoc, arith}
 use Rattle.std.specs.Prelude.{map}
 use Rattle.std.proofs.Math.Nat.{mul-suc, mul-zero}
-use Rattle.std.proofs.lemmas.List.{length-drop, length-take, take_all, map-append, append-nil, drop-drop}
+use Rattle.std.proofs.lemmas.List.{length-drop, length-take, take_all, map-append, append-nil, drop-drop, length-append}
 use Rattle.sha2.specs.Sha256.{sha256}
 use Rattle.cov_base.specs.declared.failure.Failure.{Failure}
 use Rattle.cov_base.specs.declared.failure.Failure.TheVariants.{Fault, WantOfMemory}
@@ -28,7 +28,7 @@ use Rattle.trace_format.specs.Checks.{in_order, has_known_flags, has_known_edge,
 use Rattle.trace_format.specs.Places.{block_count, first_blocks, history_count, first_history, closing_place, trace_at, closing_of, heading, IsHead}
 use Rattle.trace_format.specs.Stream.{StandsAt}
 use Rattle.trace_format.specs.Watch.{Watched}
-use Rattle.trace_format.specs.Reader.{block_given, history_given, entries_to, IsCause, SawBlocks, InHead, InBlocks, InHistory, IsRead, Takes, verdict_of}
+use Rattle.trace_format.specs.Reader.{block_given, history_given, entries_to, IsCause, SawBlocks, InHead, InBlocks, InHistory, IsRead, Takes, verdict_of, GaveBlocks, GaveHistory}
 use Rattle.trace_format.proofs.PlacesLaws.{at_place, ends_in_blocks, ends_in_history, closed_wrong, closed_right}
 use Rattle.trace_format.proofs.HeadLaws.{head_found, head_fault}
 
@@ -269,3 +269,25 @@ head_given old new bytes given h stream head order flags edges = record {
   where
     forty_eight : 48 ≡ 48 + 9 * 0
     forty_eight = refl
+
+-- ---- what was given, whatever the files hold
+
+pub gave_block : (given : List Entry) (left : ℕ) (block : Block) → GaveBlocks given (left + 1) → GaveBlocks (given ++ block_given block ∷ []) left
+gave_block given left block g = record {
+  object = g.object;
+  ending = g.ending;
+  blocks = g.blocks ++ block ∷ [];
+  gave = ap (λ (xs : List Entry). xs ++ block_given block ∷ []) g.gave ∙ block_added g.object g.ending g.blocks block;
+  few = omega (arith, g.few, length-append g.blocks (block ∷ []));
+}
+
+pub gave_history : (given : List Entry) (left : ℕ) (entry : HistoryEntry) → GaveHistory given (left + 1) → GaveHistory (given ++ history_given entry ∷ []) left
+gave_history given left entry g = record {
+  object = g.object;
+  ending = g.ending;
+  blocks = g.blocks;
+  history = g.history ++ entry ∷ [];
+  gave = ap (λ (xs : List Entry). xs ++ history_given entry ∷ []) g.gave ∙ history_added g.object g.ending g.blocks g.history entry;
+  few = g.few;
+  short = omega (arith, g.short, length-append g.history (entry ∷ []));
+}

@@ -1,5 +1,5 @@
 -- Where a reader stands in the bytes of a trace file, and what it gave of them.
-use Rattle.std.specs.Prelude.{◌≡◌, ℕ, ◌+◌, ◌*◌, ◌^◌, ◌<◌, ◌≤◌, List, [], ◌∷◌, ◌++◌, map, length, take, drop, Option, Some, None, Result, Ok, Err, string_bytes}
+use Rattle.std.specs.Prelude.{◌≡◌, ℕ, ◌+◌, ◌*◌, ◌^◌, ◌<◌, ◌≤◌, ◌⊎◌, List, [], ◌∷◌, ◌++◌, map, length, take, drop, Option, Some, None, Result, Ok, Err, string_bytes}
 use Rattle.cov_base.specs.declared.failure.Failure.{Failure}
 use Rattle.cov_base.specs.declared.failure.Failure.TheVariants.{Fault, WantOfMemory}
 use Rattle.cov_io.specs.declared.files.FileFault.{FileFault}
@@ -124,6 +124,14 @@ Answers (Ok (Some entry)) r bytes given = Reads r bytes (given ++ entry ∷ [])
 Answers (Ok None) r bytes given = IsRead bytes given × Reads r bytes given
 Answers (Err failure) r bytes given = IsCause bytes failure
 
+-- what stands behind the last entry, or the last entry
+abbrev pub IsEnd : Option Entry → Type 0
+IsEnd None = Unit {0}
+IsEnd (Some (entries.Head object ending)) = ⊥
+IsEnd (Some (entries.Block start last flags)) = ⊥
+IsEnd (Some (entries.History address x8 edge)) = ⊥
+IsEnd (Some (entries.Close digest)) = Unit {0}
+
 -- what a call gives that gives an entry
 abbrev pub Gives : Result Entry (Failure ReaderFault) → TraceReader → List ℕ → List Entry → Type 0
 Gives (Ok entry) r bytes given = Reads r bytes (given ++ entry ∷ [])
@@ -139,3 +147,56 @@ Takes (Ok done) s into bytes taken room = (into ≡ take room (drop taken bytes)
 Takes (Err (Fault reader_faults.Read)) s into bytes taken room = Unit {0}
 Takes (Err (Fault (reader_faults.Trace fault))) s into bytes taken room = (fault ≡ layer_fault Short) × (length bytes < taken + room)
 Takes (Err WantOfMemory) s into bytes taken room = Unit {0}
+
+-- ---- what a reader gave, whatever the files hold
+
+-- a head and blocks, of which so many may follow
+pub record GaveBlocks (given : List Entry) (left : ℕ) : Type 0 where
+  pub object : List ℕ
+  pub ending : ℕ
+  pub blocks : List Block
+  pub gave : given ≡ entries_to object ending blocks []
+  pub few : length blocks + left < 2 ^ 32
+
+-- a head, blocks, and entries of the history, of which so many may follow
+pub record GaveHistory (given : List Entry) (left : ℕ) : Type 0 where
+  pub object : List ℕ
+  pub ending : ℕ
+  pub blocks : List Block
+  pub history : List HistoryEntry
+  pub gave : given ≡ entries_to object ending blocks history
+  pub few : length blocks < 2 ^ 32
+  pub short : length history + left < 2 ^ 32
+
+-- a head, blocks, entries of the history, and a closing digest
+pub record GaveAll (given : List Entry) : Type 0 where
+  pub object : List ℕ
+  pub ending : ℕ
+  pub blocks : List Block
+  pub history : List HistoryEntry
+  pub closing : List ℕ
+  pub gave : given ≡ entries_to object ending blocks history ++ entries.Close closing ∷ []
+  pub few : length blocks < 2 ^ 32
+  pub short : length history < 2 ^ 32
+
+-- nothing, or a head and what may follow it but the digest
+abbrev pub Began : List Entry → Type 0
+Began given = (given ≡ []) ⊎ GaveHistory given 0
+
+-- what a reader of a stage gave, which has so many blocks
+abbrev pub GaveIn : Stage → ℕ → List Entry → Type 0
+GaveIn stages.Head blocks given = (given ≡ []) × (blocks < 2 ^ 32)
+GaveIn (stages.Blocks left) blocks given = GaveBlocks given left
+GaveIn (stages.History left) blocks given = GaveHistory given left
+GaveIn stages.Closed blocks given = GaveAll given
+GaveIn (stages.Failed failure) blocks given = Began given
+
+-- the reader gave these entries: one head, fewer than 2^32 blocks, fewer than 2^32 entries of the history, and the digest, as far as it has come
+abbrev pub Gave : TraceReader → List Entry → Type 0
+Gave r given = GaveIn r.stage r.head.blocks given
+
+-- the entries that were given, after a call
+abbrev pub and_then : List Entry → Result (Option Entry) (Failure ReaderFault) → List Entry
+and_then given (Ok (Some entry)) = given ++ entry ∷ []
+and_then given (Ok None) = given
+and_then given (Err failure) = given

@@ -1,6 +1,6 @@
 //! A trace file that is read from its front, a part at a time.
 
-ghost use Rattle.std.specs.Prelude.{◌≡◌, ◌≢◌, ◌↔◌, ℕ, ◌+◌, ◌^◌, ◌<◌, ◌≤◌, ◌⊎◌, List, [], ◌∷◌, ◌++◌, length, take, drop, string_bytes, None, IfOk, IfErr, IsErrOf, Ok};
+ghost use Rattle.std.specs.Prelude.{◌≡◌, ◌≢◌, ◌↔◌, ℕ, ◌+◌, ◌^◌, ◌<◌, ◌≤◌, ◌⊎◌, List, [], ◌∷◌, ◌++◌, length, take, drop, string_bytes, None, Some, IfOk, IfErr, OnOk, OnErr, IsErrOf, Ok};
 ghost use Rattle.sha2.specs.Sha256.{sha256};
 ghost use Rattle.cov_base.specs.declared.failure.Failure.TheVariants.{Fault};
 ghost use Rattle.cov_io.specs.Outside.{Rose, IsAbsent};
@@ -8,9 +8,10 @@ ghost use Rattle.trace_format.specs.declared.entry.Entry.{Entry};
 ghost use Rattle.trace_format.specs.declared.entry.ReaderFault.{ReaderFault};
 ghost use Rattle.trace_format.specs.declared.entry.ReaderFault.TheVariants.{Read, Trace};
 ghost use Rattle.trace_format.specs.declared.reader.Stage.TheVariants.{Closed, Failed};
+ghost use Rattle.trace_format.specs.declared.reader.Stage.TheVariants as stages;
 ghost use Rattle.trace_format.specs.Places.{closing_of};
 ghost use Rattle.trace_format.specs.Stream.{AreTold, StandsAt};
-ghost use Rattle.trace_format.specs.Reader.{read_failure, format_failure, IsCause, InHead, InBlocks, InHistory, Reads, Answers, Takes, Gives, verdict_of, file_name};
+ghost use Rattle.trace_format.specs.Reader.{read_failure, format_failure, IsCause, InHead, InBlocks, InHistory, Reads, Answers, Takes, Gives, verdict_of, file_name, IsEnd, GaveBlocks, GaveHistory, Began, Gave, and_then};
 
 use crate::check::{InOrder, KnownEdge, KnownFlags};
 use crate::entry::{Entry, ReaderFault};
@@ -68,10 +69,14 @@ impl TraceReader {
         ensures name { IfOk result (λ reader. file_name reader ≡ name.now) }
         ensures reads { (bytes : List ℕ) → AreTold (F.held files.old) name.now bytes → IfOk result (λ reader. Reads reader bytes []) }
         ensures cause { (bytes : List ℕ) → AreTold (F.held files.old) name.now bytes → IfErr result (IsCause bytes) }
+        ensures gave { IfOk result (λ reader. Gave reader []) }
+        ensures fresh { IfOk result (λ reader. reader.stage ≡ stages.Head) }
+
         ensures same { F.held files.new ≡ F.held files.old }
         ensures failed { IsErrOf result (Fault Read)
             → Rose (F.reads_failed files.old) (F.reads_failed files.new) ⊎ IsAbsent (F.held files.old) name.now }
         ensures stays { result ≢ Err (Fault Read) → F.reads_failed files.new ≡ F.reads_failed files.old }
+        ensures later { F.reads_failed files.old ≤ F.reads_failed files.new }
         ensures writes { F.writes_failed files.new ≡ F.writes_failed files.old }
     {
         let mut stream = Stream::new(alloc, name)?;
@@ -100,8 +105,12 @@ impl TraceReader {
         ensures answers { (bytes : List ℕ) (given : List Entry) → AreTold (F.held files.old) (file_name self.old) bytes
             → Reads self.old bytes given → Answers result self.new bytes given }
 
+        // What comes in which order, whatever the files hold.
+        ensures gave { (given : List Entry) → Gave self.old given → Gave self.new (and_then given result) }
+        ensures closes { IfOk result (λ answer. IsEnd answer ↔ (self.new.stage ≡ Closed)) }
+
         // After a fault that fault again, and after the closing digest nothing.
-        ensures fails { IfErr result (λ failure. self.new.stage ≡ Failed failure) }
+        ensures fails { (failure : Failure ReaderFault) → (self.new.stage ≡ Failed failure) ↔ (result ≡ Err failure) }
         ensures again { (failure : Failure ReaderFault) → self.old.stage ≡ Failed failure → result ≡ Err failure }
         ensures ended { self.old.stage ≡ Closed ↔ (result ≡ Ok None) }
 
@@ -112,6 +121,7 @@ impl TraceReader {
             ⊎ IsAbsent (F.held files.old) (file_name self.old)
             ⊎ (self.old.stage ≡ Failed (Fault Read)) }
         ensures stays { result ≢ Err (Fault Read) → F.reads_failed files.new ≡ F.reads_failed files.old }
+        ensures later { F.reads_failed files.old ≤ F.reads_failed files.new }
         ensures writes { F.writes_failed files.new ≡ F.writes_failed files.old }
     {
         let answer = self.advance(files);
@@ -125,6 +135,10 @@ impl TraceReader {
     fn advance<F: Files>(&mut self, files: &mut F) -> Result<Option<Entry>, Failure<ReaderFault>>
         ensures answers { (bytes : List ℕ) (given : List Entry) → AreTold (F.held files.old) (file_name self.old) bytes
             → Reads self.old bytes given → Answers result self.new bytes given }
+        ensures gave { (given : List Entry) → Gave self.old given → IfOk result (λ _. Gave self.new (and_then given result)) }
+        ensures began { (given : List Entry) → Gave self.old given → OnErr result (Began given) }
+        ensures closes { IfOk result (λ answer. IsEnd answer ↔ (self.new.stage ≡ Closed)) }
+        ensures unfailed { OnOk result ((failure : Failure ReaderFault) → self.new.stage ≢ Failed failure) }
         ensures again { (failure : Failure ReaderFault) → self.old.stage ≡ Failed failure → result ≡ Err failure }
         ensures ended { self.old.stage ≡ Closed ↔ (result ≡ Ok None) }
         ensures name { file_name self.new ≡ file_name self.old }
@@ -134,6 +148,7 @@ impl TraceReader {
             ⊎ IsAbsent (F.held files.old) (file_name self.old)
             ⊎ (self.old.stage ≡ Failed (Fault Read)) }
         ensures stays { result ≢ Err (Fault Read) → F.reads_failed files.new ≡ F.reads_failed files.old }
+        ensures later { F.reads_failed files.old ≤ F.reads_failed files.new }
         ensures writes { F.writes_failed files.new ≡ F.writes_failed files.old }
     {
         match self.stage {
@@ -161,12 +176,16 @@ impl TraceReader {
     ) -> Result<Entry, Failure<ReaderFault>>
         ensures gives { (bytes : List ℕ) (given : List Entry) → AreTold (F.held files.old) (file_name self.old) bytes
             → InBlocks self.old bytes given left → Gives result self.new bytes given }
+        ensures gave { (given : List Entry) → GaveBlocks given left → IfOk result (λ entry. Gave self.new (given ++ entry ∷ [])) }
+        ensures closes { IfOk result (λ entry. IsEnd (Some entry) ↔ (self.new.stage ≡ Closed)) }
+        ensures unfailed { OnOk result ((failure : Failure ReaderFault) → self.new.stage ≢ Failed failure) }
         ensures name { file_name self.new ≡ file_name self.old }
         ensures same { F.held files.new ≡ F.held files.old }
         ensures failed { IsErrOf result (Fault Read)
             → Rose (F.reads_failed files.old) (F.reads_failed files.new)
             ⊎ IsAbsent (F.held files.old) (file_name self.old) }
         ensures stays { result ≢ Err (Fault Read) → F.reads_failed files.new ≡ F.reads_failed files.old }
+        ensures later { F.reads_failed files.old ≤ F.reads_failed files.new }
         ensures writes { F.writes_failed files.new ≡ F.writes_failed files.old }
     {
         if left > 0 {
@@ -184,12 +203,16 @@ impl TraceReader {
     ) -> Result<Entry, Failure<ReaderFault>>
         ensures gives { (bytes : List ℕ) (given : List Entry) → AreTold (F.held files.old) (file_name self.old) bytes
             → InHistory self.old bytes given left → Gives result self.new bytes given }
+        ensures gave { (given : List Entry) → GaveHistory given left → IfOk result (λ entry. Gave self.new (given ++ entry ∷ [])) }
+        ensures closes { IfOk result (λ entry. IsEnd (Some entry) ↔ (self.new.stage ≡ Closed)) }
+        ensures unfailed { OnOk result ((failure : Failure ReaderFault) → self.new.stage ≢ Failed failure) }
         ensures name { file_name self.new ≡ file_name self.old }
         ensures same { F.held files.new ≡ F.held files.old }
         ensures failed { IsErrOf result (Fault Read)
             → Rose (F.reads_failed files.old) (F.reads_failed files.new)
             ⊎ IsAbsent (F.held files.old) (file_name self.old) }
         ensures stays { result ≢ Err (Fault Read) → F.reads_failed files.new ≡ F.reads_failed files.old }
+        ensures later { F.reads_failed files.old ≤ F.reads_failed files.new }
         ensures writes { F.writes_failed files.new ≡ F.writes_failed files.old }
     {
         if left == 0 {
@@ -206,12 +229,16 @@ impl TraceReader {
     ) -> Result<Entry, Failure<ReaderFault>>
         ensures gives { (bytes : List ℕ) (given : List Entry) → AreTold (F.held files.old) (file_name self.old) bytes
             → InBlocks self.old bytes given (left + 1) → Gives result self.new bytes given }
+        ensures gave { (given : List Entry) → GaveBlocks given (left + 1) → IfOk result (λ entry. Gave self.new (given ++ entry ∷ [])) }
+        ensures closes { IfOk result (λ entry. IsEnd (Some entry) ↔ (self.new.stage ≡ Closed)) }
+        ensures unfailed { OnOk result ((failure : Failure ReaderFault) → self.new.stage ≢ Failed failure) }
         ensures name { file_name self.new ≡ file_name self.old }
         ensures same { F.held files.new ≡ F.held files.old }
         ensures failed { IsErrOf result (Fault Read)
             → Rose (F.reads_failed files.old) (F.reads_failed files.new)
             ⊎ IsAbsent (F.held files.old) (file_name self.old) }
         ensures stays { result ≢ Err (Fault Read) → F.reads_failed files.new ≡ F.reads_failed files.old }
+        ensures later { F.reads_failed files.old ≤ F.reads_failed files.new }
         ensures writes { F.writes_failed files.new ≡ F.writes_failed files.old }
     {
         let mut piece = [0; ENTRY];
@@ -233,12 +260,14 @@ impl TraceReader {
             → InBlocks self.old bytes given 0 → IfOk result (λ left. InHistory self.new bytes given left) }
         ensures cause { (bytes : List ℕ) (given : List Entry) → AreTold (F.held files.old) (file_name self.old) bytes
             → InBlocks self.old bytes given 0 → IfErr result (IsCause bytes) }
+        ensures gave { (given : List Entry) → GaveBlocks given 0 → IfOk result (λ left. GaveHistory given left) }
         ensures name { file_name self.new ≡ file_name self.old }
         ensures same { F.held files.new ≡ F.held files.old }
         ensures failed { IsErrOf result (Fault Read)
             → Rose (F.reads_failed files.old) (F.reads_failed files.new)
             ⊎ IsAbsent (F.held files.old) (file_name self.old) }
         ensures stays { result ≢ Err (Fault Read) → F.reads_failed files.new ≡ F.reads_failed files.old }
+        ensures later { F.reads_failed files.old ≤ F.reads_failed files.new }
         ensures writes { F.writes_failed files.new ≡ F.writes_failed files.old }
     {
         let mut word = [0; 4];
@@ -254,12 +283,16 @@ impl TraceReader {
     ) -> Result<Entry, Failure<ReaderFault>>
         ensures gives { (bytes : List ℕ) (given : List Entry) → AreTold (F.held files.old) (file_name self.old) bytes
             → InHistory self.old bytes given (left + 1) → Gives result self.new bytes given }
+        ensures gave { (given : List Entry) → GaveHistory given (left + 1) → IfOk result (λ entry. Gave self.new (given ++ entry ∷ [])) }
+        ensures closes { IfOk result (λ entry. IsEnd (Some entry) ↔ (self.new.stage ≡ Closed)) }
+        ensures unfailed { OnOk result ((failure : Failure ReaderFault) → self.new.stage ≢ Failed failure) }
         ensures name { file_name self.new ≡ file_name self.old }
         ensures same { F.held files.new ≡ F.held files.old }
         ensures failed { IsErrOf result (Fault Read)
             → Rose (F.reads_failed files.old) (F.reads_failed files.new)
             ⊎ IsAbsent (F.held files.old) (file_name self.old) }
         ensures stays { result ≢ Err (Fault Read) → F.reads_failed files.new ≡ F.reads_failed files.old }
+        ensures later { F.reads_failed files.old ≤ F.reads_failed files.new }
         ensures writes { F.writes_failed files.new ≡ F.writes_failed files.old }
     {
         let mut piece = [0; ENTRY];
@@ -279,12 +312,16 @@ impl TraceReader {
     fn close<F: Files>(&mut self, files: &mut F) -> Result<Entry, Failure<ReaderFault>>
         ensures gives { (bytes : List ℕ) (given : List Entry) → AreTold (F.held files.old) (file_name self.old) bytes
             → InHistory self.old bytes given 0 → Gives result self.new bytes given }
+        ensures gave { (given : List Entry) → GaveHistory given 0 → IfOk result (λ entry. Gave self.new (given ++ entry ∷ [])) }
+        ensures closes { IfOk result (λ entry. IsEnd (Some entry) ↔ (self.new.stage ≡ Closed)) }
+        ensures unfailed { OnOk result ((failure : Failure ReaderFault) → self.new.stage ≢ Failed failure) }
         ensures name { file_name self.new ≡ file_name self.old }
         ensures same { F.held files.new ≡ F.held files.old }
         ensures failed { IsErrOf result (Fault Read)
             → Rose (F.reads_failed files.old) (F.reads_failed files.new)
             ⊎ IsAbsent (F.held files.old) (file_name self.old) }
         ensures stays { result ≢ Err (Fault Read) → F.reads_failed files.new ≡ F.reads_failed files.old }
+        ensures later { F.reads_failed files.old ≤ F.reads_failed files.new }
         ensures writes { F.writes_failed files.new ≡ F.writes_failed files.old }
     {
         let wanted = self.stream.digest()?;
@@ -350,6 +387,7 @@ fn take<F: Files>(
         → Rose (F.reads_failed files.old) (F.reads_failed files.new)
         ⊎ IsAbsent (F.held files.old) (string_bytes stream.old.name) }
     ensures stays { result ≢ Err (Fault Read) → F.reads_failed files.new ≡ F.reads_failed files.old }
+    ensures later { F.reads_failed files.old ≤ F.reads_failed files.new }
     ensures writes { F.writes_failed files.new ≡ F.writes_failed files.old }
 {
     let room = into.len();

@@ -53,6 +53,7 @@ impl Stream {
             → Rose (F.reads_failed files.old) (F.reads_failed files.new)
             ⊎ IsAbsent (F.held files.old) (string_bytes self.old.name) }
         ensures stays { result ≢ Err FileFault.Failed → F.reads_failed files.new ≡ F.reads_failed files.old }
+        ensures later { F.reads_failed files.old ≤ F.reads_failed files.new }
         ensures writes { F.writes_failed files.new ≡ F.writes_failed files.old }
     {
         for place in 0..into.len() {
@@ -75,6 +76,7 @@ impl Stream {
             → Rose (F.reads_failed files.old) (F.reads_failed files.new)
             ⊎ IsAbsent (F.held files.old) (string_bytes self.old.name) }
         ensures stays { result ≢ Err FileFault.Failed → F.reads_failed files.new ≡ F.reads_failed files.old }
+        ensures later { F.reads_failed files.old ≤ F.reads_failed files.new }
         ensures writes { F.writes_failed files.new ≡ F.writes_failed files.old }
     {
         self.fetch(files)?;
@@ -97,6 +99,7 @@ impl Stream {
             → Rose (F.reads_failed files.old) (F.reads_failed files.new)
             ⊎ IsAbsent (F.held files.old) (string_bytes self.old.name) }
         ensures stays { result ≢ Err FileFault.Failed → F.reads_failed files.new ≡ F.reads_failed files.old }
+        ensures later { F.reads_failed files.old ≤ F.reads_failed files.new }
         ensures writes { F.writes_failed files.new ≡ F.writes_failed files.old }
     {
         if self.at < self.part.len() {
