@@ -1,0 +1,3 @@
+pub mod SeenLaws
+pub mod Agreement
+pub mod TableLaws

@@ -1,0 +1,16 @@
+//! Entities and regions: what names denote, as the checker keeps it (Ada RM 2012, 3.2, 8.1 to 8.3,
+//! 12.3). The rules themselves stand in ada_rules; `specs/Views.antt` says what the values here are of
+//! its definitions.
+//!
+//! Types and entities are small and copied: a composite type is a number in the table [`Types`], and
+//! whether it is seen through an instance. So a type of a deep record takes no more than one of
+//! integers, and what an instance has is told where it is asked for.
+#![tactic(auto)]
+
+mod composite;
+mod seen;
+mod table;
+mod types;
+
+pub use composite::{Component, Definition, Types};
+pub use types::{AdaType, Composite, FormalKind, Identity, ScalarType, Subtype, TypeName};
