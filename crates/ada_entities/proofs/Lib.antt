@@ -1,3 +1,4 @@
 pub mod SeenLaws
 pub mod Agreement
 pub mod TableLaws
+pub mod LookupLaws

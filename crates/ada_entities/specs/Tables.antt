@@ -1,6 +1,8 @@
 -- The table of composite types: each is built of those before it.
 use Rattle.std.specs.Prelude.{ℕ, ◌+◌, Bool, true, ◌&&◌, List, [], ◌∷◌, ◌++◌, map, Option, Some, None}
+use Rattle.std.specs.Borrow.{Bor}
 use Rattle.std.specs.List.{list_all}
+use Rattle.ada_meaning.specs.Types.{Owner}
 use Rattle.ada_rules.specs.Types.{AdaType, array_type, record_type, AdaSubtype, Fields, no_field, and_field}
 use Rattle.ada_rules.specs.Entities.{Actual}
 use Rattle.ada_rules.specs.Denoted.{field_among}
@@ -9,7 +11,7 @@ use Rattle.ada_entities.specs.declared.types.Subtype.{Subtype}
 use Rattle.ada_entities.specs.declared.composite.Component.{Component}
 use Rattle.ada_entities.specs.declared.composite.Definition.{Definition}
 use Rattle.ada_entities.specs.declared.composite.Definition.TheVariants as definition
-use Rattle.ada_entities.specs.Views.{Shape, array_shape, record_shape, TypeTables, subtype_of, given_of, is_known}
+use Rattle.ada_entities.specs.Views.{Shape, array_shape, record_shape, TypeTables, subtype_of, subtype_by, given_of, is_known}
 
 abbrev pub fields_of : TypeTables → List Component → Fields
 fields_of k [] = no_field
@@ -71,3 +73,23 @@ with_shape k s = record k { shapes = k.shapes ++ s ∷ [] }
 
 abbrev pub with_instance : TypeTables → List Actual → TypeTables
 with_instance k actuals = record k { instances = k.instances ++ actuals ∷ [] }
+
+-- where there may be no definition: then there is a record without components
+abbrev pub shape_from : TypeTables → Option (Bor Definition) → Shape
+shape_from k None = record_shape no_field
+shape_from k (Some d) = shape_of k d.now
+
+abbrev pub shape_parts : Shape → Option (AdaSubtype × AdaSubtype)
+shape_parts (array_shape x c) = Some (x, c)
+shape_parts (record_shape fs) = None
+
+abbrev pub shape_fields : Shape → Fields
+shape_fields (array_shape x c) = no_field
+shape_fields (record_shape fs) = fs
+
+-- parts of a composite type as the type is seen
+abbrev pub seen_parts : TypeTables → Owner → AdaSubtype × AdaSubtype → AdaSubtype × AdaSubtype
+seen_parts k o p = (subtype_by k o p.0, subtype_by k o p.1)
+
+abbrev pub seen_field : TypeTables → Owner → ℕ × AdaSubtype → ℕ × AdaSubtype
+seen_field k o f = (f.0, subtype_by k o f.1)

@@ -4,7 +4,7 @@ use Rattle.ada_meaning.specs.Types.{Owner, here, of_instance, static_number, Ran
 use Rattle.ada_tree.specs.View.{owner_of, scalar_range_of}
 use Rattle.ada_rules.specs.Types as rules
 use Rattle.ada_rules.specs.Types.{AdaType, AdaSubtype, of_type, Fields, no_field, base}
-use Rattle.ada_rules.specs.Entities.{Actual, object_actual, type_actual, identity_seen, type_seen}
+use Rattle.ada_rules.specs.Entities.{Actual, object_actual, type_actual, identity_seen, type_seen, subtype_seen}
 use Rattle.ada_entities.specs.declared.types.TypeName.{TypeName}
 use Rattle.ada_entities.specs.declared.types.Identity.{Identity}
 use Rattle.ada_entities.specs.declared.types.Identity.TheVariants as identity
@@ -69,6 +69,10 @@ identity_by (of_instance n) i = identity_seen n i
 abbrev pub type_by : TypeTables → Owner → AdaType → AdaType
 type_by k here t = t
 type_by k (of_instance n) t = type_seen n (actuals_of k n) t
+
+abbrev pub subtype_by : TypeTables → Owner → AdaSubtype → AdaSubtype
+subtype_by k here t = t
+subtype_by k (of_instance n) t = subtype_seen n (actuals_of k n) t
 
 abbrev pub composite_of : TypeTables → Composite → AdaType
 composite_of k c = type_by k (owner_of c.seen) (shaped (identity_of c.identity) (shape_at k c.number))
