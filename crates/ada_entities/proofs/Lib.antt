@@ -2,3 +2,4 @@ pub mod SeenLaws
 pub mod Agreement
 pub mod TableLaws
 pub mod LookupLaws
+pub mod RoutineLaws

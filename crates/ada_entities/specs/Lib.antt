@@ -1,3 +1,5 @@
 pub mod Views
 pub mod Tables
 pub mod TypeTable
+pub mod EntityViews
+pub mod SeenEntities

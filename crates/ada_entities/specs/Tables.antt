@@ -1,5 +1,5 @@
 -- The table of composite types: each is built of those before it.
-use Rattle.std.specs.Prelude.{ℕ, ◌+◌, Bool, true, ◌&&◌, List, [], ◌∷◌, ◌++◌, map, Option, Some, None}
+use Rattle.std.specs.Prelude.{◌≡◌, ℕ, ◌+◌, Bool, true, ◌&&◌, List, [], ◌∷◌, ◌++◌, map, Option, Some, None, option_map}
 use Rattle.std.specs.Borrow.{Bor}
 use Rattle.std.specs.List.{list_all}
 use Rattle.ada_meaning.specs.Types.{Owner}
@@ -93,3 +93,10 @@ seen_parts k o p = (subtype_by k o p.0, subtype_by k o p.1)
 
 abbrev pub seen_field : TypeTables → Owner → ℕ × AdaSubtype → ℕ × AdaSubtype
 seen_field k o f = (f.0, subtype_by k o f.1)
+
+-- parts that are those of a definition as its type is seen
+abbrev pub AreSeenParts : TypeTables → Owner → (own seen : Option (Subtype × Subtype)) → Type 0
+AreSeenParts k o own seen = option_map (parts_of k) seen ≡ option_map (seen_parts k o) (option_map (parts_of k) own)
+
+abbrev pub IsSeenField : TypeTables → Owner → (own seen : Option (ℕ × Subtype)) → Type 0
+IsSeenField k o own seen = option_map (field_of k) seen ≡ option_map (seen_field k o) (option_map (field_of k) own)

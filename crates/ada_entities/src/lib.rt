@@ -8,9 +8,11 @@
 #![tactic(auto)]
 
 mod composite;
+mod entity;
 mod seen;
 mod table;
 mod types;
 
 pub use composite::{Component, Definition, Types};
+pub use entity::{Access, Completion, ConstantValue, DeclaredObject, Entity, RoutineName, Values};
 pub use types::{AdaType, Composite, FormalKind, Identity, ScalarType, Subtype, TypeName};

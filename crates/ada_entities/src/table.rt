@@ -2,11 +2,12 @@
 //! 12.3).
 
 ghost use Rattle.std.specs.Prelude.{◌≡◌, length, map, option_map, slice_get, OnOk, IfOk};
+ghost use Rattle.ada_meaning.specs.Types.{of_instance};
 ghost use Rattle.ada_tree.specs.View.{owner_of};
-ghost use Rattle.ada_rules.specs.Entities.{given_type, type_seen, subtype_seen};
+ghost use Rattle.ada_rules.specs.Entities.{given_type};
 ghost use Rattle.ada_rules.specs.Denoted.{field_among};
-ghost use Rattle.ada_entities.specs.Views.{TypeTables, actuals_of, shape_at, given_of, is_known, is_known_owner, scalar_type_of, type_of, subtype_of, subtype_by};
-ghost use Rattle.ada_entities.specs.Tables.{shape_of, are_known, is_earlier, no_tables, with_shape, with_instance, fields_of, array_parts, parts_of, field_in, field_of, shape_from, shape_parts, shape_fields, seen_parts, seen_field};
+ghost use Rattle.ada_entities.specs.Views.{TypeTables, actuals_of, shape_at, given_of, is_known, is_known_owner, scalar_type_of, type_of, type_by, subtype_of, subtype_by};
+ghost use Rattle.ada_entities.specs.Tables.{shape_of, are_known, is_earlier, no_tables, with_shape, with_instance, fields_of, array_parts, parts_of, field_in, field_of, shape_from, shape_parts, shape_fields, AreSeenParts, IsSeenField};
 ghost use Rattle.ada_entities.specs.TypeTable.{tables};
 
 use crate::composite::{Component, Definition, Types};
@@ -84,7 +85,7 @@ impl Types {
     /// table is not added, and has no memory either.
     pub fn add(&mut self, definition: Definition) -> Result<u32, AllocError>
         ensures number { IfOk result (λ n. n ≡ length (tables self.old).shapes) }
-        ensures added { OnOk result (tables self.new ≡ with_shape (tables self.old) (shape_of (tables self.old) definition)) }
+        ensures added { OnOk result (let k = tables self.old in tables self.new ≡ with_shape k (shape_of k definition)) }
     {
         let types = self.definitions.as_slice().len();
         let number = numbered(types)?;
@@ -114,7 +115,7 @@ impl Types {
 
     /// A scalar type as it is seen through an instance.
     fn scalar_seen(&self, of: ScalarType, instance: u32) -> ScalarType
-        ensures { scalar_type_of result ≡ type_seen instance (actuals_of (tables self.now) instance) (scalar_type_of of) }
+        ensures { scalar_type_of result ≡ type_by (tables self.now) (of_instance instance) (scalar_type_of of) }
     {
         match of {
             ScalarType::Integer(identity) => ScalarType::Integer(identity.seen(instance)),
@@ -137,7 +138,7 @@ impl Types {
 
     /// A type as it is seen through an instance (RM 12.3).
     pub fn type_seen(&self, of: AdaType, instance: u32) -> AdaType
-        ensures { type_of (tables self.now) result ≡ type_seen instance (actuals_of (tables self.now) instance) (type_of (tables self.now) of) }
+        ensures { let k = tables self.now in type_of k result ≡ type_by k (of_instance instance) (type_of k of) }
     {
         match of {
             AdaType::Scalar(scalar) => AdaType::Scalar(self.scalar_seen(scalar, instance)),
@@ -147,7 +148,7 @@ impl Types {
 
     /// A subtype as it is seen through an instance (RM 12.3).
     pub fn subtype_seen(&self, subtype: Subtype, instance: u32) -> Subtype
-        ensures { subtype_of (tables self.now) result ≡ subtype_seen instance (actuals_of (tables self.now) instance) (subtype_of (tables self.now) subtype) }
+        ensures { let k = tables self.now in subtype_of k result ≡ subtype_by k (of_instance instance) (subtype_of k subtype) }
     {
         Subtype {
             of: self.type_seen(subtype.of, instance),
@@ -157,7 +158,7 @@ impl Types {
 
     /// A subtype of a definition as its type is seen.
     fn part_seen(&self, subtype: Subtype, seen: Owner) -> Subtype
-        ensures { subtype_of (tables self.now) result ≡ subtype_by (tables self.now) (owner_of seen) (subtype_of (tables self.now) subtype) }
+        ensures { let k = tables self.now in subtype_of k result ≡ subtype_by k (owner_of seen) (subtype_of k subtype) }
     {
         match seen {
             Owner::Here => subtype,
@@ -171,7 +172,7 @@ impl Types {
         parts: Option<(Subtype, Subtype)>,
         seen: Owner,
     ) -> Option<(Subtype, Subtype)>
-        ensures { let k = tables self.now in option_map (parts_of k) result ≡ option_map (seen_parts k (owner_of seen)) (option_map (parts_of k) parts) }
+        ensures { AreSeenParts (tables self.now) (owner_of seen) parts result }
     {
         match parts {
             Some((index, component)) => Some((
@@ -188,7 +189,7 @@ impl Types {
         component: Option<(usize, Subtype)>,
         seen: Owner,
     ) -> Option<(usize, Subtype)>
-        ensures { let k = tables self.now in option_map (field_of k) result ≡ option_map (seen_field k (owner_of seen)) (option_map (field_of k) component) }
+        ensures { IsSeenField (tables self.now) (owner_of seen) component result }
     {
         match component {
             Some((place, subtype)) => Some((place, self.part_seen(subtype, seen))),
