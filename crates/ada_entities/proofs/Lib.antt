@@ -3,3 +3,4 @@ pub mod Agreement
 pub mod TableLaws
 pub mod LookupLaws
 pub mod RoutineLaws
+pub mod RegionLaws

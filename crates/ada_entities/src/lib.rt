@@ -9,10 +9,14 @@
 
 mod composite;
 mod entity;
+mod fault;
+mod region;
 mod seen;
 mod table;
 mod types;
 
 pub use composite::{Component, Definition, Types};
 pub use entity::{Access, Completion, ConstantValue, DeclaredObject, Entity, RoutineName, Values};
+pub use fault::{Refusal, refused};
+pub use region::{Region, key};
 pub use types::{AdaType, Composite, FormalKind, Identity, ScalarType, Subtype, TypeName};
