@@ -4,3 +4,4 @@ pub mod TableLaws
 pub mod LookupLaws
 pub mod RoutineLaws
 pub mod RegionLaws
+pub mod NestingLaws

@@ -1,5 +1,6 @@
 -- Changes of a region, whatever the numbers in its entities lead to.
-use Rattle.std.specs.Prelude.{◌≡◌, ℕ, List, [], ◌∷◌, Result, Ok, if◌then◌else◌}
+use Rattle.std.specs.Prelude.{◌≡◌, ℕ, List, [], ◌∷◌, map, Option, Result, Ok, if◌then◌else◌}
+use Rattle.std.specs.Option.{option_or}
 use Rattle.cov_base.specs.declared.failure.Failure.{Failure}
 use Rattle.cov_base.specs.declared.position.Pos.{Pos}
 use Rattle.ada_syntax.specs.declared.name.Identifier.{Identifier}
@@ -29,3 +30,21 @@ Redefines old name x new = (k : Tables) → region_of k new ≡ rules.redefined 
 abbrev pub with_entry : List ℕ → Entity → List (List ℕ × Entity) → List (List ℕ × Entity)
 with_entry name x [] = (name, x) ∷ []
 with_entry name x (e ∷ es) = if same_name name e.0 then (e.0, x) ∷ es else e ∷ with_entry name x es
+
+-- regions that stand one in the other, the innermost first
+abbrev pub regions_of : Tables → List (List (List ℕ × Entity)) → List rules.Region
+regions_of k rs = map (region_of k) rs
+
+-- the innermost, and those round it
+abbrev pub innermost : List (List (List ℕ × Entity)) → List (List ℕ × Entity)
+innermost [] = []
+innermost (r ∷ rs) = r
+
+abbrev pub enclosing : List (List (List ℕ × Entity)) → List (List (List ℕ × Entity))
+enclosing [] = []
+enclosing (r ∷ rs) = rs
+
+-- what a name denotes behind regions that are looked at from the outermost, where it denoted this before
+abbrev pub found_behind : Tables → List ℕ → Option rules.Entity → List (List (List ℕ × Entity)) → Option rules.Entity
+found_behind k name o [] = o
+found_behind k name o (r ∷ rs) = found_behind k name (option_or (rules.entity_of name (region_of k r)) o) rs
