@@ -5,3 +5,4 @@ pub mod LookupLaws
 pub mod RoutineLaws
 pub mod RegionLaws
 pub mod NestingLaws
+pub mod StandardLaws

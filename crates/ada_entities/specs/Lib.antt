@@ -6,3 +6,4 @@ pub mod SeenEntities
 pub mod Answers
 pub mod RegionView
 pub mod RegionCode
+pub mod StandardCode

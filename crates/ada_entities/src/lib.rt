@@ -13,6 +13,7 @@ mod fault;
 mod region;
 mod regions;
 mod seen;
+mod standard;
 mod table;
 mod types;
 
@@ -21,4 +22,5 @@ pub use entity::{Access, Completion, ConstantValue, DeclaredObject, Entity, Rout
 pub use fault::{Refusal, refused};
 pub use region::{Region, key};
 pub use regions::Regions;
+pub use standard::{predefined, test_io};
 pub use types::{AdaType, Composite, FormalKind, Identity, ScalarType, Subtype, TypeName};
