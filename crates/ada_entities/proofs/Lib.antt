@@ -6,3 +6,4 @@ pub mod RoutineLaws
 pub mod RegionLaws
 pub mod NestingLaws
 pub mod StandardLaws
+pub mod UnitLaws

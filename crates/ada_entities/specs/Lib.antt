@@ -7,3 +7,4 @@ pub mod Answers
 pub mod RegionView
 pub mod RegionCode
 pub mod StandardCode
+pub mod UnitViews

@@ -16,6 +16,7 @@ mod seen;
 mod standard;
 mod table;
 mod types;
+mod units;
 
 pub use composite::{Component, Definition, Types};
 pub use entity::{Access, Completion, ConstantValue, DeclaredObject, Entity, RoutineName, Values};
@@ -24,3 +25,4 @@ pub use region::{Region, key};
 pub use regions::Regions;
 pub use standard::{predefined, test_io};
 pub use types::{AdaType, Composite, FormalKind, Identity, ScalarType, Subtype, TypeName};
+pub use units::{Interface, Units, shown};
