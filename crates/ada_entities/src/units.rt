@@ -1,7 +1,8 @@
 //! What other units see of a unit (Ada RM 2012, 4.1.3, 7.1, 12.3).
 
-ghost use Rattle.std.specs.Prelude.{◌≡◌, option_map};
+ghost use Rattle.std.specs.Prelude.{◌≡◌, option_map, replicate, set, IfOk};
 ghost use Rattle.ada_rules.specs.Entities as rules;
+ghost use Rattle.ada_entities.specs.declared.units.Interface.TheVariants as interface;
 ghost use Rattle.ada_entities.specs.TypeTable.{tables};
 ghost use Rattle.ada_entities.specs.EntityViews.{Tables, entity_of};
 ghost use Rattle.ada_entities.specs.UnitViews.{IsPart, IsPartIn, IsPartOfText, IsPartThrough, IsPartOfGeneric, IsPartOfInstance, IsSeenPart, IsEntityOf, IsUnit};
@@ -9,6 +10,7 @@ ghost use Rattle.ada_entities.specs.UnitViews.{IsPart, IsPartIn, IsPartOfText, I
 use crate::composite::Types;
 use crate::entity::{Entity, RoutineName};
 use crate::region::Region;
+use std::alloc::{AllocError, Global};
 use std::marker::Model;
 
 /// What other units see of a unit.
@@ -106,6 +108,26 @@ fn entity_of(unit: u32, interface: &Interface) -> Entity
 }
 
 impl Units {
+    /// So many units, at none of which anything was looked at yet.
+    pub fn new(alloc: Global, count: usize) -> Result<Units, AllocError>
+        ensures { IfOk result (λ u. u ≡ replicate count interface.Unknown) }
+    {
+        let mut interfaces = Vec::new(alloc);
+        for _ in 0..count {
+            interfaces.push(Interface::Unknown)?;
+        }
+        Ok(Units { interfaces })
+    }
+
+    /// Lets other units see this of a unit; a number without a unit has no effect.
+    pub fn set(&mut self, unit: u32, interface: Interface)
+        ensures { self.new ≡ set self.old unit interface }
+    {
+        if let Some(seen) = self.interfaces.get_mut(unit as usize) {
+            *seen = interface;
+        }
+    }
+
     /// What a unit of the library is named as by others: a subprogram, or a package, a generic or an
     /// instance.
     pub fn entity(&self, unit: u32) -> Entity
