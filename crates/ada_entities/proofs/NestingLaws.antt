@@ -40,3 +40,7 @@ found_from_nothing k name rs = found_from_outside k name rs None ∙ sym (or_non
 pub or_seen : (k : Tables) (o p : Option Entity) → option_map (entity_of k) (option_or o p) ≡ option_or (option_map (entity_of k) o) (option_map (entity_of k) p)
 or_seen k None p = refl
 or_seen k (Some x) p = refl
+
+-- a name that no region declares is looked up in the predefined ones
+pub found_or : (name : List ℕ) (rs : List rules.Region) (r : rules.Region) → option_or (found name rs) (rules.entity_of name r) ≡ found name (rs ++ r ∷ [])
+found_or name rs r = ap (λ o. option_or (found name rs) o) (or_none (rules.entity_of name r)) ∙ sym (found_append name rs (r ∷ []))

@@ -8,3 +8,4 @@ pub mod RegionView
 pub mod RegionCode
 pub mod StandardCode
 pub mod UnitViews
+pub mod RoutineViews

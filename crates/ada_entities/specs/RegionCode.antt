@@ -1,5 +1,5 @@
 -- Changes of a region, whatever the numbers in its entities lead to.
-use Rattle.std.specs.Prelude.{◌≡◌, ℕ, List, [], ◌∷◌, map, Option, Result, Ok, if◌then◌else◌}
+use Rattle.std.specs.Prelude.{◌≡◌, ℕ, List, [], ◌∷◌, ◌++◌, map, Option, Result, Ok, if◌then◌else◌}
 use Rattle.std.specs.Option.{option_or}
 use Rattle.cov_base.specs.declared.failure.Failure.{Failure}
 use Rattle.cov_base.specs.declared.position.Pos.{Pos}
@@ -34,6 +34,10 @@ with_entry name x (e ∷ es) = if same_name name e.0 then (e.0, x) ∷ es else e
 -- regions that stand one in the other, the innermost first
 abbrev pub regions_of : Tables → List (List (List ℕ × Entity)) → List rules.Region
 regions_of k rs = map (region_of k) rs
+
+-- and inside the predefined names
+abbrev pub in_standard : Tables → List (List (List ℕ × Entity)) → List rules.Region
+in_standard k rs = regions_of k rs ++ rules.predefined_region ∷ []
 
 -- the innermost, and those round it
 abbrev pub innermost : List (List (List ℕ × Entity)) → List (List ℕ × Entity)

@@ -12,6 +12,7 @@ mod entity;
 mod fault;
 mod region;
 mod regions;
+mod routines;
 mod seen;
 mod standard;
 mod table;
@@ -23,6 +24,7 @@ pub use entity::{Access, Completion, ConstantValue, DeclaredObject, Entity, Rout
 pub use fault::{Refusal, refused};
 pub use region::{Region, key};
 pub use regions::Regions;
+pub use routines::{Parameter, ResultMark, Routine, Routines};
 pub use standard::{predefined, test_io};
 pub use types::{AdaType, Composite, FormalKind, Identity, ScalarType, Subtype, TypeName};
 pub use units::{Interface, Units, shown};

@@ -3,11 +3,13 @@
 ghost use Rattle.std.specs.Prelude.{◌≡◌, [], ◌∷◌, option_map, IfErr, OnOk};
 ghost use Rattle.ada_rules.specs.Entities as rules;
 ghost use Rattle.ada_entities.specs.EntityViews.{Tables, entity_of};
-ghost use Rattle.ada_entities.specs.RegionCode.{Declares, RefusesName, Redefines, regions_of, innermost, enclosing};
+ghost use Rattle.ada_entities.specs.RegionCode.{Declares, RefusesName, Redefines, regions_of, in_standard, innermost, enclosing};
 
 use crate::entity::Entity;
 use crate::fault::Refusal;
 use crate::region::Region;
+use crate::standard::predefined;
+use crate::units::shown;
 use ada_syntax::Identifier;
 use cov_base::Failure;
 use std::alloc::{AllocError, Global};
@@ -68,6 +70,13 @@ impl Regions {
             denoted = region.find(name).or(denoted);
         }
         denoted
+    }
+
+    /// What a name, in lower case, denotes where these regions stand inside the predefined one.
+    pub fn visible(&self, name: &[u8]) -> Option<Entity>
+        ensures { (k : Tables) → option_map (entity_of k) result ≡ rules.visible name.now (in_standard k self.now) }
+    {
+        shown(self.find(name).or(predefined(name)))
     }
 
     /// Declares a name in the innermost region. Where it is declared there already, the declaration is

@@ -18,7 +18,7 @@ use cov_base::Seq;
 use std::alloc::{AllocError, Global};
 
 /// How many there are, as a number. A table with more than 2^32 - 1 has no memory.
-fn numbered(count: usize) -> Result<u32, AllocError>
+pub(crate) fn numbered(count: usize) -> Result<u32, AllocError>
     ensures { IfOk result (λ n. n ≡ count) }
 {
     match u32::try_from(count) {
