@@ -30,3 +30,5 @@ pub mod Examples
 pub mod Bodies
 pub mod Stages
 pub mod Programs
+pub mod AllFuels
+pub mod Kernels
