@@ -1,28 +1,38 @@
 -- Kernels of whole programs: their bodies are copies of the program's texts.
-use Rattle.std.proofs.Common.{◌≡◌, ℕ, zero, suc, ◌+◌, ◌<◌, inl, inr, Bool, List, [], ◌∷◌, ◌++◌, map, length, sum_by, Some, option_map, slice_get, refl, sym, ap, subst, ◌∙◌, arith}
+use Rattle.std.proofs.Common.{◌≡◌, ℕ, zero, suc, ◌+◌, ◌*◌, ◌<◌, ◌≤◌, inl, inr, Bool, false, List, [], ◌∷◌, ◌++◌, map, length, sum_by, Some, option_map, slice_get, refl, sym, ap, subst, ◌∙◌, arith}
 use Rattle.std.specs.Prelude.{unwrap_or}
 use Rattle.std.proofs.lemmas.List.{length-map}
 use Rattle.std.proofs.lemmas.List.Sums.{sum_by-cons}
 use Rattle.cov_base.specs.declared.position.DecId.{DecId}
 use Rattle.cov_base.specs.Graph.{Edges}
 use Rattle.cov_base.specs.Lists.{Everywhere, Somewhere}
-use Rattle.ada_meaning.specs.Bodies.{Body, IsBody}
+use Rattle.ada_meaning.specs.Bodies.{Body, bodies_of, IsBody}
+use Rattle.ada_meaning.proofs.BodyLaws.{bodies_law}
 use Rattle.ada_meaning.specs.Collected.{block_labels, in_block, decisions_of}
+use Rattle.ada_meaning.specs.Execution.{library_place}
 use Rattle.ada_meaning.specs.Program.{out_mode, Subprogram, body_target, Program}
-use Rattle.ada_meaning.specs.Resolved.{ResolvedParameter, parameters_of_subprogram, parameter_in, parameters_of}
+use Rattle.ada_meaning.specs.Resolved.{ResolvedParameter, parameters_of_subprogram, parameter_in, parameters_of, owner_in}
 use Rattle.ada_meaning.specs.Tree as tree
 use Rattle.kernel_ir.specs.declared.kernel.Body.{Body as KernelBody}
 use Rattle.kernel_ir.specs.declared.kernel.Kernel.{Kernel}
+use Rattle.kernel_ir.specs.Layouts.{content_in}
+use Rattle.kernel_ir.specs.Limits.{IsWellFormed, IsWithin, kernel_instructions, most_arguments, widest}
+use Rattle.kernel_ir.specs.Obligations.{Condition, rows, conditions}
 use Rattle.kernel_ir.specs.World.{data_word}
-use Rattle.statement_code.specs.Bodies.{IsParameterOf}
-use Rattle.statement_code.specs.Copies.{Copy, rows_in, all_conditions_in, nodes_in}
-use Rattle.statement_code.specs.Fragments.{AreOwn, row_in, conditions_in}
-use Rattle.statement_code.specs.Kernels.{Scheme, text_at, nodes_at, BodyBy, HasRoom, IsWhole, rows_of, conditions_of}
-use Rattle.statement_code.specs.Numbers.{ShapeFits, HomeFits, BodiesFit, ParametersFit, ParameterFits}
-use Rattle.statement_code.specs.Programs.{Plan, IsLaid, AreLaid, IsLocal, AreParametersLaid, IsHome, site_of, IsPlanned}
-use Rattle.statement_code.specs.Sizes.{subprogram_nodes}
-use Rattle.statement_code.specs.Statements.{slot_of, IsInFrame}
+use Rattle.statement_code.specs.Bodies.{IsParameterOf, body_code}
+use Rattle.statement_code.specs.Copies.{Copy, IsCopy, rows_in, all_conditions_in, nodes_in, layouts_nodes}
+use Rattle.statement_code.specs.Fragments.{AreOwn, Fragment, row_in, conditions_in}
+use Rattle.statement_code.specs.Kernels.{Scheme, text_at, nodes_at, BodyBy, HasRoom, IsWhole, rows_of, conditions_of, expanded_nodes}
+use Rattle.statement_code.specs.Names.{names_in}
+use Rattle.statement_code.specs.Numbers.{ShapeFits, HomeFits, BodiesFit, ObjectsFit, ParametersFit, ParameterFits, BlockFits}
+use Rattle.statement_code.specs.Objects.{Standing}
+use Rattle.statement_code.specs.Programs.{Plan, IsLaid, AreLaid, IsLocal, AreParametersLaid, IsHome, IsSeen, site_of, IsPlanned}
+use Rattle.statement_code.specs.Sizes.{block_nodes, subprogram_nodes, node_instructions}
+use Rattle.statement_code.specs.Statements.{slot_of, IsInFrame, block_code}
 use Rattle.statement_code.specs.Values.{Home, in_frame, in_library, IsComposite}
+use Rattle.statement_code.proofs.Blocks.{block_like}
+use Rattle.statement_code.proofs.Copies as copies
+use Rattle.statement_code.proofs.Copies.{body_like}
 use Rattle.statement_code.proofs.Fragments.{first_own, second_own}
 
 -- what is found in a list is within it, and is one of its items
@@ -182,3 +192,125 @@ module _ (p : Program) (K : Kernel) (s : Scheme) (whole : IsWhole p K s) where
   bodies_fit : (own : Plan) → BodiesFit p K (site_of p K s.number s.library Bodies own) Bodies
   bodies_fit own f j m body =
       (within_list K.bodies (s.number j m) _ (whole.is_kernel.made.bodies f j m body).is_body, shaped j m body.0)
+
+  -- the visible objects of a body
+  outside_fits : (width : ℕ) (own : Plan) (o : tree.Object) (os : List Standing) → Everywhere (λ x. ShapeFits x.shape × (x.address < data_word + length K.library)) os
+      → (q : Standing → Type 0) → Somewhere (λ x. q x × ((x.shape ≡ own.shape_of o) × IsHome (own.home_of o) x.address)) os
+      → ShapeFits (own.shape_of o) × HomeFits width K (own.home_of o)
+  outside_fits width own o [] all q there = absurd there
+  outside_fits width own o (x ∷ os) all q (inl is) =
+      (subst ShapeFits is.1.0 all.0.0, library_fits width K (own.home_of o) x.address is.1.1 all.0.1)
+  outside_fits width own o (x ∷ os) all q (inr there) = outside_fits width own o os all.1 q there
+
+  module _ (j m : ℕ) (is : IsBody p (at j m)) (graph : DecId → List Edges) where
+    abbrev by_plan : Plan
+    by_plan = s.plan_of j m
+
+    abbrev own : IsPlanned p K s.number s.library Bodies by_plan.gives j m by_plan
+    own = planned j m is
+
+    abbrev given : List ResolvedParameter
+    given = parameters_of p (body_target j m)
+
+    objects_fit : ObjectsFit by_plan.width K by_plan.shape_of by_plan.home_of (IsSeen s.library by_plan j given)
+    objects_fit (tree.local_object d) (inl there) = absurd there
+    objects_fit (tree.library_object o d) (inl there) =
+        outside_fits by_plan.width by_plan (tree.library_object o d) s.library whole.library (λ x. x.place ≡ library_place (owner_in j o) d) there
+    objects_fit o (inr there) = parameter_fits j m is (length given) 0 given o own.parameters there
+
+    text_fits : BlockFits p j K by_plan.shape_of by_plan.layout_of own.declared.body
+    text_fits = subst (BlockFits p j K by_plan.shape_of by_plan.layout_of) (text_is p.subprograms m own.declared own.is_declared) (room j m is).text
+
+    -- its code is a fragment of its text's
+    block_is : Fragment K (by_plan.width + most_arguments) graph j false (block_labels own.declared.body) (in_block own.declared.body) 0 (node_instructions * block_nodes own.declared.body)
+        (block_code (names_in p j) by_plan.shape_of by_plan.home_of (site_of p K s.number s.library Bodies by_plan) by_plan.layout_of by_plan.base 0 own.declared.body)
+    block_is =
+        block_like p j by_plan.shape_of by_plan.home_of (site_of p K s.number s.library Bodies by_plan) Bodies K graph (bodies_fit by_plan) by_plan.layout_of (content_in K.layouts) (IsLocal by_plan)
+        K.exceptions by_plan.gives (local_fits j m is) (let some = whole.is_kernel.made.predefined in omega (arith, some)) (omega arith) own.declared.body (IsSeen s.library by_plan j given)
+        by_plan.base 0 false false own.plain objects_fit text_fits (λ e. cc e) own.ends
+
+    abbrev made_body : KernelBody
+    made_body = record {
+      code = body_code (names_in p j) by_plan.shape_of by_plan.home_of (site_of p K s.number s.library Bodies by_plan) by_plan.layout_of by_plan.base by_plan.gives given own.declared.body;
+      width = by_plan.width;
+    }
+
+    body_is : IsCopy K graph (copy_in p (at j m) made_body)
+    body_is =
+        let nodes : suc (length given + block_nodes own.declared.body) ≡ nodes_at p.subprograms m =
+        ap (λ n. suc (n + block_nodes own.declared.body)) (parameters_many p j m own.declared own.is_declared) ∙ sym (nodes_are p.subprograms m own.declared own.is_declared) in
+        let few = own.few in
+        let small = own.small in
+        subst (λ n. Fragment K (by_plan.width + most_arguments) graph j false (block_labels (text_at p.subprograms m)) (in_block (text_at p.subprograms m)) 8 (node_instructions * n) made_body.code) nodes
+        (subst (λ t. Fragment K (by_plan.width + most_arguments) graph j false (block_labels t) (in_block t) 8 (node_instructions * suc (length given + block_nodes own.declared.body)) made_body.code)
+        (sym (text_is p.subprograms m own.declared own.is_declared))
+        (body_like K by_plan.width graph j by_plan.home_of by_plan.layout_of (block_nodes own.declared.body) given by_plan.gives by_plan.base (omega (arith, small)) (omega (arith, few, small))
+        (parameters_fit j m is (length given) 0 given own.parameters (room j m is).filled) whole.is_kernel.made.predefined block_is))
+
+  -- a body of the kernel is that of the program with its number
+  found_is : (graph : DecId → List Edges) (n : ℕ) (b : Body) (k : KernelBody) (is : IsBody p b) → slice_get (bodies_of p) n ≡ Some b → slice_get K.bodies n ≡ Some k
+      → made_body b.instance b.subprogram is graph ≡ k
+  found_is graph n b k is there here =
+      let own = planned b.instance b.subprogram is in
+      same_found K.bodies n (made_body b.instance b.subprogram is graph) k
+      (subst (λ i. slice_get K.bodies i ≡ Some (made_body b.instance b.subprogram is graph)) (whole.numbered n b there) own.is_body) here
+
+  listed : (n : ℕ) (b : Body) → slice_get (bodies_of p) n ≡ Some b → IsBody p b
+  listed n b there = (bodies_law p b).0 (found_there (bodies_of p) n b there)
+
+  abbrev all : List Copy
+  all = copies_of p (bodies_of p) K.bodies
+
+  all_are : (graph : DecId → List Edges) → Everywhere (IsCopy K graph) all
+  all_are graph = all_copies p (IsCopy K graph) (bodies_of p) K.bodies (λ n b k there here.
+      let is = listed n b there in
+      subst (λ c. IsCopy K graph (copy_in p b c)) (found_is graph n b k is there here) (body_is b.instance b.subprogram is graph))
+
+  all_own : (graph : DecId → List Edges) → AreOwn graph (decisions_of p.subprograms) → Everywhere (λ c. AreOwn graph c.decisions) all
+  all_own graph own = all_copies p (λ c. AreOwn graph c.decisions) (bodies_of p) K.bodies (λ n b k there here. text_own graph p.subprograms b.subprogram own)
+
+  all_narrow : Everywhere (λ c. (1 ≤ c.body.width) × (c.body.width + most_arguments ≤ widest)) all
+  all_narrow = all_copies p (λ c. (1 ≤ c.body.width) × (c.body.width + most_arguments ≤ widest)) (bodies_of p) K.bodies (λ n b k there here.
+      let is = listed n b there in
+      let own = planned b.instance b.subprogram is in
+      let small = own.small in
+      subst (λ (c : KernelBody). (1 ≤ c.width) × (c.width + most_arguments ≤ widest)) (found_is (λ d. []) n b k is there here) (omega (arith, small), own.narrow))
+
+  kernel_copies : K.bodies ≡ map (λ c. c.body) all
+  kernel_copies = copies_are p (bodies_of p) K.bodies whole.many
+
+  main_there : K.main < length K.bodies
+  main_there =
+      let own = planned 0 p.main whole.is_kernel.main_body.0 in
+      subst (λ n. n < length K.bodies) (sym whole.is_kernel.main_is) (within_list K.bodies (s.number 0 p.main) _ own.is_body)
+
+-- What it marks, that it is well-formed, and that it is small.
+pub rows_law : (p : Program) (K : Kernel) (s : Scheme) → IsWhole p K s → rows K ≡ rows_of p (bodies_of p)
+rows_law p K s whole =
+    copies.rows_law K (λ d. []) (all p K s whole) (kernel_copies p K s whole) (all_are p K s whole (λ d. [])) ∙ copies_marked p (bodies_of p) K.bodies whole.many
+
+pub conditions_law : (p : Program) (K : Kernel) (s : Scheme) → IsWhole p K s → (weight : Condition → ℕ)
+    → sum_by weight (conditions K) ≡ sum_by weight (conditions_of p (bodies_of p))
+conditions_law p K s whole weight =
+    copies.conditions_law K (λ d. []) (all p K s whole) (kernel_copies p K s whole) (all_are p K s whole (λ d. [])) weight
+    ∙ ap (sum_by weight) (copies_decided p (bodies_of p) K.bodies whole.many)
+
+pub well_formed_law : (p : Program) (K : Kernel) (s : Scheme) → IsWhole p K s → (graph : DecId → List Edges) → AreOwn graph (decisions_of p.subprograms) → IsWellFormed graph K
+well_formed_law p K s whole graph own =
+    copies.well_formed_law K graph (all p K s whole) (kernel_copies p K s whole) (all_are p K s whole graph) (all_own p K s whole graph own) (main_there p K s whole) whole.layouts whole.library_words
+    whole.is_kernel.made.predefined whole.exceptions
+
+pub short_law : (p : Program) (K : Kernel) (s : Scheme) → IsWhole p K s → kernel_instructions K ≤ node_instructions * (expanded_nodes p + layouts_nodes K.layouts) + 16
+short_law p K s whole =
+    subst (λ n. kernel_instructions K ≤ node_instructions * (n + layouts_nodes K.layouts) + 16) (copies_counted p (bodies_of p) K.bodies whole.many)
+    (copies.short_law K (λ d. []) (all p K s whole) (kernel_copies p K s whole) (all_are p K s whole (λ d. [])))
+
+pub bytes_law : (p : Program) (K : Kernel) (s : Scheme) → IsWhole p K s → (nodes : ℕ) → expanded_nodes p + layouts_nodes K.layouts ≤ nodes → 4 * kernel_instructions K ≤ 240 * nodes + 4096
+bytes_law p K s whole nodes few =
+    copies.bytes_law K (λ d. []) (all p K s whole) (kernel_copies p K s whole) (all_are p K s whole (λ d. [])) nodes
+    (subst (λ n. n + layouts_nodes K.layouts ≤ nodes) (sym (copies_counted p (bodies_of p) K.bodies whole.many)) few)
+
+pub within_law : (p : Program) (K : Kernel) (s : Scheme) → IsWhole p K s → expanded_nodes p + layouts_nodes K.layouts ≤ 4096 → IsWithin K
+within_law p K s whole few =
+    copies.within_law K (λ d. []) (all p K s whole) (kernel_copies p K s whole) (all_are p K s whole (λ d. []))
+    (subst (λ n. n + layouts_nodes K.layouts ≤ 4096) (sym (copies_counted p (bodies_of p) K.bodies whole.many)) few) (all_narrow p K s whole) whole.library_few whole.contents

@@ -32,3 +32,4 @@ pub mod Stages
 pub mod Programs
 pub mod AllFuels
 pub mod Kernels
+pub mod Own

@@ -1,12 +1,25 @@
 //! Laws of the code of programs. The functions here do nothing: each carries laws as its contract.
 
-ghost use Rattle.std.specs.Prelude.{◌≢◌, ℕ, ℤ, List};
+ghost use Rattle.std.specs.Prelude.{◌≡◌, ◌≢◌, ◌+◌, ◌*◌, ◌≤◌, ℕ, ℤ, List, sum_by};
+ghost use Rattle.ada_meaning.specs.Bodies.{bodies_of};
+ghost use Rattle.ada_meaning.specs.Collected.{decisions_of};
 ghost use Rattle.ada_meaning.specs.Execution as source;
+ghost use Rattle.ada_meaning.specs.Obligations.{IsNumbered};
 ghost use Rattle.ada_meaning.specs.Program.{Program};
+ghost use Rattle.ada_meaning.specs.Tree.{shape_of, conditions_of as conditions_in};
+ghost use Rattle.cov_base.specs.declared.position.DecId.{DecId};
+ghost use Rattle.cov_base.specs.Graph.{Edges};
+ghost use Rattle.cov_base.specs.Graph as logic;
+ghost use Rattle.cov_base.specs.Lists.{Everywhere};
 ghost use Rattle.kernel_ir.specs.declared.kernel.Kernel.{Kernel};
+ghost use Rattle.kernel_ir.specs.Limits.{IsWellFormed, IsWithin, kernel_instructions};
 ghost use Rattle.kernel_ir.specs.Meaning as code;
+ghost use Rattle.kernel_ir.specs.Obligations.{Condition, rows, conditions};
 ghost use Rattle.statement_code.specs.AllFuels.{Follows};
-ghost use Rattle.statement_code.specs.Kernels.{Scheme, IsKernelBy};
+ghost use Rattle.statement_code.specs.Copies.{layouts_nodes};
+ghost use Rattle.statement_code.specs.Frames.{rate};
+ghost use Rattle.statement_code.specs.Kernels.{Scheme, IsKernelBy, IsWhole, rows_of, conditions_of, expanded_nodes};
+ghost use Rattle.statement_code.specs.Own.{MarksOnce};
 ghost use Rattle.statement_code.specs.Programs.{Same};
 
 /// Under each fuel but 512, which is the greatest depth of calls, a program and a kernel that is made
@@ -24,4 +37,41 @@ pub fn kernels_do_what_their_programs_do()
 #[tactic(auto, using(crate::proofs::AllFuels::follows_law))]
 pub fn kernels_end_where_their_programs_end()
     ensures { (p : Program) (K : Kernel) (s : Scheme) → IsKernelBy p K s → (input : List ℤ) → Follows p K input }
+{}
+
+/// The kernel of a program is well-formed, where decisions have the graphs of their expressions, and at
+/// most 32 conditions. Its rows are the statement obligations of its bodies, in order, each in its
+/// instance; its conditions are those of their decisions, each as often as it is one of theirs: in the
+/// code those of a nested decision stand before the condition that holds it. So each obligation has one
+/// row in each instance in which it stands, and each condition one node, and there are no others.
+pub fn kernels_hold_the_obligations()
+    ensures well_formed { (p : Program) (K : Kernel) (s : Scheme) → IsWhole p K s → IsNumbered p → (graph : DecId → List Edges)
+        → Everywhere (λ h. graph (record { 0 = h.label.number }) ≡ logic.graph (shape_of h.test)) (decisions_of p.subprograms)
+        → Everywhere (λ h. conditions_in h.test ≤ 32) (decisions_of p.subprograms)
+        → IsWellFormed graph K }
+    ensures rows { (p : Program) (K : Kernel) (s : Scheme) → IsWhole p K s → rows K ≡ rows_of p (bodies_of p) }
+    ensures conditions { (p : Program) (K : Kernel) (s : Scheme) → IsWhole p K s → (weight : Condition → ℕ)
+        → sum_by weight (conditions K) ≡ sum_by weight (conditions_of p (bodies_of p)) }
+    ensures once { (p : Program) (K : Kernel) (s : Scheme) → IsWhole p K s → IsNumbered p
+        → MarksOnce p (rows K) (conditions K) }
+{}
+
+/// It takes at most 60 instructions for each node of the bodies, where those of a generic count for each
+/// of its instances, and of the layouts, and 16 beside. So where these have so many nodes, it takes at
+/// most 240 bytes for each, and 4,096 beside; and with no more than 4,096 nodes it is small enough for
+/// machine code.
+pub fn kernels_are_small()
+    ensures instructions { (p : Program) (K : Kernel) (s : Scheme) → IsWhole p K s
+        → kernel_instructions K ≤ 60 * (expanded_nodes p + layouts_nodes K.layouts) + 16 }
+    ensures bytes { (p : Program) (K : Kernel) (s : Scheme) → IsWhole p K s
+        → (nodes : ℕ) → expanded_nodes p + layouts_nodes K.layouts ≤ nodes → 4 * kernel_instructions K ≤ 240 * nodes + 4096 }
+    ensures within { (p : Program) (K : Kernel) (s : Scheme) → IsWhole p K s
+        → expanded_nodes p + layouts_nodes K.layouts ≤ 4096 → IsWithin K }
+{}
+
+/// Where machine code takes at most 32 instructions for each unit of a kernel's cost, and 8 beside, and
+/// the kernel costs no more than ten times what the program does, it takes at most 500 for each unit of
+/// the program's cost, and 5,000 beside.
+pub fn costs_are_covered()
+    ensures { (source code : ℕ) → code ≤ rate * source → 32 * code + 8 ≤ 500 * source + 5000 }
 {}

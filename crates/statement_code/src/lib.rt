@@ -15,7 +15,7 @@
 //! | `Bodies`, `Programs` | the code of bodies; how a body is laid out, and when a kernel is made of a program |
 //! | `AllFuels` | what a kernel does on an input, under all fuels together |
 //! | `Fragments`, `Copies` | what code marks, names and leaves, and how long it is; a kernel of bodies |
-//! | `Kernels` | the kernel of a whole program, by a scheme |
+//! | `Kernels`, `Own` | the kernel of a whole program, by a scheme; which obligations it marks, and how often |
 //!
 //! The law of statements is `block_does` in `proofs/Statements.antt`: where the cells of objects lie apart from what is kept
 //! and from the slots that are worked in, and calls do what `Calls` says, a block and its code both go on,
@@ -25,8 +25,9 @@
 //! What code is like is one law, `block_like` in `proofs/Blocks.antt`: the code of a block marks its statement
 //! obligations in the order of the text, and each condition of its decisions once; it names slots, bodies,
 //! layouts and exceptions that are there, and numbers of 32 bits; it leaves no loop but its own; and it has at
-//! most 60 instructions for each node. By `proofs/Copies.antt` a kernel of such bodies is well-formed, and is
-//! small enough for machine code where its bodies and layouts have no more than 4,096 nodes.
+//! most 60 instructions for each node. So the kernel of a program is well-formed, marks each obligation once in
+//! each instance in which it stands ([`kernels_hold_the_obligations`]), and is small enough for machine code where
+//! its bodies and layouts have no more than 4,096 nodes ([`kernels_are_small`]).
 //!
 //! Bodies do what `Calls` says, as `calls_do` in `proofs/Programs.antt` shows by induction on the fuel. So a kernel
 //! that is made of a program does what the program does, on every input and under every fuel but one
@@ -39,4 +40,7 @@
 
 mod laws;
 
-pub use laws::{kernels_do_what_their_programs_do, kernels_end_where_their_programs_end};
+pub use laws::{
+    costs_are_covered, kernels_are_small, kernels_do_what_their_programs_do,
+    kernels_end_where_their_programs_end, kernels_hold_the_obligations,
+};
