@@ -45,8 +45,10 @@ pub fn kernels_end_where_their_programs_end()
 /// code those of a nested decision stand before the condition that holds it. So each obligation has one
 /// row in each instance in which it stands, and each condition one node, and there are no others.
 pub fn kernels_hold_the_obligations()
-    ensures well_formed { (p : Program) (K : Kernel) (s : Scheme) → IsWhole p K s → IsNumbered p → (graph : DecId → List Edges)
-        → Everywhere (λ h. graph (record { 0 = h.label.number }) ≡ logic.graph (shape_of h.test)) (decisions_of p.subprograms)
+    ensures well_formed { (p : Program) (K : Kernel) (s : Scheme) → IsWhole p K s → IsNumbered p
+        → (graph : DecId → List Edges)
+        → Everywhere (λ h. graph (record { 0 = h.label.number }) ≡ logic.graph (shape_of h.test))
+        (decisions_of p.subprograms)
         → Everywhere (λ h. conditions_in h.test ≤ 32) (decisions_of p.subprograms)
         → IsWellFormed graph K }
     ensures rows { (p : Program) (K : Kernel) (s : Scheme) → IsWhole p K s → rows K ≡ rows_of p (bodies_of p) }
@@ -64,7 +66,8 @@ pub fn kernels_are_small()
     ensures instructions { (p : Program) (K : Kernel) (s : Scheme) → IsWhole p K s
         → kernel_instructions K ≤ 60 * (expanded_nodes p + layouts_nodes K.layouts) + 16 }
     ensures bytes { (p : Program) (K : Kernel) (s : Scheme) → IsWhole p K s
-        → (nodes : ℕ) → expanded_nodes p + layouts_nodes K.layouts ≤ nodes → 4 * kernel_instructions K ≤ 240 * nodes + 4096 }
+        → (nodes : ℕ) → expanded_nodes p + layouts_nodes K.layouts ≤ nodes
+        → 4 * kernel_instructions K ≤ 240 * nodes + 4096 }
     ensures within { (p : Program) (K : Kernel) (s : Scheme) → IsWhole p K s
         → expanded_nodes p + layouts_nodes K.layouts ≤ 4096 → IsWithin K }
 {}

@@ -17,8 +17,8 @@
 //! | `Fragments`, `Copies` | what code marks, names and leaves, and how long it is; a kernel of bodies |
 //! | `Kernels`, `Own` | the kernel of a whole program, by a scheme; which obligations it marks, and how often |
 //!
-//! The law of statements is `block_does` in `proofs/Statements.antt`: where the cells of objects lie apart from what is kept
-//! and from the slots that are worked in, and calls do what `Calls` says, a block and its code both go on,
+//! The law of statements is `block_does` in `proofs/Statements.antt`: where the cells of objects lie apart from what
+//! is kept and from the slots that are worked in, and calls do what `Calls` says, a block and its code both go on,
 //! return, raise one exception or are cut off, with the same events and output, at most ten times the cost, and
 //! memory that holds what the store has. It holds under each fuel, which is the same on both sides.
 //!
