@@ -20,7 +20,7 @@ use Rattle.kernel_ir.specs.Limits.{IsWellFormed, IsWithin, kernel_instructions, 
 use Rattle.kernel_ir.specs.Obligations.{Condition, rows, conditions}
 use Rattle.kernel_ir.specs.World.{data_word}
 use Rattle.statement_code.specs.Bodies.{IsParameterOf, body_code}
-use Rattle.statement_code.specs.Copies.{Copy, IsCopy, rows_in, all_conditions_in, nodes_in, layouts_nodes}
+use Rattle.statement_code.specs.Copies.{Copy, IsCopy, rows_in, all_conditions_in, nodes_in, AreCovered}
 use Rattle.statement_code.specs.Fragments.{AreOwn, Fragment, row_in, conditions_in}
 use Rattle.statement_code.specs.Kernels.{Scheme, text_at, nodes_at, BodyBy, HasRoom, IsWhole, rows_of, conditions_of, expanded_nodes}
 use Rattle.statement_code.specs.Names.{names_in}
@@ -300,17 +300,19 @@ well_formed_law p K s whole graph own =
     copies.well_formed_law K graph (all p K s whole) (kernel_copies p K s whole) (all_are p K s whole graph) (all_own p K s whole graph own) (main_there p K s whole) whole.layouts whole.library_words
     whole.is_kernel.made.predefined whole.exceptions
 
-pub short_law : (p : Program) (K : Kernel) (s : Scheme) → IsWhole p K s → kernel_instructions K ≤ node_instructions * (expanded_nodes p + layouts_nodes K.layouts) + 16
-short_law p K s whole =
-    subst (λ n. kernel_instructions K ≤ node_instructions * (n + layouts_nodes K.layouts) + 16) (copies_counted p (bodies_of p) K.bodies whole.many)
-    (copies.short_law K (λ d. []) (all p K s whole) (kernel_copies p K s whole) (all_are p K s whole (λ d. [])))
+pub short_law : (p : Program) (K : Kernel) (s : Scheme) → IsWhole p K s → (nodes : ℕ) → AreCovered K.layouts nodes
+    → kernel_instructions K ≤ node_instructions * (expanded_nodes p + nodes) + 16
+short_law p K s whole nodes covered =
+    subst (λ n. kernel_instructions K ≤ node_instructions * (n + nodes) + 16) (copies_counted p (bodies_of p) K.bodies whole.many)
+    (copies.short_law K (λ d. []) (all p K s whole) (kernel_copies p K s whole) (all_are p K s whole (λ d. [])) nodes covered)
 
-pub bytes_law : (p : Program) (K : Kernel) (s : Scheme) → IsWhole p K s → (nodes : ℕ) → expanded_nodes p + layouts_nodes K.layouts ≤ nodes → 4 * kernel_instructions K ≤ 240 * nodes + 4096
-bytes_law p K s whole nodes few =
-    copies.bytes_law K (λ d. []) (all p K s whole) (kernel_copies p K s whole) (all_are p K s whole (λ d. [])) nodes
-    (subst (λ n. n + layouts_nodes K.layouts ≤ nodes) (sym (copies_counted p (bodies_of p) K.bodies whole.many)) few)
+pub bytes_law : (p : Program) (K : Kernel) (s : Scheme) → IsWhole p K s → (nodes : ℕ) → AreCovered K.layouts nodes → (n : ℕ) → expanded_nodes p + nodes ≤ n
+    → 4 * kernel_instructions K ≤ 240 * n + 4096
+bytes_law p K s whole nodes covered n few =
+    copies.bytes_law K (λ d. []) (all p K s whole) (kernel_copies p K s whole) (all_are p K s whole (λ d. [])) nodes covered n
+    (subst (λ m. m + nodes ≤ n) (sym (copies_counted p (bodies_of p) K.bodies whole.many)) few)
 
-pub within_law : (p : Program) (K : Kernel) (s : Scheme) → IsWhole p K s → expanded_nodes p + layouts_nodes K.layouts ≤ 4096 → IsWithin K
-within_law p K s whole few =
-    copies.within_law K (λ d. []) (all p K s whole) (kernel_copies p K s whole) (all_are p K s whole (λ d. []))
-    (subst (λ n. n + layouts_nodes K.layouts ≤ 4096) (sym (copies_counted p (bodies_of p) K.bodies whole.many)) few) (all_narrow p K s whole) whole.library_few whole.contents
+pub within_law : (p : Program) (K : Kernel) (s : Scheme) → IsWhole p K s → (nodes : ℕ) → AreCovered K.layouts nodes → expanded_nodes p + nodes ≤ 4096 → IsWithin K
+within_law p K s whole nodes covered few =
+    copies.within_law K (λ d. []) (all p K s whole) (kernel_copies p K s whole) (all_are p K s whole (λ d. [])) nodes covered
+    (subst (λ m. m + nodes ≤ 4096) (sym (copies_counted p (bodies_of p) K.bodies whole.many)) few) (all_narrow p K s whole) whole.library_few whole.contents

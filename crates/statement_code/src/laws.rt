@@ -12,11 +12,12 @@ ghost use Rattle.cov_base.specs.Graph.{Edges};
 ghost use Rattle.cov_base.specs.Graph as logic;
 ghost use Rattle.cov_base.specs.Lists.{Everywhere};
 ghost use Rattle.kernel_ir.specs.declared.kernel.Kernel.{Kernel};
+ghost use Rattle.kernel_ir.specs.declared.kernel.Layout.{Layout};
 ghost use Rattle.kernel_ir.specs.Limits.{IsWellFormed, IsWithin, kernel_instructions};
 ghost use Rattle.kernel_ir.specs.Meaning as code;
 ghost use Rattle.kernel_ir.specs.Obligations.{Condition, rows, conditions};
 ghost use Rattle.statement_code.specs.AllFuels.{Follows};
-ghost use Rattle.statement_code.specs.Copies.{layouts_nodes};
+ghost use Rattle.statement_code.specs.Copies.{layouts_nodes, AreCovered};
 ghost use Rattle.statement_code.specs.Frames.{rate};
 ghost use Rattle.statement_code.specs.Kernels.{Scheme, IsKernelBy, IsWhole, rows_of, conditions_of, expanded_nodes};
 ghost use Rattle.statement_code.specs.Own.{MarksOnce};
@@ -59,17 +60,19 @@ pub fn kernels_hold_the_obligations()
 {}
 
 /// It takes at most 60 instructions for each node of the bodies, where those of a generic count for each
-/// of its instances, and of the layouts, and 16 beside. So where these have so many nodes, it takes at
-/// most 240 bytes for each, and 4,096 beside; and with no more than 4,096 nodes it is small enough for
-/// machine code.
+/// of its instances, and for each of the nodes that cover its layouts, and 16 beside. So it takes at most
+/// 240 bytes for each node, and 4,096 beside; and with no more than 4,096 nodes it is small enough for
+/// machine code. A node for each layout and for each component of a record covers the layouts.
 pub fn kernels_are_small()
     ensures instructions { (p : Program) (K : Kernel) (s : Scheme) → IsWhole p K s
-        → kernel_instructions K ≤ 60 * (expanded_nodes p + layouts_nodes K.layouts) + 16 }
+        → (nodes : ℕ) → AreCovered K.layouts nodes
+        → kernel_instructions K ≤ 60 * (expanded_nodes p + nodes) + 16 }
     ensures bytes { (p : Program) (K : Kernel) (s : Scheme) → IsWhole p K s
-        → (nodes : ℕ) → expanded_nodes p + layouts_nodes K.layouts ≤ nodes
-        → 4 * kernel_instructions K ≤ 240 * nodes + 4096 }
+        → (nodes : ℕ) → AreCovered K.layouts nodes → (all : ℕ) → expanded_nodes p + nodes ≤ all
+        → 4 * kernel_instructions K ≤ 240 * all + 4096 }
     ensures within { (p : Program) (K : Kernel) (s : Scheme) → IsWhole p K s
-        → expanded_nodes p + layouts_nodes K.layouts ≤ 4096 → IsWithin K }
+        → (nodes : ℕ) → AreCovered K.layouts nodes → expanded_nodes p + nodes ≤ 4096 → IsWithin K }
+    ensures covered { (layouts : List Layout) → AreCovered layouts (layouts_nodes layouts) }
 {}
 
 /// Where machine code takes at most 32 instructions for each unit of a kernel's cost, and 8 beside, and
