@@ -33,3 +33,6 @@ pub mod Programs
 pub mod AllFuels
 pub mod Kernels
 pub mod Own
+pub mod Places
+pub mod Once
+pub mod Worked

@@ -19,7 +19,7 @@ use Rattle.statement_code.specs.Kernels.{text_at, rows_of, conditions_of}
 use Rattle.statement_code.specs.Own.{one_if, row_times, is_row, condition_times, is_condition, MarksOnce}
 
 -- sums over a list that is made of another, and over one in order
-sum_map : {X Y : Type 0} (weight : Y → ℕ) (f : X → Y) (xs : List X) → sum_by weight (map f xs) ≡ sum_by (λ x. weight (f x)) xs
+pub sum_map : {X Y : Type 0} (weight : Y → ℕ) (f : X → Y) (xs : List X) → sum_by weight (map f xs) ≡ sum_by (λ x. weight (f x)) xs
 sum_map weight f [] = refl
 sum_map weight f (x ∷ xs) = omega (arith, sum_by-cons weight (f x) (map f xs), sum_by-cons (λ y. weight (f y)) x xs, sum_map weight f xs)
 
@@ -37,7 +37,7 @@ in_order_sum before weight [] = refl
 in_order_sum before weight (x ∷ xs) = omega (arith, inserted_sum before weight x (in_order before xs), sum_by-cons weight x xs, in_order_sum before weight xs)
 
 -- how often a number is among numbers
-abbrev times : (n : ℕ) → List ℕ → ℕ
+abbrev pub times : (n : ℕ) → List ℕ → ℕ
 times n ns = sum_by (λ m. one_if (nat_eq m n)) ns
 
 numbers_low : (n from count : ℕ) → n < from → times n (numbers from count) ≡ 0
@@ -201,7 +201,7 @@ instances_few g i n (x ∷ is) = by_test (nat_eq x.generic g) (eqb_tells n i) (i
     by_test true (inr not) later = omega (arith, sum_by-cons (λ m. one_if (nat_eq m i)) n (instances_from g (n + 1) is), ap one_if not.0, later)
     by_test false test later = later
 
-instances_once : (g : Option ℕ) (i : ℕ) (is : List Instance) → times i (instances_of g is) ≤ 1
+pub instances_once : (g : Option ℕ) (i : ℕ) (is : List Instance) → times i (instances_of g is) ≤ 1
 instances_once None i is = omega (arith, sum_by-cons (λ m. one_if (nat_eq m i)) 0 [], few_if (nat_eq 0 i))
 instances_once (Some g) i is = instances_few g i 1 is
 

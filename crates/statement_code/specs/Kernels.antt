@@ -1,5 +1,5 @@
 -- The kernel of a whole program: it holds the body of each subprogram in each instance in which that stands, by its plan.
-use Rattle.std.specs.Prelude.{◌≡◌, ℕ, ◌+◌, ◌^◌, ◌<◌, ◌≤◌, Bool, List, [], ◌∷◌, ◌++◌, map, length, sum_by, Some, option_map, slice_get, unwrap_or}
+use Rattle.std.specs.Prelude.{◌≡◌, ℕ, suc, ◌+◌, ◌^◌, ◌<◌, ◌≤◌, nat_eq, ◌&&◌, if◌then◌else◌, Bool, List, [], ◌∷◌, ◌++◌, map, length, sum_by, Some, None, option_map, slice_get, unwrap_or}
 use Rattle.cov_base.specs.Lists.{Everywhere}
 use Rattle.ada_meaning.specs.Bodies.{Body, bodies_of, IsBody}
 use Rattle.ada_meaning.specs.Collected.{block_labels, in_block}
@@ -33,6 +33,18 @@ text_at ss m = unwrap_or (option_map (λ s. s.body) (slice_get ss m)) (tree.bloc
 -- how many nodes it has
 abbrev pub nodes_at : List Subprogram → (subprogram : ℕ) → ℕ
 nodes_at ss m = unwrap_or (option_map subprogram_nodes (slice_get ss m)) 0
+
+-- subprograms that stand in no generic
+abbrev pub AreOutside : List Subprogram → Type 0
+AreOutside ss = Everywhere (λ s. s.generic ≡ None) ss
+
+-- whether a body is that of a subprogram in an instance, and its first place among bodies
+abbrev pub is_body_at : (inst subprogram : ℕ) → Body → Bool
+is_body_at j m b = nat_eq b.subprogram m && nat_eq b.instance j
+
+abbrev pub place_of : (inst subprogram : ℕ) → List Body → ℕ
+place_of j m [] = 0
+place_of j m (b ∷ bs) = if is_body_at j m b then 0 else suc (place_of j m bs)
 
 module _ (p : Program) where
   -- a body of the program, by whether its plan gives a result

@@ -1,12 +1,12 @@
 //! Laws of the code of programs. The functions here do nothing: each carries laws as its contract.
 
-ghost use Rattle.std.specs.Prelude.{◌≡◌, ◌≢◌, ◌+◌, ◌*◌, ◌≤◌, ℕ, ℤ, List, sum_by};
-ghost use Rattle.ada_meaning.specs.Bodies.{bodies_of};
-ghost use Rattle.ada_meaning.specs.Collected.{decisions_of};
+ghost use Rattle.std.specs.Prelude.{◌≡◌, ◌≢◌, ◌+◌, ◌*◌, ◌≤◌, ℕ, ℤ, List, Some, map, sum_by, slice_get};
+ghost use Rattle.ada_meaning.specs.Bodies.{Body, bodies_of, IsBody};
+ghost use Rattle.ada_meaning.specs.Collected.{labels_of, decisions_of};
 ghost use Rattle.ada_meaning.specs.Execution as source;
 ghost use Rattle.ada_meaning.specs.Obligations.{IsNumbered};
 ghost use Rattle.ada_meaning.specs.Program.{Program};
-ghost use Rattle.ada_meaning.specs.Tree.{shape_of, conditions_of as conditions_in};
+ghost use Rattle.ada_meaning.specs.Tree.{shape_of, conditions_of as conditions_at};
 ghost use Rattle.cov_base.specs.declared.position.DecId.{DecId};
 ghost use Rattle.cov_base.specs.Graph.{Edges};
 ghost use Rattle.cov_base.specs.Graph as logic;
@@ -18,10 +18,13 @@ ghost use Rattle.kernel_ir.specs.Meaning as code;
 ghost use Rattle.kernel_ir.specs.Obligations.{Condition, rows, conditions};
 ghost use Rattle.statement_code.specs.AllFuels.{Follows};
 ghost use Rattle.statement_code.specs.Copies.{layouts_nodes, AreCovered};
+ghost use Rattle.statement_code.specs.Fragments.{row_in, conditions_in};
 ghost use Rattle.statement_code.specs.Frames.{rate};
-ghost use Rattle.statement_code.specs.Kernels.{Scheme, IsKernelBy, IsWhole, rows_of, conditions_of, expanded_nodes};
+ghost use Rattle.statement_code.specs.Kernels.{Scheme, IsKernelBy, IsWhole};
+ghost use Rattle.statement_code.specs.Kernels.{AreOutside, place_of, rows_of, conditions_of, expanded_nodes};
 ghost use Rattle.statement_code.specs.Own.{MarksOnce};
 ghost use Rattle.statement_code.specs.Programs.{Same};
+ghost use Rattle.statement_code.specs.Sizes.{subprogram_nodes};
 
 /// Under each fuel but 512, which is the greatest depth of calls, a program and a kernel that is made
 /// of it by a scheme end alike or are both cut off, with the same events and output, at no more than ten
@@ -40,6 +43,22 @@ pub fn kernels_end_where_their_programs_end()
     ensures { (p : Program) (K : Kernel) (s : Scheme) → IsKernelBy p K s → (input : List ℤ) → Follows p K input }
 {}
 
+/// Each body of a program has a place in the list of its bodies, and stands nowhere else. Where nothing
+/// stands in a generic, the rows, conditions and nodes of all bodies are those of the subprograms, each
+/// once, in instance 0.
+pub fn bodies_are_listed_once()
+    ensures found { (p : Program) (j m : ℕ) → IsBody p (record { instance = j; subprogram = m })
+        → slice_get (bodies_of p) (place_of j m (bodies_of p)) ≡ Some (record { instance = j; subprogram = m }) }
+    ensures only { (p : Program) (n : ℕ) (b : Body) → slice_get (bodies_of p) n ≡ Some b
+        → place_of b.instance b.subprogram (bodies_of p) ≡ n }
+    ensures rows { (p : Program) → AreOutside p.subprograms
+        → rows_of p (bodies_of p) ≡ map (row_in 0) (labels_of p.subprograms) }
+    ensures conditions { (p : Program) → AreOutside p.subprograms
+        → conditions_of p (bodies_of p) ≡ conditions_in 0 (decisions_of p.subprograms) }
+    ensures nodes { (p : Program) → AreOutside p.subprograms
+        → expanded_nodes p ≡ sum_by subprogram_nodes p.subprograms }
+{}
+
 /// The kernel of a program is well-formed, where decisions have the graphs of their expressions, and at
 /// most 32 conditions. Its rows are the statement obligations of its bodies, in order, each in its
 /// instance; its conditions are those of their decisions, each as often as it is one of theirs: in the
@@ -50,7 +69,7 @@ pub fn kernels_hold_the_obligations()
         → (graph : DecId → List Edges)
         → Everywhere (λ h. graph (record { 0 = h.label.number }) ≡ logic.graph (shape_of h.test))
         (decisions_of p.subprograms)
-        → Everywhere (λ h. conditions_in h.test ≤ 32) (decisions_of p.subprograms)
+        → Everywhere (λ h. conditions_at h.test ≤ 32) (decisions_of p.subprograms)
         → IsWellFormed graph K }
     ensures rows { (p : Program) (K : Kernel) (s : Scheme) → IsWhole p K s → rows K ≡ rows_of p (bodies_of p) }
     ensures conditions { (p : Program) (K : Kernel) (s : Scheme) → IsWhole p K s → (weight : Condition → ℕ)

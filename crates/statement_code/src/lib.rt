@@ -41,6 +41,7 @@
 mod laws;
 
 pub use laws::{
-    costs_are_covered, kernels_are_small, kernels_do_what_their_programs_do,
-    kernels_end_where_their_programs_end, kernels_hold_the_obligations,
+    bodies_are_listed_once, costs_are_covered, kernels_are_small,
+    kernels_do_what_their_programs_do, kernels_end_where_their_programs_end,
+    kernels_hold_the_obligations,
 };
