@@ -4,6 +4,7 @@ ghost use Rattle.std.specs.Prelude.{◌≡◌, ◌≢◌, ◌+◌, ◌*◌, ◌�
 ghost use Rattle.ada_meaning.specs.Bodies.{Body, bodies_of, IsBody};
 ghost use Rattle.ada_meaning.specs.Collected.{labels_of, decisions_of};
 ghost use Rattle.ada_meaning.specs.Execution as source;
+ghost use Rattle.ada_meaning.specs.Execution.{Execution, Ends};
 ghost use Rattle.ada_meaning.specs.Obligations.{IsNumbered};
 ghost use Rattle.ada_meaning.specs.Program.{Program};
 ghost use Rattle.ada_meaning.specs.Tree.{shape_of, conditions_of as conditions_at};
@@ -16,10 +17,9 @@ ghost use Rattle.kernel_ir.specs.declared.kernel.Layout.{Layout};
 ghost use Rattle.kernel_ir.specs.Limits.{IsWellFormed, IsWithin, kernel_instructions};
 ghost use Rattle.kernel_ir.specs.Meaning as code;
 ghost use Rattle.kernel_ir.specs.Obligations.{Condition, rows, conditions};
-ghost use Rattle.statement_code.specs.AllFuels.{Follows};
+ghost use Rattle.statement_code.specs.AllFuels.{Follows, EndsInTime};
 ghost use Rattle.statement_code.specs.Copies.{layouts_nodes, AreCovered};
 ghost use Rattle.statement_code.specs.Fragments.{row_in, conditions_in};
-ghost use Rattle.statement_code.specs.Frames.{rate};
 ghost use Rattle.statement_code.specs.Kernels.{Scheme, IsKernelBy, IsWhole};
 ghost use Rattle.statement_code.specs.Kernels.{AreOutside, place_of, rows_of, conditions_of, expanded_nodes};
 ghost use Rattle.statement_code.specs.Own.{MarksOnce};
@@ -94,9 +94,11 @@ pub fn kernels_are_small()
     ensures covered { (layouts : List Layout) → AreCovered layouts (layouts_nodes layouts) }
 {}
 
-/// Where machine code takes at most 32 instructions for each unit of a kernel's cost, and 8 beside, and
-/// the kernel costs no more than ten times what the program does, it takes at most 500 for each unit of
-/// the program's cost, and 5,000 beside.
-pub fn costs_are_covered()
-    ensures { (source code : ℕ) → code ≤ rate * source → 32 * code + 8 ≤ 500 * source + 5000 }
+/// Where the program's execution ends, such a kernel ends as it does, at a cost by which machine code that
+/// takes at most 32 instructions for each unit of the kernel's cost, and 8 beside, takes at most 500 for
+/// each unit of the execution's cost, and 5,000 beside.
+#[tactic(auto, using(crate::proofs::AllFuels::in_time_law))]
+pub fn kernels_end_in_time()
+    ensures { (p : Program) (K : Kernel) (s : Scheme) → IsKernelBy p K s → (input : List ℤ) (x : Execution)
+        → Ends p input x → EndsInTime x K input }
 {}

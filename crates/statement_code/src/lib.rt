@@ -41,7 +41,6 @@
 mod laws;
 
 pub use laws::{
-    bodies_are_listed_once, costs_are_covered, kernels_are_small,
-    kernels_do_what_their_programs_do, kernels_end_where_their_programs_end,
-    kernels_hold_the_obligations,
+    bodies_are_listed_once, kernels_are_small, kernels_do_what_their_programs_do,
+    kernels_end_in_time, kernels_end_where_their_programs_end, kernels_hold_the_obligations,
 };
