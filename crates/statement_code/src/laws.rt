@@ -1,6 +1,6 @@
 //! Laws of the code of programs. The functions here do nothing: each carries laws as its contract.
 
-ghost use Rattle.std.specs.Prelude.{◌≡◌, ◌≢◌, ◌+◌, ◌*◌, ◌≤◌, ℕ, ℤ, List, Some, map, sum_by, slice_get};
+ghost use Rattle.std.specs.Prelude.{◌≡◌, ◌≢◌, ◌+◌, ◌*◌, ◌≤◌, ℕ, ℤ, List, Some, false, length, map, sum_by, slice_get};
 ghost use Rattle.ada_meaning.specs.Bodies.{Body, bodies_of, IsBody};
 ghost use Rattle.ada_meaning.specs.Collected.{labels_of, decisions_of};
 ghost use Rattle.ada_meaning.specs.Execution as source;
@@ -14,12 +14,13 @@ ghost use Rattle.cov_base.specs.Graph as logic;
 ghost use Rattle.cov_base.specs.Lists.{Everywhere};
 ghost use Rattle.kernel_ir.specs.declared.kernel.Kernel.{Kernel};
 ghost use Rattle.kernel_ir.specs.declared.kernel.Layout.{Layout};
+ghost use Rattle.kernel_ir.specs.Laws.{RaisesOneOf};
 ghost use Rattle.kernel_ir.specs.Limits.{IsWellFormed, IsWithin, kernel_instructions};
 ghost use Rattle.kernel_ir.specs.Meaning as code;
 ghost use Rattle.kernel_ir.specs.Obligations.{Condition, rows, conditions};
 ghost use Rattle.statement_code.specs.AllFuels.{Follows, EndsInTime};
 ghost use Rattle.statement_code.specs.Copies.{layouts_nodes, AreCovered};
-ghost use Rattle.statement_code.specs.Fragments.{row_in, conditions_in};
+ghost use Rattle.statement_code.specs.Fragments.{CodeLeaves, row_in, conditions_in};
 ghost use Rattle.statement_code.specs.Kernels.{Scheme, IsKernelBy, IsWhole};
 ghost use Rattle.statement_code.specs.Kernels.{AreOutside, place_of, rows_of, conditions_of, expanded_nodes};
 ghost use Rattle.statement_code.specs.Own.{MarksOnce};
@@ -63,7 +64,8 @@ pub fn bodies_are_listed_once()
 /// most 32 conditions. Its rows are the statement obligations of its bodies, in order, each in its
 /// instance; its conditions are those of their decisions, each as often as it is one of theirs: in the
 /// code those of a nested decision stand before the condition that holds it. So each obligation has one
-/// row in each instance in which it stands, and each condition one node, and there are no others.
+/// row in each instance in which it stands, and each condition one node, and there are no others. No body
+/// leaves a loop but its own, and what is raised is a predefined exception or one of the program's.
 pub fn kernels_hold_the_obligations()
     ensures well_formed { (p : Program) (K : Kernel) (s : Scheme) → IsWhole p K s → IsNumbered p
         → (graph : DecId → List Edges)
@@ -76,6 +78,11 @@ pub fn kernels_hold_the_obligations()
         → sum_by weight (conditions K) ≡ sum_by weight (conditions_of p (bodies_of p)) }
     ensures once { (p : Program) (K : Kernel) (s : Scheme) → IsWhole p K s → IsNumbered p
         → MarksOnce p (rows K) (conditions K) }
+    ensures leaves { (p : Program) (K : Kernel) (s : Scheme) → IsWhole p K s
+        → Everywhere (λ b. CodeLeaves false b.code) K.bodies }
+    ensures raises { (p : Program) (K : Kernel) (s : Scheme) → IsWhole p K s
+        → (graph : DecId → List Edges) → IsWellFormed graph K
+        → (fuel : ℕ) (input : List ℤ) → RaisesOneOf (4 + length p.exceptions) (code.exec K fuel input) }
 {}
 
 /// It takes at most 60 instructions for each node of the bodies, where those of a generic count for each
