@@ -36,3 +36,4 @@ pub mod Own
 pub mod Places
 pub mod Once
 pub mod Worked
+pub mod Formed
