@@ -114,7 +114,7 @@ module _ (p : Program) (inst : ℕ) (shape_of : tree.Object → Shape) (home_of 
     counted (tree.by_composite o parts rest) [] are = absurd (omega (arith, are.0))
     counted (tree.by_composite o parts rest) (q ∷ qs) are = omega (arith, counted rest qs are.1.1.1.1.1)
 
-    scalar_part : (o : tree.Object) (parts : tree.Parts) → formed.IsScalar (formed.part_shape (shape_of o) parts) → IsWord (part_shape (shape_of o) parts)
+    pub scalar_part : (o : tree.Object) (parts : tree.Parts) → formed.IsScalar (formed.part_shape (shape_of o) parts) → IsWord (part_shape (shape_of o) parts)
     scalar_part o parts is = subst IsWord (same_part parts (shape_of o)) (word_if (formed.part_shape (shape_of o) parts) is)
 
     mutual

@@ -37,3 +37,4 @@ pub mod Places
 pub mod Once
 pub mod Worked
 pub mod Formed
+pub mod FormedBlocks
