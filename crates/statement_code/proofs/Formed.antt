@@ -91,10 +91,11 @@ group_typed : (ss : Shapes) → formed.IsType (group ss) → formed.AreTypes ss
 group_typed no_shape typed = absurd typed
 group_typed (and_shape s ss) typed = typed
 
-module _ (p : Program) (inst : ℕ) (shape_of : tree.Object → Shape) (home_of : tree.Object → Home) (site : Site) (Bodies : Bool → ℕ → ℕ → Type 0)
+module _ (p : Program) (inst : ℕ) (shape shape_of : tree.Object → Shape) (home_of : tree.Object → Home) (site : Site) (Bodies : Bool → ℕ → ℕ → Type 0)
     (callable : (f : Bool) (t : Target) → formed.IsCallable p f t → IsBody Bodies f t × (length (parameters_of p t) ≤ arguments)) where
-  module _ (Sees Seen : tree.Object → Type 0) (seen : (o : tree.Object) → Sees o → Seen o) where
-    pub part_typed : (parts : tree.Parts) (s : Shape) → formed.IsType s → formed.AreParts p inst shape_of Sees s parts → formed.IsType (formed.part_shape s parts)
+  module _ (Sees Seen : tree.Object → Type 0) (seen : (o : tree.Object) → Sees o → Seen o)
+      (same : (o : tree.Object) → Sees o → shape o ≡ shape_of o) where
+    pub part_typed : (parts : tree.Parts) (s : Shape) → formed.IsType s → formed.AreParts p inst shape Sees s parts → formed.IsType (formed.part_shape s parts)
     part_typed tree.whole s typed are = typed
     part_typed (tree.component n parts) (word b) typed are = absurd are
     part_typed (tree.component n parts) (row b s) typed are = absurd are
@@ -105,7 +106,7 @@ module _ (p : Program) (inst : ℕ) (shape_of : tree.Object → Shape) (home_of 
     part_typed (tree.element r e parts) (row b s) typed are = part_typed parts s typed.1.1 are.1.1
 
     -- there are as many actuals as parameters
-    pub counted : (actuals : tree.Actuals) (qs : List ResolvedParameter) → formed.AreActuals p inst shape_of Sees qs actuals → count_of actuals ≤ length qs
+    pub counted : (actuals : tree.Actuals) (qs : List ResolvedParameter) → formed.AreActuals p inst shape Sees qs actuals → count_of actuals ≤ length qs
     counted tree.no_actual qs are = omega arith
     counted (tree.by_expression e rest) [] are = absurd (omega (arith, are.0))
     counted (tree.by_expression e rest) (q ∷ qs) are = omega (arith, counted rest qs are.1.1.1.1)
@@ -114,15 +115,23 @@ module _ (p : Program) (inst : ℕ) (shape_of : tree.Object → Shape) (home_of 
     counted (tree.by_composite o parts rest) [] are = absurd (omega (arith, are.0))
     counted (tree.by_composite o parts rest) (q ∷ qs) are = omega (arith, counted rest qs are.1.1.1.1.1)
 
-    pub scalar_part : (o : tree.Object) (parts : tree.Parts) → formed.IsScalar (formed.part_shape (shape_of o) parts) → IsWord (part_shape (shape_of o) parts)
-    scalar_part o parts is = subst IsWord (same_part parts (shape_of o)) (word_if (formed.part_shape (shape_of o) parts) is)
+    -- parts of objects, by either shape
+    moved : (o : tree.Object) (parts : tree.Parts) → Sees o → ArePlainParts p inst shape_of home_of site Bodies Seen (shape o) parts
+        → ArePlainParts p inst shape_of home_of site Bodies Seen (shape_of o) parts
+    moved o parts there are = subst (λ s. ArePlainParts p inst shape_of home_of site Bodies Seen s parts) (same o there) are
+
+    pub same_place : (o : tree.Object) (parts : tree.Parts) → Sees o → formed.part_shape (shape o) parts ≡ part_shape (shape_of o) parts
+    same_place o parts there = same_part parts (shape o) ∙ ap (λ s. part_shape s parts) (same o there)
+
+    pub scalar_part : (o : tree.Object) (parts : tree.Parts) → Sees o → formed.IsScalar (formed.part_shape (shape o) parts) → IsWord (part_shape (shape_of o) parts)
+    scalar_part o parts there is = subst IsWord (same_place o parts there) (word_if (formed.part_shape (shape o) parts) is)
 
     mutual
-      pub expr_formed : (e : tree.Expr) → formed.IsExpr p inst shape_of Sees e → IsPlainExpr p inst shape_of home_of site Bodies Seen e × ExprFits p inst e
+      pub expr_formed : (e : tree.Expr) → formed.IsExpr p inst shape Sees e → IsPlainExpr p inst shape_of home_of site Bodies Seen e × ExprFits p inst e
       expr_formed (tree.literal x) is = (is, tt)
       expr_formed (tree.constant e) is = (is, tt)
-      expr_formed (tree.attribute o parts e) is = let q = parts_formed parts (shape_of o) is.1.0 in ((seen o is.0, (q.0, is.1.1)), q.1)
-      expr_formed (tree.read o parts) is = let q = parts_formed parts (shape_of o) is.1.0 in ((seen o is.0, (q.0, scalar_part o parts is.1.1)), q.1)
+      expr_formed (tree.attribute o parts e) is = let q = parts_formed parts (shape o) is.1.0 in ((seen o is.0, (moved o parts is.0 q.0, is.1.1)), q.1)
+      expr_formed (tree.read o parts) is = let q = parts_formed parts (shape o) is.1.0 in ((seen o is.0, (moved o parts is.0 q.0, scalar_part o parts is.0 is.1.1)), q.1)
       expr_formed (tree.signed s e) is = expr_formed e is
       expr_formed (tree.operation o e f) is = let x = expr_formed e is.0 in let y = expr_formed f is.1 in ((x.0, y.0), (x.1, y.1))
       expr_formed (tree.relation r e f) is = let x = expr_formed e is.0 in let y = expr_formed f is.1 in ((x.0, y.0), (x.1, y.1))
@@ -134,7 +143,7 @@ module _ (p : Program) (inst : ℕ) (shape_of : tree.Object → Shape) (home_of 
           ((b.0, (q.0, omega (arith, b.1, counted actuals (parameters_of p (target_in p inst c)) is.1))), q.1)
       expr_formed (tree.decision d t) is = test_formed t is
 
-      pub parts_formed : (parts : tree.Parts) (s : Shape) → formed.AreParts p inst shape_of Sees s parts
+      pub parts_formed : (parts : tree.Parts) (s : Shape) → formed.AreParts p inst shape Sees s parts
           → ArePlainParts p inst shape_of home_of site Bodies Seen s parts × PartsFit p inst parts
       parts_formed tree.whole s are = (tt, tt)
       parts_formed (tree.component n parts) (word b) are = absurd are
@@ -147,7 +156,7 @@ module _ (p : Program) (inst : ℕ) (shape_of : tree.Object → Shape) (home_of 
       parts_formed (tree.element r e parts) (row b s) are =
           let x = expr_formed e are.1.0 in let q = parts_formed parts s are.1.1 in ((are.0, (x.0, q.0)), (x.1, q.1))
 
-      pub actuals_formed : (actuals : tree.Actuals) (qs : List ResolvedParameter) → formed.AreActuals p inst shape_of Sees qs actuals
+      pub actuals_formed : (actuals : tree.Actuals) (qs : List ResolvedParameter) → formed.AreActuals p inst shape Sees qs actuals
           → ArePlainActuals p inst shape_of home_of site Bodies Seen qs actuals × ActualsFit p inst actuals
       actuals_formed tree.no_actual qs are = (are, tt)
       actuals_formed (tree.by_expression e rest) qs are =
@@ -155,28 +164,28 @@ module _ (p : Program) (inst : ℕ) (shape_of : tree.Object → Shape) (home_of 
           let more = actuals_formed rest (drop 1 qs) are.1.1.1.1 in
           ((are.0, (word_if (next_parameter qs).shape are.1.0, (are.1.1.0, (x.0, more.0)))), (x.1, more.1))
       actuals_formed (tree.by_variable o parts r rest) qs are =
-          let q = parts_formed parts (shape_of o) are.1.1.1.1.0 in
+          let q = parts_formed parts (shape o) are.1.1.1.1.0 in
           let more = actuals_formed rest (drop 1 qs) are.1.1.1.1.1.1.1 in (
-            (are.0, (word_if (next_parameter qs).shape are.1.0, (given_if (next_parameter qs).mode are.1.1.0, (seen o are.1.1.1.0, (q.0, (scalar_part o parts are.1.1.1.1.1.0, more.0)))))),
+            (are.0, (word_if (next_parameter qs).shape are.1.0, (given_if (next_parameter qs).mode are.1.1.0, (seen o are.1.1.1.0, (moved o parts are.1.1.1.0 q.0, (scalar_part o parts are.1.1.1.0 are.1.1.1.1.1.0, more.0)))))),
             (q.1, (bounds_words (bounds_in p inst r) are.1.1.1.1.1.1.0, more.1)),
           )
       actuals_formed (tree.by_composite o parts rest) qs are =
-          let q = parts_formed parts (shape_of o) are.1.1.1.0 in
+          let q = parts_formed parts (shape o) are.1.1.1.0 in
           let more = actuals_formed rest (drop 1 qs) are.1.1.1.1.1 in (
-            (are.0, (composite_if (next_parameter qs).shape are.1.0, (seen o are.1.1.0, (q.0, (sym (same_part parts (shape_of o)) ∙ are.1.1.1.1.0, more.0))))),
+            (are.0, (composite_if (next_parameter qs).shape are.1.0, (seen o are.1.1.0, (moved o parts are.1.1.0 q.0, (sym (same_place o parts are.1.1.0) ∙ are.1.1.1.1.0, more.0))))),
             (q.1, more.1),
           )
 
-      pub test_formed : (t : tree.Test) → formed.IsTest p inst shape_of Sees t → IsPlainTest p inst shape_of home_of site Bodies Seen t × TestFits p inst t
+      pub test_formed : (t : tree.Test) → formed.IsTest p inst shape Sees t → IsPlainTest p inst shape_of home_of site Bodies Seen t × TestFits p inst t
       test_formed (tree.condition place e) is = expr_formed e is
       test_formed (tree.negation t) is = test_formed t is
       test_formed (tree.operator neutral t u) is = let x = test_formed t is.0 in let y = test_formed u is.1 in ((x.0, y.0), (x.1, y.1))
 
-    pub value_formed : (v : tree.NewValue) (s : Shape) → formed.IsType s → formed.IsValue p inst shape_of Sees s v
+    pub value_formed : (v : tree.NewValue) (s : Shape) → formed.IsType s → formed.IsValue p inst shape Sees s v
         → IsPlainValue p inst shape_of home_of site Bodies Seen s v × ValueFits p inst v
     value_formed (tree.scalar_value r e) s typed is = let x = expr_formed e is.1.1 in ((word_if s is.0, x.0), (bounds_words (bounds_in p inst r) is.1.0, x.1))
     value_formed (tree.composite_value t o parts) s typed is =
-        let q = parts_formed parts (shape_of o) is.1.0 in ((seen o is.0, (q.0, (sym (same_part parts (shape_of o)) ∙ is.1.1.0, is.1.1.1))), q.1)
+        let q = parts_formed parts (shape o) is.1.0 in ((seen o is.0, (moved o parts is.0 q.0, (sym (same_place o parts is.0) ∙ is.1.1.0, is.1.1.1))), q.1)
     value_formed (tree.others_value r v) (word b) typed is = absurd is
     value_formed (tree.others_value r v) (group ss) typed is = absurd is
     value_formed (tree.others_value r v) (row b s) typed is =
