@@ -44,7 +44,7 @@ within_list [] n x is = cc is
 within_list (y ∷ ys) zero x is = omega arith
 within_list (y ∷ ys) (suc n) x is = let lt = within_list ys n x is in omega (arith, lt)
 
-found_there : {X : Type 0} (xs : List X) (n : ℕ) (x : X) → slice_get xs n ≡ Some x → Somewhere (λ y. y ≡ x) xs
+pub found_there : {X : Type 0} (xs : List X) (n : ℕ) (x : X) → slice_get xs n ≡ Some x → Somewhere (λ y. y ≡ x) xs
 found_there [] n x is = cc is
 found_there (y ∷ ys) zero x is = inl (cc is)
 found_there (y ∷ ys) (suc n) x is = inr (found_there ys n x is)
@@ -53,13 +53,13 @@ same_found : {X : Type 0} (xs : List X) (n : ℕ) (x y : X) → slice_get xs n �
 same_found xs n x y is also = cc (sym is ∙ also)
 
 -- what each item is, this one is
-each_is : {X : Type 0} (P : X → Type 0) (xs : List X) (x : X) → Everywhere P xs → Somewhere (λ y. y ≡ x) xs → P x
+pub each_is : {X : Type 0} (P : X → Type 0) (xs : List X) (x : X) → Everywhere P xs → Somewhere (λ y. y ≡ x) xs → P x
 each_is P [] x all there = absurd there
 each_is P (y ∷ ys) x all (inl is) = subst P is all.0
 each_is P (y ∷ ys) x all (inr there) = each_is P ys x all.1 there
 
 -- an object of a body
-laid_at : (plan : Plan) (ds : List ℕ) (d : ℕ) → AreLaid plan ds → Somewhere (λ e. e ≡ d) ds → IsLaid plan d
+pub laid_at : (plan : Plan) (ds : List ℕ) (d : ℕ) → AreLaid plan ds → Somewhere (λ e. e ≡ d) ds → IsLaid plan d
 laid_at plan [] d laid there = absurd there
 laid_at plan (e ∷ ds) d laid (inl is) = subst (IsLaid plan) is laid.0
 laid_at plan (e ∷ ds) d laid (inr there) = laid_at plan ds d laid.1.1 there
@@ -79,13 +79,13 @@ text_own graph [] m own = tt
 text_own graph (s ∷ ss) zero own = first_own graph (in_block s.body) (decisions_of ss) own
 text_own graph (s ∷ ss) (suc m) own = text_own graph ss m (second_own graph (in_block s.body) (decisions_of ss) own)
 
-text_is : (ss : List Subprogram) (m : ℕ) (s : Subprogram) → slice_get ss m ≡ Some s → text_at ss m ≡ s.body
+pub text_is : (ss : List Subprogram) (m : ℕ) (s : Subprogram) → slice_get ss m ≡ Some s → text_at ss m ≡ s.body
 text_is ss m s is = ap (λ o. unwrap_or (option_map (λ t. t.body) o) (tree.block [] tree.no_statement tree.no_handler)) is
 
 nodes_are : (ss : List Subprogram) (m : ℕ) (s : Subprogram) → slice_get ss m ≡ Some s → nodes_at ss m ≡ subprogram_nodes s
 nodes_are ss m s is = ap (λ o. unwrap_or (option_map subprogram_nodes o) 0) is
 
-parameters_many : (p : Program) (j m : ℕ) (s : Subprogram) → slice_get p.subprograms m ≡ Some s → length (parameters_of p (body_target j m)) ≡ length s.parameters
+pub parameters_many : (p : Program) (j m : ℕ) (s : Subprogram) → slice_get p.subprograms m ≡ Some s → length (parameters_of p (body_target j m)) ≡ length s.parameters
 parameters_many p j m s is = length-map (parameters_of_subprogram (slice_get p.subprograms m)) (parameter_in p j) ∙ ap (λ o. length (parameters_of_subprogram o)) is
 
 -- a body of a program with the body of a kernel, as a copy

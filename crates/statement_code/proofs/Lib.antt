@@ -38,3 +38,4 @@ pub mod Once
 pub mod Worked
 pub mod Formed
 pub mod FormedBlocks
+pub mod Laid

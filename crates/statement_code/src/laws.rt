@@ -7,6 +7,7 @@ ghost use Rattle.ada_meaning.specs.Execution as source;
 ghost use Rattle.ada_meaning.specs.Execution.{Execution, Ends};
 ghost use Rattle.ada_meaning.specs.Obligations.{IsNumbered};
 ghost use Rattle.ada_meaning.specs.Program.{Program};
+ghost use Rattle.ada_meaning.specs.WellFormed.{IsWellFormed as IsWellFormedProgram};
 ghost use Rattle.ada_meaning.specs.Tree.{shape_of, conditions_of as conditions_at};
 ghost use Rattle.cov_base.specs.declared.position.DecId.{DecId};
 ghost use Rattle.cov_base.specs.Graph.{Edges};
@@ -23,6 +24,7 @@ ghost use Rattle.statement_code.specs.Copies.{layouts_nodes, AreCovered};
 ghost use Rattle.statement_code.specs.Fragments.{CodeLeaves, row_in, conditions_in};
 ghost use Rattle.statement_code.specs.Kernels.{Scheme, IsKernelBy, IsWhole};
 ghost use Rattle.statement_code.specs.Kernels.{AreOutside, place_of, rows_of, conditions_of, expanded_nodes};
+ghost use Rattle.statement_code.specs.Laid.{IsLaidKernel};
 ghost use Rattle.statement_code.specs.Own.{MarksOnce};
 ghost use Rattle.statement_code.specs.Programs.{Same};
 ghost use Rattle.statement_code.specs.Sizes.{subprogram_nodes};
@@ -58,6 +60,13 @@ pub fn bodies_are_listed_once()
         → conditions_of p (bodies_of p) ≡ conditions_in 0 (decisions_of p.subprograms) }
     ensures nodes { (p : Program) → AreOutside p.subprograms
         → expanded_nodes p ≡ sum_by subprogram_nodes p.subprograms }
+{}
+
+/// The kernel of a well-formed program is whole where its bodies are those of the program, each laid out in
+/// its frame, and the library level stands below all frames.
+#[tactic(auto, using(crate::proofs::Laid::whole_law))]
+pub fn laid_kernels_are_whole()
+    ensures { (p : Program) (K : Kernel) (s : Scheme) → IsWellFormedProgram p → IsLaidKernel p K s → IsWhole p K s }
 {}
 
 /// The kernel of a program is well-formed, where decisions have the graphs of their expressions, and at
