@@ -19,14 +19,17 @@ use Rattle.ada_resolved.specs.Sizes.{words, all_words}
 use Rattle.kernel_ir.specs.declared.kernel.Kernel.{Kernel}
 use Rattle.kernel_ir.specs.Layouts.{content_in}
 use Rattle.kernel_ir.specs.Limits.{most_words}
-use Rattle.statement_code.specs.Bodies.{IsParameterOf}
+use Rattle.kernel_ir.specs.Tree.{Code}
+use Rattle.statement_code.specs.Bodies.{IsParameterOf, body_code}
 use Rattle.statement_code.specs.Kernels.{Scheme, BodyBy, HasRoom, IsWhole}
 use Rattle.statement_code.specs.Laid.{AreParametersPlaced, IsLaidOut, IsLaidKernel}
+use Rattle.statement_code.specs.Names.{Names, names_in}
 use Rattle.statement_code.specs.Numbers.{ShapeFits, ShapesFit, BlockFits}
 use Rattle.statement_code.specs.Programs.{Plan, size_in_plan, IsLocal, AreParametersLaid, AreGiven, IsSeen, site_of, IsPlanned}
 use Rattle.statement_code.specs.Statements.{HasLayout, IsPlainBlock}
 use Rattle.statement_code.specs.Stores.{HasWords}
 use Rattle.statement_code.specs.Values.{IsComposite, IsBody as IsCallableBody, arguments}
+use Rattle.statement_code.proofs.Alike.{body_alike}
 use Rattle.statement_code.proofs.Formed.{bounds_words, type_has}
 use Rattle.statement_code.proofs.FormedBlocks.{IsLocalObject, AreSeen, block_formed}
 use Rattle.statement_code.proofs.Kernels.{each_is, found_there, laid_at, parameters_many, text_is}
@@ -213,6 +216,9 @@ module _ (p : Program) (K : Kernel) (s : Scheme) (well : formed.IsWellFormed p) 
         same_too (tree.library_object o d) there = (laid.outside o d there).0
         same_too (tree.local_object d) there = parameter_same 0 is.declared.parameters from_zero d there
 
+    framed_is : formed.IsFrame p j shape plan.gives (formed.StartSees p j is.declared) false false is.declared.body
+    framed_is = subst (λ f. formed.IsFrame p j shape f (formed.StartSees p j is.declared) false false is.declared.body) (sym laid.gives) subprogram.frame
+
     -- its block
     block_is : IsPlainBlock p j plan.shape_of plan.home_of (site_of p K s.number s.library (BodyBy p s) plan) (BodyBy p s) plan.layout_of (content_in K.layouts) (IsLocal plan) K.exceptions plan.gives
         (IsSeen s.library plan j (parameters_of p (body_target j m))) false false is.declared.body
@@ -220,8 +226,17 @@ module _ (p : Program) (K : Kernel) (s : Scheme) (well : formed.IsWellFormed p) 
     block_is =
         block_formed p j shape plan.shape_of plan.home_of (site_of p K s.number s.library (BodyBy p s) plan) (BodyBy p s) callable K plan.layout_of (content_in K.layouts) (IsLocal plan) plan.gives
         (omega (arith, kernel.exceptions)) (omega (arith, kernel.exceptions, kernel.exceptions_few)) local is.declared.body (formed.StartSees p j is.declared)
-        (IsSeen s.library plan j (parameters_of p (body_target j m))) false false seen block_among
-        (subst (λ f. formed.IsFrame p j shape f (formed.StartSees p j is.declared) false false is.declared.body) (sym laid.gives) subprogram.frame)
+        (IsSeen s.library plan j (parameters_of p (body_target j m))) false false seen block_among framed_is
+
+    abbrev coded : Names → Code
+    coded names =
+        body_code names plan.shape_of plan.home_of (site_of p K s.number s.library (BodyBy p s) plan) plan.layout_of plan.base plan.gives (parameters_of p (body_target j m)) is.declared.body
+
+    -- its code is that by the program's names
+    same_code : coded laid.names ≡ coded (names_in p j)
+    same_code =
+        body_alike p j shape plan.shape_of plan.home_of (site_of p K s.number s.library (BodyBy p s) plan) laid.names laid.named plan.layout_of plan.gives is.declared.body
+        (formed.StartSees p j is.declared) plan.base (parameters_of p (body_target j m)) framed_is
 
     planned : (f : Bool) → plan.gives ≡ f → IsPlanned p K s.number s.library (BodyBy p s) f j m plan
     planned f gives =
@@ -230,7 +245,7 @@ module _ (p : Program) (K : Kernel) (s : Scheme) (well : formed.IsWellFormed p) 
         record {
           declared = is.declared;
           is_declared = is.is_declared;
-          is_body = laid.is_body;
+          is_body = laid.is_body ∙ (λ i. Some (record { code = same_code i; width = plan.width }));
           gives = gives;
           given = λ function. subst AreGiven given_are
               (mapped_everywhere (λ (q : ResolvedParameter). q.mode ≡ in_mode) (parameter_in p j) is.declared.parameters (subprogram.given (sym laid.gives ∙ (gives ∙ function))));

@@ -39,3 +39,4 @@ pub mod Worked
 pub mod Formed
 pub mod FormedBlocks
 pub mod Laid
+pub mod Alike

@@ -16,10 +16,11 @@ use Rattle.kernel_ir.specs.Layouts.{content_in, contents_after}
 use Rattle.kernel_ir.specs.Limits.{LayoutsFit, most_words, widest}
 use Rattle.kernel_ir.specs.Meaning as code
 use Rattle.kernel_ir.specs.World.{data_word, area_end}
+use Rattle.statement_code.specs.Alike.{AreNamesIn}
 use Rattle.statement_code.specs.Bodies.{body_code}
 use Rattle.statement_code.specs.Cells.{Agree}
 use Rattle.statement_code.specs.Kernels.{Scheme, place_of}
-use Rattle.statement_code.specs.Names.{names_in}
+use Rattle.statement_code.specs.Names.{Names}
 use Rattle.statement_code.specs.Numbers.{ShapeFits}
 use Rattle.statement_code.specs.Objects.{CellsOf}
 use Rattle.statement_code.specs.Programs.{Plan, slot_in_plan, size_in_plan, AreLaid, IsOutside, IsLibrary}
@@ -38,11 +39,13 @@ AreParametersPlaced plan count [] i = Unit {0}
 AreParametersPlaced plan count (q ∷ qs) i = IsParameterPlaced plan count q i × AreParametersPlaced plan count qs (i + 1)
 
 module _ (p : Program) (K : Kernel) (s : Scheme) where
-  -- The body of a subprogram in an instance, by its plan. Its objects have the shapes of their types, and stand in its frame, each with slots of
-  -- its own; those of the library level that it sees stand there.
+  -- The body of a subprogram in an instance, by its plan, and by names that come to what they mean there. Its objects have the shapes of their
+  -- types, and stand in its frame, each with slots of its own; those of the library level that it sees stand there.
   pub record IsLaidOut (j m : ℕ) (declared : Subprogram) (plan : Plan) : Type 0 where
+    pub names : Names
+    pub named : AreNamesIn p j (object_shape p j declared) names
     pub is_body : slice_get K.bodies (s.number j m) ≡ Some (record {
-      code = body_code (names_in p j) plan.shape_of plan.home_of (record { width = plan.width; body = s.number }) plan.layout_of plan.base plan.gives (parameters_of p (body_target j m)) declared.body;
+      code = body_code names plan.shape_of plan.home_of (record { width = plan.width; body = s.number }) plan.layout_of plan.base plan.gives (parameters_of p (body_target j m)) declared.body;
       width = plan.width;
     })
     pub gives : plan.gives ≡ is_function declared

@@ -19,3 +19,4 @@ pub mod AllFuels
 pub mod Kernels
 pub mod Own
 pub mod Laid
+pub mod Alike
