@@ -1,6 +1,6 @@
 -- What code needs of a typed program, and the rules of the language ensure: numbers name what is there; parts of names, values and actuals have
 -- the types of what they are for; bounds lie in the base range; statements stand where they may.
-use Rattle.std.specs.Prelude.{◌≡◌, ◌≤◌, ◌⊎◌, ℕ, zero, suc, ◌+◌, ℤ, int_le, Bool, true, false, List, [], ◌∷◌, drop, length, None, Some, slice_get}
+use Rattle.std.specs.Prelude.{◌≡◌, ◌≤◌, ◌⊎◌, ℕ, zero, suc, ◌+◌, ℤ, int_le, Bool, true, false, List, [], ◌∷◌, drop, length, Option, None, Some, slice_get}
 use Rattle.std.specs.Option.{IfSome}
 use Rattle.cov_base.specs.Lists.{Everywhere, Somewhere}
 use Rattle.ada_meaning.specs.Arithmetic.{base_range, is_within}
@@ -11,8 +11,9 @@ use Rattle.ada_meaning.specs.Declared.{object_shape, object_shapes, is_function}
 use Rattle.ada_meaning.specs.Objects.{number_of, objects_of, IsDeclaredOnce}
 use Rattle.ada_meaning.specs.Obligations.{numbers, IsNumbered, IsResolved}
 use Rattle.ada_meaning.specs.Program.{Bounds, Mode, in_mode, out_mode, in_out_mode, Target, get_target, put_target, body_target, Initial, no_initial, static_initial, others_initial, LibraryObject, Subprogram, Program}
-use Rattle.ada_meaning.specs.Resolved.{ResolvedParameter, owner_in, number_in, bounds_in, shape_in, target_in, exception_in, parameters_of}
+use Rattle.ada_meaning.specs.Resolved.{ResolvedParameter, owner_in, bounds_in, shape_in, target_in, exception_in, parameters_of}
 use Rattle.ada_meaning.specs.Shape.{Shape, word, row, group, Shapes, no_shape, and_shape}
+use Rattle.ada_meaning.specs.Statics.{static_value, static_bounds, values_of}
 use Rattle.ada_meaning.specs.Tree as tree
 use Rattle.ada_meaning.specs.Types.{Static, Range}
 
@@ -22,6 +23,15 @@ IsInBase x = is_within base_range x ≡ true
 
 abbrev pub AreInBase : Bounds → Type 0
 AreInBase b = IsInBase b.low × IsInBase b.high
+
+-- there is a static value, or there are static bounds, in the base range (RM 3.5, 4.9)
+abbrev pub HasNumber : Option ℤ → Type 0
+HasNumber None = ⊥
+HasNumber (Some x) = IsInBase x
+
+abbrev pub HasBounds : Option Bounds → Type 0
+HasBounds None = ⊥
+HasBounds (Some b) = AreInBase b
 
 abbrev mutual
   -- a type: its bounds lie in the base range, and an array and a record have a component (RM 3.6, 3.8; null arrays are not in the language)
@@ -96,12 +106,13 @@ IsCallable p function put_target = ⊥
 IsCallable p function (body_target j m) = (is : IsBody p (record { instance = j; subprogram = m })) × (is_function is.declared ≡ function)
 
 module _ (p : Program) (inst : ℕ) (shape_of : tree.Object → Shape) where
-  -- bounds of a subtype, and an exception that is there: a predefined one, or one of the program (RM 11.1)
+  -- a subtype that has bounds, a static expression that has a value, and an exception that is there: a predefined one, or one of the program
+  -- (RM 3.5, 4.9, 11.1)
   abbrev pub IsRange : Range → Type 0
-  IsRange r = AreInBase (bounds_in p inst r)
+  IsRange r = HasBounds (static_bounds (values_of p) inst r)
 
   abbrev pub IsNumber : Static → Type 0
-  IsNumber e = IsInBase (number_in p inst e)
+  IsNumber e = HasNumber (static_value (values_of p) inst e)
 
   abbrev pub IsException : tree.ExceptionName → Type 0
   IsException x = (1 ≤ exception_in p inst x) × (exception_in p inst x ≤ 4 + length p.exceptions)
@@ -252,7 +263,7 @@ pub record IsSubprogram (p : Program) (inst : ℕ) (s : Subprogram) : Type 0 whe
 -- the initial value of an object of the library level
 abbrev pub IsInitial : Program → (inst : ℕ) → Initial → Type 0
 IsInitial p inst no_initial = Unit {0}
-IsInitial p inst (static_initial e) = IsInBase (number_in p inst e)
+IsInitial p inst (static_initial e) = HasNumber (static_value (values_of p) inst e)
 IsInitial p inst (others_initial i) = IsInitial p inst i
 
 -- an object of the library level, in each instance in which it stands

@@ -1,11 +1,15 @@
 -- Expressions, names, actuals and values of well-formed programs are such that code can be made of them, and their numbers fit.
-use Rattle.std.proofs.Common.{◌≡◌, ℕ, zero, suc, ◌*◌, ◌≤◌, Bool, true, List, [], ◌∷◌, drop, length, refl, sym, ap, subst, ◌∙◌, arith}
+use Rattle.std.proofs.Common.{◌≡◌, ℕ, zero, suc, ◌*◌, ◌≤◌, Bool, true, Option, Some, None, ℤ, List, [], ◌∷◌, drop, length, refl, sym, ap, subst, ◌∙◌, arith}
+use Rattle.std.specs.Option.{IfSome}
 use Rattle.ada_meaning.specs.Calls.{next_parameter}
 use Rattle.ada_meaning.specs.Program.{Bounds, Mode, in_mode, out_mode, in_out_mode, Target, Program}
-use Rattle.ada_meaning.specs.Resolved.{ResolvedParameter, bounds_in, target_in, parameters_of}
+use Rattle.ada_meaning.specs.Resolved.{ResolvedParameter, number_in, bounds_in, target_in, parameters_of}
 use Rattle.ada_meaning.specs.Shape.{Shape, word, row, group, Shapes, no_shape, and_shape}
+use Rattle.ada_meaning.specs.Statics.{static_value, static_bounds, values_of}
 use Rattle.ada_meaning.specs.Tree as tree
+use Rattle.ada_meaning.specs.Types as type
 use Rattle.ada_meaning.specs.WellFormed as formed
+use Rattle.ada_meaning.proofs.StaticValues.{value_exact, bounds_exact}
 use Rattle.ada_resolved.specs.Sizes.{words}
 use Rattle.statement_code.specs.Numbers.{AreWords, ExprFits, PartsFit, ActualsFit, TestFits, ValueFits}
 use Rattle.statement_code.specs.Objects.{component_of, HasComponent}
@@ -58,6 +62,21 @@ same_part (tree.element r e parts) (group ss) = refl
 -- bounds are words
 pub bounds_words : (b : Bounds) → formed.AreInBase b → AreWords b
 bounds_words b in_base = (word_is b.low in_base.0, word_is b.high in_base.1)
+
+-- static values and bounds are those that executions take
+has_number : (o : Option ℤ) (x : ℤ) → IfSome o (λ y. x ≡ y) → formed.HasNumber o → formed.IsInBase x
+has_number None x exact has = absurd has
+has_number (Some y) x exact has = subst formed.IsInBase (sym exact) has
+
+has_bounds : (o : Option Bounds) (b : Bounds) → IfSome o (λ c. b ≡ c) → formed.HasBounds o → formed.AreInBase b
+has_bounds None b exact has = absurd has
+has_bounds (Some c) b exact has = subst formed.AreInBase (sym exact) has
+
+pub number_known : (p : Program) (inst : ℕ) (shape : tree.Object → Shape) (e : type.Static) → formed.IsNumber p inst shape e → formed.IsInBase (number_in p inst e)
+number_known p inst shape e has = has_number (static_value (values_of p) inst e) (number_in p inst e) (value_exact p inst e) has
+
+pub range_known : (p : Program) (inst : ℕ) (shape : tree.Object → Shape) (r : type.Range) → formed.IsRange p inst shape r → formed.AreInBase (bounds_in p inst r)
+range_known p inst shape r has = has_bounds (static_bounds (values_of p) inst r) (bounds_in p inst r) (bounds_exact p inst r) has
 
 -- an object of a type has words
 product_some : (m n : ℕ) → 1 ≤ n → 1 ≤ suc m * n
@@ -129,14 +148,14 @@ module _ (p : Program) (inst : ℕ) (shape shape_of : tree.Object → Shape) (ho
     mutual
       pub expr_formed : (e : tree.Expr) → formed.IsExpr p inst shape Sees e → IsPlainExpr p inst shape_of home_of site Bodies Seen e × ExprFits p inst e
       expr_formed (tree.literal x) is = (is, tt)
-      expr_formed (tree.constant e) is = (is, tt)
-      expr_formed (tree.attribute o parts e) is = let q = parts_formed parts (shape o) is.1.0 in ((seen o is.0, (moved o parts is.0 q.0, is.1.1)), q.1)
+      expr_formed (tree.constant e) is = (number_known p inst shape e is, tt)
+      expr_formed (tree.attribute o parts e) is = let q = parts_formed parts (shape o) is.1.0 in ((seen o is.0, (moved o parts is.0 q.0, number_known p inst shape e is.1.1)), q.1)
       expr_formed (tree.read o parts) is = let q = parts_formed parts (shape o) is.1.0 in ((seen o is.0, (moved o parts is.0 q.0, scalar_part o parts is.0 is.1.1)), q.1)
       expr_formed (tree.signed s e) is = expr_formed e is
       expr_formed (tree.operation o e f) is = let x = expr_formed e is.0 in let y = expr_formed f is.1 in ((x.0, y.0), (x.1, y.1))
       expr_formed (tree.relation r e f) is = let x = expr_formed e is.0 in let y = expr_formed f is.1 in ((x.0, y.0), (x.1, y.1))
       expr_formed (tree.complement e) is = expr_formed e is
-      expr_formed (tree.conversion r e) is = let x = expr_formed e is.1 in (x.0, (bounds_words (bounds_in p inst r) is.0, x.1))
+      expr_formed (tree.conversion r e) is = let x = expr_formed e is.1 in (x.0, (bounds_words (bounds_in p inst r) (range_known p inst shape r is.0), x.1))
       expr_formed (tree.call c actuals) is =
           let b = callable true (target_in p inst c) is.0 in
           let q = actuals_formed actuals (parameters_of p (target_in p inst c)) is.1 in
@@ -167,7 +186,7 @@ module _ (p : Program) (inst : ℕ) (shape shape_of : tree.Object → Shape) (ho
           let q = parts_formed parts (shape o) are.1.1.1.1.0 in
           let more = actuals_formed rest (drop 1 qs) are.1.1.1.1.1.1.1 in (
             (are.0, (word_if (next_parameter qs).shape are.1.0, (given_if (next_parameter qs).mode are.1.1.0, (seen o are.1.1.1.0, (moved o parts are.1.1.1.0 q.0, (scalar_part o parts are.1.1.1.0 are.1.1.1.1.1.0, more.0)))))),
-            (q.1, (bounds_words (bounds_in p inst r) are.1.1.1.1.1.1.0, more.1)),
+            (q.1, (bounds_words (bounds_in p inst r) (range_known p inst shape r are.1.1.1.1.1.1.0), more.1)),
           )
       actuals_formed (tree.by_composite o parts rest) qs are =
           let q = parts_formed parts (shape o) are.1.1.1.0 in
@@ -183,7 +202,7 @@ module _ (p : Program) (inst : ℕ) (shape shape_of : tree.Object → Shape) (ho
 
     pub value_formed : (v : tree.NewValue) (s : Shape) → formed.IsType s → formed.IsValue p inst shape Sees s v
         → IsPlainValue p inst shape_of home_of site Bodies Seen s v × ValueFits p inst v
-    value_formed (tree.scalar_value r e) s typed is = let x = expr_formed e is.1.1 in ((word_if s is.0, x.0), (bounds_words (bounds_in p inst r) is.1.0, x.1))
+    value_formed (tree.scalar_value r e) s typed is = let x = expr_formed e is.1.1 in ((word_if s is.0, x.0), (bounds_words (bounds_in p inst r) (range_known p inst shape r is.1.0), x.1))
     value_formed (tree.composite_value t o parts) s typed is =
         let q = parts_formed parts (shape o) is.1.0 in ((seen o is.0, (moved o parts is.0 q.0, (sym (same_place o parts is.0) ∙ is.1.1.0, is.1.1.1))), q.1)
     value_formed (tree.others_value r v) (word b) typed is = absurd is

@@ -17,7 +17,7 @@ use Rattle.statement_code.specs.Sets.{IsPlainValue}
 use Rattle.statement_code.specs.Stores.{HasWords}
 use Rattle.statement_code.specs.Values.{Home, Site, IsWord, IsComposite, IsBody, arguments, ArePlainParts}
 use Rattle.statement_code.proofs.Formed as expression
-use Rattle.statement_code.proofs.Formed.{word_if, chosen_if, same_part, bounds_words, type_has}
+use Rattle.statement_code.proofs.Formed.{number_known, range_known, word_if, chosen_if, same_part, bounds_words, type_has}
 use Rattle.statement_code.proofs.Fragments.{first_all, second_all}
 use Rattle.statement_code.proofs.Numbers.{word_is}
 
@@ -86,7 +86,7 @@ module _ (p : Program) (inst : ℕ) (shape shape_of : tree.Object → Shape) (ho
 
     turns_formed : (ts : tree.LoopRange) (Sees Seen : tree.Object → Type 0) → AreSeen Sees Seen → formed.IsTurns p inst shape Sees ts
         → IsPlainRange p inst shape_of home_of site Bodies layout_of content Declares K.exceptions gives Seen ts × RangeFits p inst ts
-    turns_formed (tree.over_subtype r) Sees Seen seen is = (is, tt)
+    turns_formed (tree.over_subtype r) Sees Seen seen is = (range_known p inst shape r is, tt)
     turns_formed (tree.over_bounds e f) Sees Seen seen is =
         let x = expression.expr_formed p inst shape shape_of home_of site Bodies callable Sees Seen seen.seen seen.same e is.0 in
         let y = expression.expr_formed p inst shape shape_of home_of site Bodies callable Sees Seen seen.seen seen.same f is.1 in
@@ -108,10 +108,10 @@ module _ (p : Program) (inst : ℕ) (shape shape_of : tree.Object → Shape) (ho
             seen.seen o is.0,
             (
               subst (λ a. ArePlainParts p inst shape_of home_of site Bodies Seen a parts) (seen.same o is.0) q.0,
-              (expression.scalar_part p inst shape shape_of home_of site Bodies callable Sees Seen seen.seen seen.same o parts is.0 is.1.1.0, is.1.1.1),
+              (expression.scalar_part p inst shape shape_of home_of site Bodies callable Sees Seen seen.seen seen.same o parts is.0 is.1.1.0, range_known p inst shape r is.1.1.1),
             ),
           ),
-          (q.1, (bounds_words (bounds_in p inst r) is.1.1.1, tt)),
+          (q.1, (bounds_words (bounds_in p inst r) (range_known p inst shape r is.1.1.1), tt)),
         )
     call_formed get_target tree.no_actual Sees Seen seen is = absurd is
     call_formed get_target (tree.by_expression e rest) Sees Seen seen is = absurd is
@@ -128,8 +128,8 @@ module _ (p : Program) (inst : ℕ) (shape shape_of : tree.Object → Shape) (ho
 
     choices_formed : (cs : List tree.Choice) → Everywhere (formed.IsChoice p inst shape) cs → Everywhere (ChoiceFits p inst) cs
     choices_formed [] are = tt
-    choices_formed (tree.value_choice e ∷ cs) are = (word_is (number_in p inst e) are.0, choices_formed cs are.1)
-    choices_formed (tree.range_choice e f ∷ cs) are = ((word_is (number_in p inst e) are.0.0, word_is (number_in p inst f) are.0.1), choices_formed cs are.1)
+    choices_formed (tree.value_choice e ∷ cs) are = (word_is (number_in p inst e) (number_known p inst shape e are.0), choices_formed cs are.1)
+    choices_formed (tree.range_choice e f ∷ cs) are = ((word_is (number_in p inst e) (number_known p inst shape e are.0.0), word_is (number_in p inst f) (number_known p inst shape f are.0.1)), choices_formed cs are.1)
     choices_formed (tree.other_values ∷ cs) are = (tt, choices_formed cs are.1)
 
     exceptions_formed : (cs : List tree.ExceptionChoice) → Everywhere (formed.IsExceptionChoice p inst shape) cs → Everywhere (ExceptionChoiceFits p inst) cs
@@ -177,7 +177,7 @@ module _ (p : Program) (inst : ℕ) (shape shape_of : tree.Object → Shape) (ho
       statement_formed (tree.return_statement l) Sees Seen x handling seen are is = (is, tt)
       statement_formed (tree.return_value l r e) Sees Seen x handling seen are is =
           let y = expression.expr_formed p inst shape shape_of home_of site Bodies callable Sees Seen seen.seen seen.same e is.1.1 in
-          ((is.0, y.0), (bounds_words (bounds_in p inst r) is.1.0, y.1))
+          ((is.0, y.0), (bounds_words (bounds_in p inst r) (range_known p inst shape r is.1.0), y.1))
       statement_formed (tree.raise_statement l e) Sees Seen x handling seen are is = ((is.0, omega (arith, is.1, exceptions)), tt)
       statement_formed (tree.raise_again l) Sees Seen x handling seen are is = (is, tt)
       statement_formed (tree.block_statement b) Sees Seen x handling seen are is = block_formed b Sees Seen x handling seen are is
