@@ -1,6 +1,7 @@
 -- Expressions, names, actuals and values of well-formed programs are such that code can be made of them, and their numbers fit.
 use Rattle.std.proofs.Common.{◌≡◌, ℕ, zero, suc, ◌*◌, ◌≤◌, Bool, true, Option, Some, None, ℤ, List, [], ◌∷◌, drop, length, refl, sym, ap, subst, ◌∙◌, arith}
 use Rattle.std.specs.Option.{IfSome}
+use Rattle.std.specs.Prelude.{unwrap_or}
 use Rattle.ada_meaning.specs.Calls.{next_parameter}
 use Rattle.ada_meaning.specs.Program.{Bounds, Mode, in_mode, out_mode, in_out_mode, Target, Program}
 use Rattle.ada_meaning.specs.Resolved.{ResolvedParameter, number_in, bounds_in, target_in, parameters_of}
@@ -77,6 +78,23 @@ number_known p inst shape e has = has_number (static_value (values_of p) inst e)
 
 pub range_known : (p : Program) (inst : ℕ) (shape : tree.Object → Shape) (r : type.Range) → formed.IsRange p inst shape r → formed.AreInBase (bounds_in p inst r)
 range_known p inst shape r has = has_bounds (static_bounds (values_of p) inst r) (bounds_in p inst r) (bounds_exact p inst r) has
+
+-- and what stands for a value that is none is not looked at
+found_number : (o : Option ℤ) (x d : ℤ) → IfSome o (λ y. x ≡ y) → formed.HasNumber o → unwrap_or o d ≡ x
+found_number None x d exact has = absurd has
+found_number (Some y) x d exact has = sym exact
+
+found_bounds : (o : Option Bounds) (b d : Bounds) → IfSome o (λ c. b ≡ c) → formed.HasBounds o → unwrap_or o d ≡ b
+found_bounds None b d exact has = absurd has
+found_bounds (Some c) b d exact has = sym exact
+
+pub number_found : (p : Program) (inst : ℕ) (shape : tree.Object → Shape) (e : type.Static) (d : ℤ) → formed.IsNumber p inst shape e
+    → unwrap_or (static_value (values_of p) inst e) d ≡ number_in p inst e
+number_found p inst shape e d has = found_number (static_value (values_of p) inst e) (number_in p inst e) d (value_exact p inst e) has
+
+pub range_found : (p : Program) (inst : ℕ) (shape : tree.Object → Shape) (r : type.Range) (d : Bounds) → formed.IsRange p inst shape r
+    → unwrap_or (static_bounds (values_of p) inst r) d ≡ bounds_in p inst r
+range_found p inst shape r d has = found_bounds (static_bounds (values_of p) inst r) (bounds_in p inst r) d (bounds_exact p inst r) has
 
 -- an object of a type has words
 product_some : (m n : ℕ) → 1 ≤ n → 1 ≤ suc m * n

@@ -39,4 +39,5 @@ pub mod Worked
 pub mod Formed
 pub mod FormedBlocks
 pub mod Laid
+pub mod Stacked
 pub mod Alike

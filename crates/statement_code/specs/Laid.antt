@@ -24,7 +24,7 @@ use Rattle.statement_code.specs.Names.{Names}
 use Rattle.statement_code.specs.Numbers.{ShapeFits}
 use Rattle.statement_code.specs.Objects.{CellsOf}
 use Rattle.statement_code.specs.Programs.{Plan, slot_in_plan, size_in_plan, AreLaid, IsOutside, IsLibrary}
-use Rattle.statement_code.specs.Statements.{end_of_block, HasLayout}
+use Rattle.statement_code.specs.Statements.{end_of_block, IsInFrame, HasLayout}
 use Rattle.statement_code.specs.Values.{in_frame, arguments, IsWord, IsComposite}
 
 -- A parameter with this number, of so many: a scalar one stands in the slot of its number; a composite one behind the slots of all
@@ -37,6 +37,16 @@ pub record IsParameterPlaced (plan : Plan) (count : ℕ) (q : ResolvedParameter)
 abbrev pub AreParametersPlaced : Plan → (count : ℕ) → List ResolvedParameter → ℕ → Type 0
 AreParametersPlaced plan count [] i = Unit {0}
 AreParametersPlaced plan count (q ∷ qs) i = IsParameterPlaced plan count q i × AreParametersPlaced plan count qs (i + 1)
+
+-- Objects of a body stand behind one another from a slot on, below the slots to work in: that is a way to lay them out.
+pub record IsStacked (plan : Plan) (from d : ℕ) : Type 0 where
+  pub framed : IsInFrame (plan.home_of (tree.local_object d))
+  pub behind : from + size_in_plan plan d ≤ slot_in_plan plan d + 1
+  pub below : slot_in_plan plan d < plan.base
+
+abbrev pub AreStacked : Plan → (from : ℕ) → List ℕ → Type 0
+AreStacked plan from [] = Unit {0}
+AreStacked plan from (d ∷ ds) = IsStacked plan from d × AreStacked plan (slot_in_plan plan d + 1) ds
 
 module _ (p : Program) (K : Kernel) (s : Scheme) where
   -- The body of a subprogram in an instance, by its plan, and by names that come to what they mean there. Its objects have the shapes of their

@@ -5,6 +5,7 @@ ghost use Rattle.ada_meaning.specs.Bodies.{Body, bodies_of, IsBody};
 ghost use Rattle.ada_meaning.specs.Collected.{labels_of, decisions_of};
 ghost use Rattle.ada_meaning.specs.Execution as source;
 ghost use Rattle.ada_meaning.specs.Execution.{Execution, Ends};
+ghost use Rattle.ada_meaning.specs.Objects.{AreDistinct};
 ghost use Rattle.ada_meaning.specs.Obligations.{IsNumbered};
 ghost use Rattle.ada_meaning.specs.Program.{Program};
 ghost use Rattle.ada_meaning.specs.WellFormed.{IsWellFormed as IsWellFormedProgram};
@@ -24,9 +25,9 @@ ghost use Rattle.statement_code.specs.Copies.{layouts_nodes, AreCovered};
 ghost use Rattle.statement_code.specs.Fragments.{CodeLeaves, row_in, conditions_in};
 ghost use Rattle.statement_code.specs.Kernels.{Scheme, IsKernelBy, IsWhole};
 ghost use Rattle.statement_code.specs.Kernels.{AreOutside, place_of, rows_of, conditions_of, expanded_nodes};
-ghost use Rattle.statement_code.specs.Laid.{IsLaidKernel};
+ghost use Rattle.statement_code.specs.Laid.{AreStacked, IsLaidKernel};
 ghost use Rattle.statement_code.specs.Own.{MarksOnce};
-ghost use Rattle.statement_code.specs.Programs.{Same};
+ghost use Rattle.statement_code.specs.Programs.{Plan, AreLaid, Same};
 ghost use Rattle.statement_code.specs.Sizes.{subprogram_nodes};
 
 /// Under each fuel but 512, which is the greatest depth of calls, a program and a kernel that is made
@@ -63,10 +64,13 @@ pub fn bodies_are_listed_once()
 {}
 
 /// The kernel of a well-formed program is whole where its bodies are those of the program, each laid out in
-/// its frame, and the library level stands below all frames.
-#[tactic(auto, using(crate::proofs::Laid::whole_law))]
+/// its frame, and the library level stands below all frames. Objects that stand behind one another are laid
+/// out.
 pub fn laid_kernels_are_whole()
-    ensures { (p : Program) (K : Kernel) (s : Scheme) → IsWellFormedProgram p → IsLaidKernel p K s → IsWhole p K s }
+    ensures whole { (p : Program) (K : Kernel) (s : Scheme) → IsWellFormedProgram p → IsLaidKernel p K s
+        → IsWhole p K s }
+    ensures stacked { (plan : Plan) (objects : List ℕ) (from : ℕ) → AreStacked plan from objects
+        → AreDistinct objects → AreLaid plan objects }
 {}
 
 /// The kernel of a program is well-formed, where decisions have the graphs of their expressions, and at
