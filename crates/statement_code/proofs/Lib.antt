@@ -35,9 +35,9 @@ pub mod Kernels
 pub mod Own
 pub mod Places
 pub mod Once
-pub mod Worked
 pub mod Formed
 pub mod FormedBlocks
 pub mod Laid
 pub mod Stacked
 pub mod Alike
+pub mod Worked
