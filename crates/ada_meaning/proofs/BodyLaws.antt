@@ -82,7 +82,7 @@ listed_instance g n at (i ∷ is) h = by_cases (listed_cases _ (nat_eq i.generic
   by_cases (inr f) k = found_behind g n at i is (k f)
 
 module _ (p : Program) where
-  instances_listed : (g : Option ℕ) (i : ℕ) → StandsIn p g i → Somewhere (λ x. x ≡ i) (instances_of g p.instances)
+  pub instances_listed : (g : Option ℕ) (i : ℕ) → StandsIn p g i → Somewhere (λ x. x ≡ i) (instances_of g p.instances)
   instances_listed None i h = inl (sym h)
   instances_listed (Some g) zero h = absurd h
   instances_listed (Some g) (suc i) h = instance_listed g 1 (suc i) i p.instances (omega arith) h

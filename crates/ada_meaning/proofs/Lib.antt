@@ -16,3 +16,4 @@ pub mod CopyExecution
 pub mod StaticValues
 pub mod SeenShapes
 pub mod BodyLaws
+pub mod FormedLaws

@@ -18,3 +18,5 @@ pub mod Refines
 pub mod Events
 pub mod Objects
 pub mod Copies
+pub mod Declared
+pub mod WellFormed

@@ -7,6 +7,7 @@
 //!   `Bodies`: subprograms in the instances of their generics; `Calls`: what calls hand over;
 //! - `Expressions`, `Statements`, `Execution`: what a program does;
 //! - `Collected`, `Obligations`, `Objects`: obligations, and the numbers in the trees;
+//! - `Declared`, `WellFormed`: what code needs of a program, and the rules of the language ensure;
 //! - `Copies`: copies of generics; `Refines`, `Events`: what the laws speak of.
 //!
 //! The functions here do nothing: each carries a law of the definitions as its contract.
@@ -27,15 +28,17 @@ ghost use Rattle.ada_meaning.specs.Copies.{block_copy, exec_copies};
 ghost use Rattle.ada_meaning.specs.Events.{IsEventOf, IsNoted};
 ghost use Rattle.ada_meaning.specs.Execution.{exec, events_at, output_at, Execution, Ends};
 ghost use Rattle.ada_meaning.specs.Expressions.{test, decides, Evaluation};
-ghost use Rattle.ada_meaning.specs.Program.{Program};
+ghost use Rattle.ada_meaning.specs.Declared.{object_shape};
+ghost use Rattle.ada_meaning.specs.Program.{Program, Subprogram};
 ghost use Rattle.ada_meaning.specs.Refines.{Refines};
 ghost use Rattle.ada_meaning.specs.Resolved.{number_in, bounds_in, shape_in};
 ghost use Rattle.ada_meaning.specs.Seen.{range_seen, subtype_seen};
 ghost use Rattle.ada_meaning.specs.State.{World, Gives};
 ghost use Rattle.ada_meaning.specs.Statements.{does_block};
 ghost use Rattle.ada_meaning.specs.Statics.{static_value, static_bounds, values_of};
-ghost use Rattle.ada_meaning.specs.Tree.{Block, Label, Test, shape_of};
+ghost use Rattle.ada_meaning.specs.Tree.{Block, Label, Object, Test, shape_of};
 ghost use Rattle.ada_meaning.specs.Types.{Static, Range, Subtype};
+ghost use Rattle.ada_meaning.specs.WellFormed.{IsSubprogram, IsType, IsWellFormed, StartSees};
 
 /// With more fuel an execution that ended is the same, and one that was cut off goes on.
 #[tactic(auto, using(crate::proofs::FuelExecution::more_fuel_law))]
@@ -103,4 +106,12 @@ pub fn text_is_seen_through_instances()
 /// stands in, or, in no generic, in instance 0.
 pub fn bodies_stand_in_their_generics()
     ensures { (p : Program) (b : Body) → Somewhere (λ c. c ≡ b) (bodies_of p) ↔ IsBody p b }
+{}
+
+/// In a well-formed program each body is a well-formed subprogram in its instance, and each object that it
+/// sees where it begins has a type there, with bounds in the base range.
+pub fn well_formed_bodies_see_types()
+    ensures bodies { (p : Program) (b : Body) → IsWellFormed p → (is : IsBody p b) → IsSubprogram p b.instance is.declared }
+    ensures objects { (p : Program) (inst : ℕ) (s : Subprogram) (o : Object) → IsWellFormed p → IsSubprogram p inst s
+        → StartSees p inst s o → IsType (object_shape p inst s o) }
 {}

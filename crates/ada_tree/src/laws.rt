@@ -18,6 +18,7 @@ ghost use Rattle.ada_tree.specs.declared.types.Operator.TheVariants as operator;
 ghost use Rattle.ada_tree.specs.declared.types.Range.{Range};
 ghost use Rattle.ada_tree.specs.declared.types.ScalarRange.{ScalarRange};
 ghost use Rattle.ada_tree.specs.declared.types.ScalarRange.TheVariants as range;
+ghost use Rattle.ada_tree.specs.declared.types.Subtype.{Subtype};
 ghost use Rattle.ada_tree.specs.declared.types.Subtype.TheVariants as subtype;
 ghost use Rattle.ada_tree.specs.Programs.{program_of};
 ghost use Rattle.ada_tree.specs.View.{actuals_of, declaration_of, label_of, neutral_of, object_of, operator_of, range_of, scalar_range_of, statement_at, statements_of, value_of, with_operands, with_tests};
@@ -37,8 +38,8 @@ pub fn views_keep_their_parts()
 
 /// A declaration's view has its object, its subtype and its initial value.
 pub fn declarations_keep_their_parts()
-    ensures initialized { (l : Label) (d : ℕ) (v : NewValue)
-        → declaration_of (declaration.Initialized l d v) ≡ tree.initialized (label_of l) d (value_of v) }
+    ensures initialized { (l : Label) (d : ℕ) (t : Subtype) (v : NewValue)
+        → declaration_of (declaration.Initialized l d t v) ≡ tree.initialized (label_of l) d (value_of v) }
     ensures without_value { (d : ℕ) (r : ScalarRange)
         → declaration_of (declaration.WithoutValue d (subtype.Scalar r)) ≡ tree.without_value d (type.scalar (scalar_range_of r)) }
     ensures value { (r : ScalarRange) (e : tree.Expr) → value_of (value.Scalar r e) ≡ tree.scalar_value (scalar_range_of r) e }

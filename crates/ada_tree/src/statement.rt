@@ -67,11 +67,11 @@ pub struct ForScheme {
     pub values: LoopRange,
 }
 
-/// A declaration of an object (RM 3.3.1), by its number among those of the subprogram.
+/// A declaration of an object (RM 3.3.1), by its number among those of the subprogram, with its subtype.
 #[derive(Drop)]
 pub enum Declaration {
     /// With an initial value, and so a statement obligation.
-    Initialized(Label, u32, NewValue),
+    Initialized(Label, u32, Subtype, NewValue),
     WithoutValue(u32, Subtype),
 }
 

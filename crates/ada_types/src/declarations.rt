@@ -152,7 +152,8 @@ fn declared_set(
     ensures { IfOk result (λ o. set_to (label_of label) names.now object (value_of value) ≡ option_map declarations_view o) }
 {
     if names.len() == 1 {
-        let declaration = ada_tree::Declaration::Initialized(label, object.number, value);
+        let subtype = Subtype::Scalar(ScalarRange::Known(object.subtype.range));
+        let declaration = ada_tree::Declaration::Initialized(label, object.number, subtype, value);
         Ok(Some(vec![in alloc; declaration]?))
     } else {
         Ok(None)

@@ -30,3 +30,14 @@ pub mod Examples
 pub mod Bodies
 pub mod Stages
 pub mod Programs
+pub mod AllFuels
+pub mod Kernels
+pub mod Own
+pub mod Places
+pub mod Once
+pub mod Formed
+pub mod FormedBlocks
+pub mod Laid
+pub mod Stacked
+pub mod Alike
+pub mod Worked

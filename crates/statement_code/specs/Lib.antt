@@ -15,3 +15,8 @@ pub mod Numbers
 pub mod Fragments
 pub mod Copies
 pub mod Programs
+pub mod AllFuels
+pub mod Kernels
+pub mod Own
+pub mod Laid
+pub mod Alike
