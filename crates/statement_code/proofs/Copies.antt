@@ -23,7 +23,7 @@ use Rattle.kernel_ir.specs.Obligations.{Condition, rows, conditions, code_condit
 use Rattle.kernel_ir.specs.Sequence.{joined}
 use Rattle.kernel_ir.specs.Tree.{Code}
 use Rattle.statement_code.specs.Bodies.{parameter_in, scalar_parameter, composite_parameter, parameter_code, parameters_code, ending_code}
-use Rattle.statement_code.specs.Copies.{Copy, IsCopy, rows_in, all_conditions_in, nodes_in, layouts_nodes}
+use Rattle.statement_code.specs.Copies.{Copy, IsCopy, rows_in, all_conditions_in, nodes_in, layouts_nodes, AreCovered}
 use Rattle.statement_code.specs.Numbers.{ShapeFits, HomeFits, ParameterFits}
 use Rattle.statement_code.specs.Fragments.{HaveOthers, AreOwn, row_in, conditions_in}
 use Rattle.statement_code.specs.Sizes.{node_instructions}
@@ -147,6 +147,15 @@ layouts_short (layout.Word x ∷ ls) = omega (arith, sum_by-cons layout_instruct
 layouts_short (layout.Array times component ∷ ls) = omega (arith, sum_by-cons layout_instructions (layout.Array times component) ls, layouts_short ls)
 layouts_short (layout.Record components ∷ ls) = omega (arith, sum_by-cons layout_instructions (layout.Record components) ls, layouts_short ls)
 
+layouts_few : (ls : List Layout) → length ls ≤ layouts_nodes ls
+layouts_few [] = omega arith
+layouts_few (layout.Word x ∷ ls) = omega (arith, layouts_few ls)
+layouts_few (layout.Array times component ∷ ls) = omega (arith, layouts_few ls)
+layouts_few (layout.Record components ∷ ls) = omega (arith, layouts_few ls)
+
+pub layouts_law : (ls : List Layout) → AreCovered ls (layouts_nodes ls)
+layouts_law ls = record { few = layouts_few ls; short = layouts_short ls }
+
 copies_fit : (K : Kernel) (graph : DecId → List Edges) (cs : List Copy) → Everywhere (IsCopy K graph) cs → Everywhere (λ c. AreOwn graph c.decisions) cs
     → Everywhere (λ b. CodeFits K (b.width + most_arguments) graph b.code) (map (λ c. c.body) cs)
 copies_fit K graph [] are own = tt
@@ -171,30 +180,24 @@ module _ (K : Kernel) (graph : DecId → List Edges) (cs : List Copy) (is : K.bo
     exceptions = exceptions;
   }
 
-  pub short_law : kernel_instructions K ≤ node_instructions * (nodes_in cs + layouts_nodes K.layouts) + 16
-  short_law = omega (arith, ap (sum_by body_instructions) is, copies_short K graph cs are, layouts_short K.layouts)
+  pub short_law : (nodes : ℕ) → AreCovered K.layouts nodes → kernel_instructions K ≤ node_instructions * (nodes_in cs + nodes) + 16
+  short_law nodes covered = let short = covered.short in omega (arith, ap (sum_by body_instructions) is, copies_short K graph cs are, short)
 
   -- that many bytes
-  pub bytes_law : (n : ℕ) → nodes_in cs + layouts_nodes K.layouts ≤ n → 4 * kernel_instructions K ≤ 240 * n + 4096
-  bytes_law n few = omega (arith, short_law, few)
+  pub bytes_law : (nodes : ℕ) → AreCovered K.layouts nodes → (n : ℕ) → nodes_in cs + nodes ≤ n → 4 * kernel_instructions K ≤ 240 * n + 4096
+  bytes_law nodes covered n few = omega (arith, short_law nodes covered, few)
 
-  pub within_law : nodes_in cs + layouts_nodes K.layouts ≤ 4096 → Everywhere (λ c. (1 ≤ c.body.width) × (c.body.width + most_arguments ≤ widest)) cs → length K.library ≤ most_words
-      → Everywhere (λ c. length c.words ≤ most_words) (contents_after [] K.layouts) → IsWithin K
-  within_law few wide library contents = record {
+  pub within_law : (nodes : ℕ) → AreCovered K.layouts nodes → nodes_in cs + nodes ≤ 4096 → Everywhere (λ c. (1 ≤ c.body.width) × (c.body.width + most_arguments ≤ widest)) cs
+      → length K.library ≤ most_words → Everywhere (λ c. length c.words ≤ most_words) (contents_after [] K.layouts) → IsWithin K
+  within_law nodes covered few wide library contents = record {
     widths = subst (λ bs. Everywhere (λ b. (1 ≤ b.width) × (b.width + most_arguments ≤ widest)) bs) (sym is) (widths cs wide);
     library = library;
-    layouts = omega (arith, layouts_counted K.layouts, few);
+    layouts = let many = covered.few in omega (arith, many, few);
     contents = contents;
-    text = omega (arith, short_law, few);
+    text = omega (arith, short_law nodes covered, few);
   }
     where
       widths : (ds : List Copy) → Everywhere (λ c. (1 ≤ c.body.width) × (c.body.width + most_arguments ≤ widest)) ds
           → Everywhere (λ b. (1 ≤ b.width) × (b.width + most_arguments ≤ widest)) (map (λ c. c.body) ds)
       widths [] h = tt
       widths (d ∷ ds) h = (h.0, widths ds h.1)
-
-      layouts_counted : (ls : List Layout) → length ls ≤ layouts_nodes ls
-      layouts_counted [] = omega arith
-      layouts_counted (layout.Word x ∷ ls) = omega (arith, layouts_counted ls)
-      layouts_counted (layout.Array times component ∷ ls) = omega (arith, layouts_counted ls)
-      layouts_counted (layout.Record components ∷ ls) = omega (arith, layouts_counted ls)

@@ -30,3 +30,9 @@ pub mod Examples
 pub mod Bodies
 pub mod Stages
 pub mod Programs
+pub mod AllFuels
+pub mod Kernels
+pub mod Own
+pub mod Places
+pub mod Once
+pub mod Worked

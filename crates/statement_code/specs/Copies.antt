@@ -1,5 +1,5 @@
 -- The bodies of a kernel, each with what it is a copy of.
-use Rattle.std.specs.Prelude.{ℕ, suc, ◌+◌, ◌*◌, false, List, [], ◌∷◌, ◌++◌, map, length}
+use Rattle.std.specs.Prelude.{ℕ, suc, ◌+◌, ◌*◌, ◌≤◌, false, List, [], ◌∷◌, ◌++◌, map, length, sum_by}
 use Rattle.cov_base.specs.declared.position.DecId.{DecId}
 use Rattle.cov_base.specs.Graph.{Edges}
 use Rattle.ada_meaning.specs.Collected.{Decision}
@@ -8,7 +8,7 @@ use Rattle.kernel_ir.specs.declared.kernel.Body.{Body}
 use Rattle.kernel_ir.specs.declared.kernel.Kernel.{Kernel}
 use Rattle.kernel_ir.specs.declared.kernel.Layout.{Layout}
 use Rattle.kernel_ir.specs.declared.kernel.Layout.TheVariants as layout
-use Rattle.kernel_ir.specs.Limits.{most_arguments}
+use Rattle.kernel_ir.specs.Limits.{layout_instructions, most_arguments}
 use Rattle.kernel_ir.specs.Obligations.{Row, Condition}
 use Rattle.statement_code.specs.Fragments.{Fragment, row_in, conditions_in}
 use Rattle.statement_code.specs.Sizes.{node_instructions}
@@ -49,3 +49,8 @@ layout_nodes (layout.Record components) = suc (length components)
 abbrev pub layouts_nodes : List Layout → ℕ
 layouts_nodes [] = 0
 layouts_nodes (l ∷ ls) = layout_nodes l + layouts_nodes ls
+
+-- layouts that are no more than so many nodes, and no longer than these allow
+pub record AreCovered (layouts : List Layout) (nodes : ℕ) : Type 0 where
+  pub few : length layouts ≤ nodes
+  pub short : sum_by layout_instructions layouts ≤ node_instructions * nodes

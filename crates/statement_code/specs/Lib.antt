@@ -15,3 +15,6 @@ pub mod Numbers
 pub mod Fragments
 pub mod Copies
 pub mod Programs
+pub mod AllFuels
+pub mod Kernels
+pub mod Own

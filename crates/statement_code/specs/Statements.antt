@@ -139,8 +139,7 @@ module _ (names : Names) (shape_of : tree.Object → Shape) (home_of : tree.Obje
   backs_code k i qs tree.no_actual = no_op
   backs_code k i qs (tree.by_expression e rest) = backs_code (k + 1) (i + 1) (drop 1 qs) rest
   backs_code k i qs (tree.by_variable o tree.whole r rest) =
-      and_op (simple (within (site.width + i) (names.bounds r)))
-      (and_op (simple (keep_on (site.width + i) (home_of o))) (backs_code (k + 1) (i + 1) (drop 1 qs) rest))
+      and_op (simple (within (site.width + i) (names.bounds r))) (and_op (simple (keep_on (site.width + i) (home_of o))) (backs_code (k + 1) (i + 1) (drop 1 qs) rest))
   backs_code k i qs (tree.by_variable o (tree.component n parts) r rest) =
       and_op (simple (within (site.width + i) (names.bounds r)))
       (and_op (simple (op.Store k (site.width + i))) (backs_code (k + 2) (i + 1) (drop 1 qs) rest))
