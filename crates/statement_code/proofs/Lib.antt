@@ -36,7 +36,3 @@ pub mod Own
 pub mod Places
 pub mod Once
 pub mod Worked
-pub mod Formed
-pub mod FormedNumbers
-pub mod Planning
-pub mod SchemeLaws

@@ -18,4 +18,3 @@ pub mod Programs
 pub mod AllFuels
 pub mod Kernels
 pub mod Own
-pub mod Planned

@@ -16,7 +16,6 @@
 //! | `AllFuels` | what a kernel does on an input, under all fuels together |
 //! | `Fragments`, `Copies` | what code marks, names and leaves, and how long it is; a kernel of bodies |
 //! | `Kernels`, `Own` | the kernel of a whole program, by a scheme; which obligations it marks, and how often |
-//! | `Planned` | what a scheme lays out for a well-formed program |
 //!
 //! The law of statements is `block_does` in `proofs/Statements.antt`: where the cells of objects lie apart from what
 //! is kept and from the slots that are worked in, and calls do what `Calls` says, a block and its code both go on,
@@ -35,20 +34,14 @@
 //! ([`kernels_do_what_their_programs_do`]), and ends exactly where the program's execution ends
 //! ([`kernels_end_where_their_programs_end`]).
 //!
-//! Where the program is well-formed (`WellFormed` of ada_meaning), all that its text has to be for that follows:
-//! a scheme tells where objects stand and which layouts they have, and no more (`Planned`,
-//! [`schemes_serve_well_formed_programs`]).
-//!
 //! `lower` does not stand on this yet: it makes code of programs whose objects are single words, by definitions of
 //! its own.
 #![tactic(auto)]
 
 mod laws;
-mod schemes;
 
 pub use laws::{
     bodies_are_listed_once, costs_are_covered, kernels_are_small,
     kernels_do_what_their_programs_do, kernels_end_where_their_programs_end,
     kernels_hold_the_obligations,
 };
-pub use schemes::schemes_serve_well_formed_programs;
