@@ -1,5 +1,5 @@
 -- A kernel ends exactly where its program does, and begins as it under each fuel.
-use Rattle.std.proofs.Common.{◌≡◌, ◌≢◌, ℕ, suc, eqb, true, false, ◌≤◌, ℤ, List, [], reverse, Option, Some, None, refl, sym, ap, ◌∙◌, subst, arith, ◌⊎◌, inl, inr}
+use Rattle.std.proofs.Common.{◌≡◌, ◌≢◌, ℕ, suc, ◌+◌, ◌*◌, eqb, true, false, ◌≤◌, ℤ, List, [], reverse, Option, Some, None, refl, sym, ap, ◌∙◌, subst, arith, ◌⊎◌, inl, inr}
 use Rattle.std.proofs.lemmas.Bool.Decides.{eqb_tells}
 use Rattle.ada_meaning.specs.Execution as source
 use Rattle.ada_meaning.specs.Execution.{Execution, by_return, by_exception, execution_of, Ends}
@@ -13,7 +13,7 @@ use Rattle.kernel_ir.specs.Meaning as code
 use Rattle.kernel_ir.specs.World.{Ended, world_in}
 use Rattle.kernel_ir.specs.World as kernel
 use Rattle.kernel_ir.proofs.Fuel.{more_fuel_law as kernel_more}
-use Rattle.statement_code.specs.AllFuels.{IsObservedOf, EndsAs, HasEnded, Begins, Follows}
+use Rattle.statement_code.specs.AllFuels.{IsObservedOf, EndsAs, HasEnded, Begins, Follows, EndsInTime}
 use Rattle.statement_code.specs.Frames.{Observed}
 use Rattle.statement_code.specs.Kernels.{Scheme, BodyBy, IsKernelBy}
 use Rattle.statement_code.specs.Programs.{Same}
@@ -168,3 +168,16 @@ kernel_law p K s is fuel input other = same_law p K s.number s.library (BodyBy p
 pub follows_law : (p : Program) (K : Kernel) (s : Scheme) → IsKernelBy p K s → (input : List ℤ) → Follows p K input
 unfolding source.deepest
 follows_law p K s is input = follows_from p K input (λ fuel other. kernel_law p K s is fuel input other)
+
+-- the cost of a kernel that ends as an execution does
+ends_cheaply : (x : Execution) (e : Ended) → EndsAs x e → 32 * (world_in e).seen.cost + 8 ≤ 500 * x.cost + 5000
+ends_cheaply x (kernel.Ends v) ends = let cost = ends.1.cost in omega (arith, cost)
+ends_cheaply x (kernel.Raises f v) ends = let cost = ends.1.cost in omega (arith, cost)
+ends_cheaply x (kernel.Exits v) ends = absurd ends
+ends_cheaply x (kernel.Returns v) ends = absurd ends
+ends_cheaply x (kernel.Cut v) ends = absurd ends
+
+pub in_time_law : (p : Program) (K : Kernel) (s : Scheme) → IsKernelBy p K s → (input : List ℤ) (x : Execution) → Ends p input x → EndsInTime x K input
+in_time_law p K s is input x ends =
+    let f = (follows_law p K s is input).ends x ends in
+    record { fuel = f.0; ends = f.1; time = ends_cheaply x (code.exec K f.0 input) f.1 }

@@ -25,11 +25,11 @@ no_more : {X : Type 0} (xs : List X) → xs ++ [] ≡ xs
 no_more xs = append-nil xs
 
 -- what holds of two lists holds of each
-first_all : {X : Type 0} (P : X → Type 0) (xs ys : List X) → Everywhere P (xs ++ ys) → Everywhere P xs
+pub first_all : {X : Type 0} (P : X → Type 0) (xs ys : List X) → Everywhere P (xs ++ ys) → Everywhere P xs
 first_all P [] ys h = tt
 first_all P (x ∷ xs) ys h = (h.0, first_all P xs ys h.1)
 
-second_all : {X : Type 0} (P : X → Type 0) (xs ys : List X) → Everywhere P (xs ++ ys) → Everywhere P ys
+pub second_all : {X : Type 0} (P : X → Type 0) (xs ys : List X) → Everywhere P (xs ++ ys) → Everywhere P ys
 second_all P [] ys h = h
 second_all P (x ∷ xs) ys h = second_all P xs ys h.1
 

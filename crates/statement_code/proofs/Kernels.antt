@@ -1,5 +1,5 @@
 -- Kernels of whole programs: their bodies are copies of the program's texts.
-use Rattle.std.proofs.Common.{◌≡◌, ℕ, zero, suc, ◌+◌, ◌*◌, ◌<◌, ◌≤◌, inl, inr, Bool, false, List, [], ◌∷◌, ◌++◌, map, length, sum_by, Some, option_map, slice_get, refl, sym, ap, subst, ◌∙◌, arith}
+use Rattle.std.proofs.Common.{◌≡◌, ℕ, ℤ, zero, suc, ◌+◌, ◌*◌, ◌<◌, ◌≤◌, inl, inr, Bool, false, List, [], ◌∷◌, ◌++◌, map, length, sum_by, Some, option_map, slice_get, refl, sym, ap, subst, ◌∙◌, arith}
 use Rattle.std.specs.Prelude.{unwrap_or}
 use Rattle.std.proofs.lemmas.List.{length-map}
 use Rattle.std.proofs.lemmas.List.Sums.{sum_by-cons}
@@ -13,15 +13,18 @@ use Rattle.ada_meaning.specs.Execution.{library_place}
 use Rattle.ada_meaning.specs.Program.{out_mode, Subprogram, body_target, Program}
 use Rattle.ada_meaning.specs.Resolved.{ResolvedParameter, parameters_of_subprogram, parameter_in, parameters_of, owner_in}
 use Rattle.ada_meaning.specs.Tree as tree
+use Rattle.kernel_ir.proofs.Numbers.{exec_raises}
 use Rattle.kernel_ir.specs.declared.kernel.Body.{Body as KernelBody}
 use Rattle.kernel_ir.specs.declared.kernel.Kernel.{Kernel}
 use Rattle.kernel_ir.specs.Layouts.{content_in}
 use Rattle.kernel_ir.specs.Limits.{IsWellFormed, IsWithin, kernel_instructions, most_arguments, widest}
+use Rattle.kernel_ir.specs.Laws.{RaisesOneOf}
+use Rattle.kernel_ir.specs.Meaning.{exec}
 use Rattle.kernel_ir.specs.Obligations.{Condition, rows, conditions}
 use Rattle.kernel_ir.specs.World.{data_word}
 use Rattle.statement_code.specs.Bodies.{IsParameterOf, body_code}
 use Rattle.statement_code.specs.Copies.{Copy, IsCopy, rows_in, all_conditions_in, nodes_in, AreCovered}
-use Rattle.statement_code.specs.Fragments.{AreOwn, Fragment, row_in, conditions_in}
+use Rattle.statement_code.specs.Fragments.{AreOwn, CodeLeaves, Fragment, row_in, conditions_in}
 use Rattle.statement_code.specs.Kernels.{Scheme, text_at, nodes_at, BodyBy, HasRoom, IsWhole, rows_of, conditions_of, expanded_nodes}
 use Rattle.statement_code.specs.Names.{names_in}
 use Rattle.statement_code.specs.Numbers.{ShapeFits, HomeFits, BodiesFit, ObjectsFit, ParametersFit, ParameterFits, BlockFits}
@@ -41,7 +44,7 @@ within_list [] n x is = cc is
 within_list (y ∷ ys) zero x is = omega arith
 within_list (y ∷ ys) (suc n) x is = let lt = within_list ys n x is in omega (arith, lt)
 
-found_there : {X : Type 0} (xs : List X) (n : ℕ) (x : X) → slice_get xs n ≡ Some x → Somewhere (λ y. y ≡ x) xs
+pub found_there : {X : Type 0} (xs : List X) (n : ℕ) (x : X) → slice_get xs n ≡ Some x → Somewhere (λ y. y ≡ x) xs
 found_there [] n x is = cc is
 found_there (y ∷ ys) zero x is = inl (cc is)
 found_there (y ∷ ys) (suc n) x is = inr (found_there ys n x is)
@@ -50,13 +53,13 @@ same_found : {X : Type 0} (xs : List X) (n : ℕ) (x y : X) → slice_get xs n �
 same_found xs n x y is also = cc (sym is ∙ also)
 
 -- what each item is, this one is
-each_is : {X : Type 0} (P : X → Type 0) (xs : List X) (x : X) → Everywhere P xs → Somewhere (λ y. y ≡ x) xs → P x
+pub each_is : {X : Type 0} (P : X → Type 0) (xs : List X) (x : X) → Everywhere P xs → Somewhere (λ y. y ≡ x) xs → P x
 each_is P [] x all there = absurd there
 each_is P (y ∷ ys) x all (inl is) = subst P is all.0
 each_is P (y ∷ ys) x all (inr there) = each_is P ys x all.1 there
 
 -- an object of a body
-laid_at : (plan : Plan) (ds : List ℕ) (d : ℕ) → AreLaid plan ds → Somewhere (λ e. e ≡ d) ds → IsLaid plan d
+pub laid_at : (plan : Plan) (ds : List ℕ) (d : ℕ) → AreLaid plan ds → Somewhere (λ e. e ≡ d) ds → IsLaid plan d
 laid_at plan [] d laid there = absurd there
 laid_at plan (e ∷ ds) d laid (inl is) = subst (IsLaid plan) is laid.0
 laid_at plan (e ∷ ds) d laid (inr there) = laid_at plan ds d laid.1.1 there
@@ -76,13 +79,13 @@ text_own graph [] m own = tt
 text_own graph (s ∷ ss) zero own = first_own graph (in_block s.body) (decisions_of ss) own
 text_own graph (s ∷ ss) (suc m) own = text_own graph ss m (second_own graph (in_block s.body) (decisions_of ss) own)
 
-text_is : (ss : List Subprogram) (m : ℕ) (s : Subprogram) → slice_get ss m ≡ Some s → text_at ss m ≡ s.body
+pub text_is : (ss : List Subprogram) (m : ℕ) (s : Subprogram) → slice_get ss m ≡ Some s → text_at ss m ≡ s.body
 text_is ss m s is = ap (λ o. unwrap_or (option_map (λ t. t.body) o) (tree.block [] tree.no_statement tree.no_handler)) is
 
 nodes_are : (ss : List Subprogram) (m : ℕ) (s : Subprogram) → slice_get ss m ≡ Some s → nodes_at ss m ≡ subprogram_nodes s
 nodes_are ss m s is = ap (λ o. unwrap_or (option_map subprogram_nodes o) 0) is
 
-parameters_many : (p : Program) (j m : ℕ) (s : Subprogram) → slice_get p.subprograms m ≡ Some s → length (parameters_of p (body_target j m)) ≡ length s.parameters
+pub parameters_many : (p : Program) (j m : ℕ) (s : Subprogram) → slice_get p.subprograms m ≡ Some s → length (parameters_of p (body_target j m)) ≡ length s.parameters
 parameters_many p j m s is = length-map (parameters_of_subprogram (slice_get p.subprograms m)) (parameter_in p j) ∙ ap (λ o. length (parameters_of_subprogram o)) is
 
 -- a body of a program with the body of a kernel, as a copy
@@ -298,7 +301,22 @@ conditions_law p K s whole weight =
 pub well_formed_law : (p : Program) (K : Kernel) (s : Scheme) → IsWhole p K s → (graph : DecId → List Edges) → AreOwn graph (decisions_of p.subprograms) → IsWellFormed graph K
 well_formed_law p K s whole graph own =
     copies.well_formed_law K graph (all p K s whole) (kernel_copies p K s whole) (all_are p K s whole graph) (all_own p K s whole graph own) (main_there p K s whole) whole.layouts whole.library_words
-    whole.is_kernel.made.predefined whole.exceptions
+    whole.is_kernel.made.predefined whole.exceptions_few
+
+-- its bodies leave no loop but their own, and it raises exceptions of the program
+leaving : (ks : List KernelBody) (cs : List Copy) (K : Kernel) (graph : DecId → List Edges) → ks ≡ map (λ c. c.body) cs → Everywhere (IsCopy K graph) cs → Everywhere (λ b. CodeLeaves false b.code) ks
+leaving ks cs K graph are each = subst (λ xs. Everywhere (λ (b : KernelBody). CodeLeaves false b.code) xs) (sym are) (by_copy cs each)
+  where
+    by_copy : (ds : List Copy) → Everywhere (IsCopy K graph) ds → Everywhere (λ b. CodeLeaves false b.code) (map (λ c. c.body) ds)
+    by_copy [] h = tt
+    by_copy (d ∷ ds) h = (h.0.leaves, by_copy ds h.1)
+
+pub leaves_law : (p : Program) (K : Kernel) (s : Scheme) → IsWhole p K s → Everywhere (λ b. CodeLeaves false b.code) K.bodies
+leaves_law p K s whole = leaving K.bodies (all p K s whole) K (λ d. []) (kernel_copies p K s whole) (all_are p K s whole (λ d. []))
+
+pub raises_law : (p : Program) (K : Kernel) (s : Scheme) → IsWhole p K s → (graph : DecId → List Edges) → IsWellFormed graph K → (fuel : ℕ) (input : List ℤ)
+    → RaisesOneOf (4 + length p.exceptions) (exec K fuel input)
+raises_law p K s whole graph formed fuel input = subst (λ n. RaisesOneOf n (exec K fuel input)) whole.exceptions (exec_raises graph K formed fuel input)
 
 pub short_law : (p : Program) (K : Kernel) (s : Scheme) → IsWhole p K s → (nodes : ℕ) → AreCovered K.layouts nodes
     → kernel_instructions K ≤ node_instructions * (expanded_nodes p + nodes) + 16

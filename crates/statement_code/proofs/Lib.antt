@@ -36,3 +36,6 @@ pub mod Own
 pub mod Places
 pub mod Once
 pub mod Worked
+pub mod Formed
+pub mod FormedBlocks
+pub mod Laid

@@ -58,7 +58,7 @@ other_numbers : (i j : ℤ) → j ≢ i → holds ada.equal i j ≡ false
 other_numbers i j h = grind (arith, ints, h)
 
 -- a range between two numbers
-some_turn : (low high : ℤ) → int_le low high ≡ true → count_between low high ≡ suc (natural (high -ℤ low))
+pub some_turn : (low high : ℤ) → int_le low high ≡ true → count_between low high ≡ suc (natural (high -ℤ low))
 some_turn low high is = grind (arith, ints, is)
 
 no_turn : (low high : ℤ) → int_le low high ≡ false → count_between low high ≡ 0

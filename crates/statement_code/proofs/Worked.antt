@@ -166,7 +166,8 @@ module _ (at : Pos) where
     library_few = omega arith;
     layouts = tt;
     contents = tt;
-    exceptions = omega arith;
+    exceptions = refl;
+    exceptions_few = omega arith;
   }
     where
       procedure : (j m : ℕ) → false ≡ (plan_of j m).gives

@@ -1,5 +1,5 @@
 -- What a kernel does on an input, under all fuels together.
-use Rattle.std.specs.Prelude.{◌≡◌, ℕ, ◌*◌, ◌≤◌, ℤ, List, ◌++◌, reverse, ⊤}
+use Rattle.std.specs.Prelude.{◌≡◌, ℕ, ◌+◌, ◌*◌, ◌≤◌, ℤ, List, ◌++◌, reverse, ⊤}
 use Rattle.cov_base.specs.declared.event.Event.{Event}
 use Rattle.ada_meaning.specs.Execution.{Execution, by_return, by_exception, Ends}
 use Rattle.ada_meaning.specs.Execution as source
@@ -41,3 +41,10 @@ pub record Follows (p : Program) (k : Kernel) (input : List ℤ) : Type 0 where
   pub ends : (x : Execution) → Ends p input x → (fuel : ℕ) × EndsAs x (code.exec k fuel input)
   pub ends_only : (fuel : ℕ) → HasEnded (code.exec k fuel input) → (x : Execution) × Ends p input x × EndsAs x (code.exec k fuel input)
   pub begins : (fuel : ℕ) → (more : ℕ) × Begins (world_in (code.exec k fuel input)).seen (world_of (source.exec p more input)).seen
+
+-- Where a program's execution ends, the kernel ends as it does, at such a cost that 32 instructions for each unit of it, and 8 beside, are no
+-- more than 500 for each unit of the execution's cost, and 5,000 beside.
+pub record EndsInTime (x : Execution) (k : Kernel) (input : List ℤ) : Type 0 where
+  pub fuel : ℕ
+  pub ends : EndsAs x (code.exec k fuel input)
+  pub time : 32 * (world_in (code.exec k fuel input)).seen.cost + 8 ≤ 500 * x.cost + 5000

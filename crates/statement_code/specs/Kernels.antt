@@ -74,7 +74,8 @@ module _ (p : Program) where
     pub library_few : length K.library ≤ most_words
     pub layouts : LayoutsFit 0 K.layouts
     pub contents : Everywhere (λ c. length c.words ≤ most_words) (contents_after [] K.layouts)
-    pub exceptions : K.exceptions < 2 ^ 31
+    pub exceptions : K.exceptions ≡ 4 + length p.exceptions
+    pub exceptions_few : K.exceptions < 2 ^ 31
 
   -- the rows of bodies: each statement obligation of their texts, in the order of the text, in their instances
   abbrev pub rows_of : List Body → List Row

@@ -18,3 +18,4 @@ pub mod Programs
 pub mod AllFuels
 pub mod Kernels
 pub mod Own
+pub mod Laid

@@ -1,11 +1,13 @@
 //! Laws of the code of programs. The functions here do nothing: each carries laws as its contract.
 
-ghost use Rattle.std.specs.Prelude.{◌≡◌, ◌≢◌, ◌+◌, ◌*◌, ◌≤◌, ℕ, ℤ, List, Some, map, sum_by, slice_get};
+ghost use Rattle.std.specs.Prelude.{◌≡◌, ◌≢◌, ◌+◌, ◌*◌, ◌≤◌, ℕ, ℤ, List, Some, false, length, map, sum_by, slice_get};
 ghost use Rattle.ada_meaning.specs.Bodies.{Body, bodies_of, IsBody};
 ghost use Rattle.ada_meaning.specs.Collected.{labels_of, decisions_of};
 ghost use Rattle.ada_meaning.specs.Execution as source;
+ghost use Rattle.ada_meaning.specs.Execution.{Execution, Ends};
 ghost use Rattle.ada_meaning.specs.Obligations.{IsNumbered};
 ghost use Rattle.ada_meaning.specs.Program.{Program};
+ghost use Rattle.ada_meaning.specs.WellFormed.{IsWellFormed as IsWellFormedProgram};
 ghost use Rattle.ada_meaning.specs.Tree.{shape_of, conditions_of as conditions_at};
 ghost use Rattle.cov_base.specs.declared.position.DecId.{DecId};
 ghost use Rattle.cov_base.specs.Graph.{Edges};
@@ -13,15 +15,16 @@ ghost use Rattle.cov_base.specs.Graph as logic;
 ghost use Rattle.cov_base.specs.Lists.{Everywhere};
 ghost use Rattle.kernel_ir.specs.declared.kernel.Kernel.{Kernel};
 ghost use Rattle.kernel_ir.specs.declared.kernel.Layout.{Layout};
+ghost use Rattle.kernel_ir.specs.Laws.{RaisesOneOf};
 ghost use Rattle.kernel_ir.specs.Limits.{IsWellFormed, IsWithin, kernel_instructions};
 ghost use Rattle.kernel_ir.specs.Meaning as code;
 ghost use Rattle.kernel_ir.specs.Obligations.{Condition, rows, conditions};
-ghost use Rattle.statement_code.specs.AllFuels.{Follows};
+ghost use Rattle.statement_code.specs.AllFuels.{Follows, EndsInTime};
 ghost use Rattle.statement_code.specs.Copies.{layouts_nodes, AreCovered};
-ghost use Rattle.statement_code.specs.Fragments.{row_in, conditions_in};
-ghost use Rattle.statement_code.specs.Frames.{rate};
+ghost use Rattle.statement_code.specs.Fragments.{CodeLeaves, row_in, conditions_in};
 ghost use Rattle.statement_code.specs.Kernels.{Scheme, IsKernelBy, IsWhole};
 ghost use Rattle.statement_code.specs.Kernels.{AreOutside, place_of, rows_of, conditions_of, expanded_nodes};
+ghost use Rattle.statement_code.specs.Laid.{IsLaidKernel};
 ghost use Rattle.statement_code.specs.Own.{MarksOnce};
 ghost use Rattle.statement_code.specs.Programs.{Same};
 ghost use Rattle.statement_code.specs.Sizes.{subprogram_nodes};
@@ -59,11 +62,19 @@ pub fn bodies_are_listed_once()
         → expanded_nodes p ≡ sum_by subprogram_nodes p.subprograms }
 {}
 
+/// The kernel of a well-formed program is whole where its bodies are those of the program, each laid out in
+/// its frame, and the library level stands below all frames.
+#[tactic(auto, using(crate::proofs::Laid::whole_law))]
+pub fn laid_kernels_are_whole()
+    ensures { (p : Program) (K : Kernel) (s : Scheme) → IsWellFormedProgram p → IsLaidKernel p K s → IsWhole p K s }
+{}
+
 /// The kernel of a program is well-formed, where decisions have the graphs of their expressions, and at
 /// most 32 conditions. Its rows are the statement obligations of its bodies, in order, each in its
 /// instance; its conditions are those of their decisions, each as often as it is one of theirs: in the
 /// code those of a nested decision stand before the condition that holds it. So each obligation has one
-/// row in each instance in which it stands, and each condition one node, and there are no others.
+/// row in each instance in which it stands, and each condition one node, and there are no others. No body
+/// leaves a loop but its own, and what is raised is a predefined exception or one of the program's.
 pub fn kernels_hold_the_obligations()
     ensures well_formed { (p : Program) (K : Kernel) (s : Scheme) → IsWhole p K s → IsNumbered p
         → (graph : DecId → List Edges)
@@ -76,6 +87,11 @@ pub fn kernels_hold_the_obligations()
         → sum_by weight (conditions K) ≡ sum_by weight (conditions_of p (bodies_of p)) }
     ensures once { (p : Program) (K : Kernel) (s : Scheme) → IsWhole p K s → IsNumbered p
         → MarksOnce p (rows K) (conditions K) }
+    ensures leaves { (p : Program) (K : Kernel) (s : Scheme) → IsWhole p K s
+        → Everywhere (λ b. CodeLeaves false b.code) K.bodies }
+    ensures raises { (p : Program) (K : Kernel) (s : Scheme) → IsWhole p K s
+        → (graph : DecId → List Edges) → IsWellFormed graph K
+        → (fuel : ℕ) (input : List ℤ) → RaisesOneOf (4 + length p.exceptions) (code.exec K fuel input) }
 {}
 
 /// It takes at most 60 instructions for each node of the bodies, where those of a generic count for each
@@ -94,9 +110,11 @@ pub fn kernels_are_small()
     ensures covered { (layouts : List Layout) → AreCovered layouts (layouts_nodes layouts) }
 {}
 
-/// Where machine code takes at most 32 instructions for each unit of a kernel's cost, and 8 beside, and
-/// the kernel costs no more than ten times what the program does, it takes at most 500 for each unit of
-/// the program's cost, and 5,000 beside.
-pub fn costs_are_covered()
-    ensures { (source code : ℕ) → code ≤ rate * source → 32 * code + 8 ≤ 500 * source + 5000 }
+/// Where the program's execution ends, such a kernel ends as it does, at a cost by which machine code that
+/// takes at most 32 instructions for each unit of the kernel's cost, and 8 beside, takes at most 500 for
+/// each unit of the execution's cost, and 5,000 beside.
+#[tactic(auto, using(crate::proofs::AllFuels::in_time_law))]
+pub fn kernels_end_in_time()
+    ensures { (p : Program) (K : Kernel) (s : Scheme) → IsKernelBy p K s → (input : List ℤ) (x : Execution)
+        → Ends p input x → EndsInTime x K input }
 {}

@@ -16,6 +16,7 @@
 //! | `AllFuels` | what a kernel does on an input, under all fuels together |
 //! | `Fragments`, `Copies` | what code marks, names and leaves, and how long it is; a kernel of bodies |
 //! | `Kernels`, `Own` | the kernel of a whole program, by a scheme; which obligations it marks, and how often |
+//! | `Laid` | how the kernel of a well-formed program is laid out |
 //!
 //! The law of statements is `block_does` in `proofs/Statements.antt`: where the cells of objects lie apart from what
 //! is kept and from the slots that are worked in, and calls do what `Calls` says, a block and its code both go on,
@@ -34,6 +35,10 @@
 //! ([`kernels_do_what_their_programs_do`]), and ends exactly where the program's execution ends
 //! ([`kernels_end_where_their_programs_end`]).
 //!
+//! What a kernel owes for all that is how its bodies and the library level are laid out: that statements and
+//! expressions are such that code can be made of them follows from a well-formed program
+//! ([`laid_kernels_are_whole`]).
+//!
 //! `lower` does not stand on this yet: it makes code of programs whose objects are single words, by definitions of
 //! its own.
 #![tactic(auto)]
@@ -41,7 +46,7 @@
 mod laws;
 
 pub use laws::{
-    bodies_are_listed_once, costs_are_covered, kernels_are_small,
-    kernels_do_what_their_programs_do, kernels_end_where_their_programs_end,
-    kernels_hold_the_obligations,
+    bodies_are_listed_once, kernels_are_small, kernels_do_what_their_programs_do,
+    kernels_end_in_time, kernels_end_where_their_programs_end, kernels_hold_the_obligations,
+    laid_kernels_are_whole,
 };
