@@ -1,6 +1,6 @@
 -- What the text of a program weighs, by the generic in which it stands: library units by their entries, what code is made of by a weight of
 -- its own. Text of a generic counts once for each of its instances (RM 12.3).
-use Rattle.std.specs.Prelude.{◌≡◌, ℕ, ◌+◌, ◌≤◌, nat_eq, Bool, true, false, List, [], ◌∷◌, length, sum_by, Option, Some, None, if◌then◌else◌}
+use Rattle.std.specs.Prelude.{◌≡◌, ℕ, ◌+◌, ◌≤◌, nat_eq, Bool, true, false, List, length, sum_by, Option, Some, None, if◌then◌else◌}
 use Rattle.ada_tree.specs.declared.program.ExceptionDeclaration.{ExceptionDeclaration}
 use Rattle.ada_tree.specs.declared.program.Instance.{Instance}
 use Rattle.ada_tree.specs.declared.program.Program.{Program}
