@@ -14,12 +14,9 @@ use Rattle.decision_map.specs.declared.fault.FitFault.TheVariants.{Edge}
 use Rattle.decision_map.specs.Blocks.{agrees, has_its_flags, first_unlike, AreOrdered, AreFlat}
 use Rattle.decision_map.specs.Fits.{not_a_block, wrong_edge}
 use Rattle.decision_map.specs.Kinds.{has_edges, kind_in}
+use Rattle.decision_map.specs.Seen.{Agree, IsClosed, Closes}
 use Rattle.decision_map.proofs.Inside.{lasts_rise}
 use Rattle.decision_map.proofs.Steps.{left_step, passed_step}
-
--- the flags are the same if the ends are
-abbrev pub Agree : Block → Block → Type 0
-Agree e b = e.last ≡ b.last → e.flags ≡ b.flags
 
 abbrev pub agree : Block → Block → Bool
 agree b e = not (eqb e.last b.last) || eqb e.flags b.flags
@@ -34,15 +31,6 @@ agree_from e b f =
 agree_to : (e b : Block) → agree b e ≡ true → Agree e b
 agree_to e b is there =
     eqb-true e.flags b.flags (sym (ap (λ (t : Bool). not t || eqb e.flags b.flags) (eq-eqb e.last b.last there)) ∙ is)
-
--- an earlier block ends at this one's end or before it, and has its flags if it ends there
-abbrev pub IsClosed : Block → Block → Type 0
-IsClosed k e = (e.last ≤ k.last) × Agree e k
-
--- of these blocks this is the one that ends last, where there is one
-abbrev pub Closes : Option Block → List Block → Type 0
-Closes None earlier = earlier ≡ []
-Closes (Some k) earlier = Everywhere (IsClosed k) earlier × Somewhere (λ e. e ≡ k) earlier
 
 all_agree : (k b : Block) (earlier : List Block) → Everywhere (IsClosed k) earlier → k.last ≤ b.last → Agree k b → list_all (agree b) earlier ≡ true
 all_agree k b [] closed rises agrees = refl

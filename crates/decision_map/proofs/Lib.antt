@@ -11,3 +11,4 @@ pub mod Fitting
 pub mod Needed
 pub mod Ordered
 pub mod Sound
+pub mod SeenLaws

@@ -51,6 +51,9 @@ false_unless : (b : Bool) → (b ≡ true → ⊥) → b ≡ false
 false_unless true never = absurd (never refl)
 false_unless false never = refl
 
+pub needed_kind : (o : Object) → IsMappable o → (pc : ℕ) → needs_history o pc ≡ true → kind_in (kinds_of_text o.text) pc ≡ Branch
+needed_kind o mappable pc needs = needed_branch o mappable pc (find (stands_at pc) o.roles) refl needs
+
 pub not_needed : (o : Object) → IsMappable o → (pc : ℕ) → (kind_in (kinds_of_text o.text) pc ≡ Branch → ⊥) → needs_history o pc ≡ false
 not_needed o mappable pc other =
     false_unless (needs_history o pc) (λ needs. other (needed_branch o mappable pc (find (stands_at pc) o.roles) refl needs))

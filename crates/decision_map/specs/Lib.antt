@@ -4,3 +4,4 @@ pub mod Roles
 pub mod Blocks
 pub mod Fits
 pub mod Mapped
+pub mod Seen

@@ -116,7 +116,7 @@ fn check_addresses(kinds: &[WordKind], view: &TraceView<'_>) -> Result<(), FitFa
 }
 
 /// Whether flags have an edge.
-fn shows_edge(flags: u8, edge: u8) -> bool
+pub(crate) fn shows_edge(flags: u8, edge: u8) -> bool
     ensures { result ≡ shows_edge flags edge }
 {
     let mask = if edge == 0 { NOT_TAKEN } else { TAKEN };

@@ -2,8 +2,9 @@
 //!
 //! The contract that the layers above use: [`DecisionMap::fit`] answers the first of the checks from
 //! `foreign` to `history not flat` that a trace fails beside the map's object, and Ok exactly where
-//! none does. A [`DecisionMap`] stands for its object, and each look-up answers what the definitions
-//! say of that object. All calls but [`DecisionMap::of`] take no memory.
+//! none does. [`FitState`] answers the same of entries that come one by one. A [`DecisionMap`] stands
+//! for its object, and each look-up answers what the definitions say of that object. All calls but
+//! [`DecisionMap::of`] and [`FitState::new`] take no memory.
 #![tactic(auto)]
 
 mod blocks;
@@ -11,6 +12,7 @@ mod checked;
 mod condition;
 mod fault;
 mod fit;
+mod fit_state;
 mod graphs;
 mod keep;
 mod kind;
@@ -20,5 +22,6 @@ mod places;
 pub use checked::checked_objects_have_maps;
 pub use condition::Condition;
 pub use fault::FitFault;
+pub use fit_state::FitState;
 pub use kind::WordKind;
 pub use map::DecisionMap;

@@ -5,7 +5,7 @@ ghost use Rattle.cov_base.specs.declared.obligations.DecEntry.{DecEntry};
 ghost use Rattle.cov_base.specs.Expr.{Expr, IsPostfixOf};
 ghost use Rattle.cov_base.specs.Graph.{graph, IsTree};
 ghost use Rattle.decision_map.specs.declared.condition.Condition.{Condition};
-ghost use Rattle.decision_map.specs.Kinds.{kinds_of_text};
+ghost use Rattle.decision_map.specs.Kinds.{has_edges, kind_in, kinds_of_text};
 ghost use Rattle.decision_map.specs.Blocks.{block_end};
 ghost use Rattle.decision_map.specs.Fits.{fault_of};
 ghost use Rattle.std.specs.Result.{result_err};
@@ -71,11 +71,26 @@ impl<'a> DecisionMap<'a> {
         self.object
     }
 
+    /// How many words text has.
+    pub(crate) fn words(&self) -> usize
+        ensures count { result ≡ length self.now.text }
+        ensures mappable { IsMappable self.now }
+    {
+        self.object.text.len()
+    }
+
     /// The kind of the word at an address.
     pub fn kind(&self, pc: u32) -> WordKind
         ensures { result ≡ kind_at self.now pc }
     {
         kind_in(self.kinds.as_slice(), pc)
+    }
+
+    /// Whether the word at an address is a conditional branch.
+    pub(crate) fn has_edges(&self, pc: u32) -> bool
+        ensures { result ≡ has_edges (kind_in (kinds_of_text self.now.text) pc) }
+    {
+        kind_in(self.kinds.as_slice(), pc).has_edges()
     }
 
     /// Whether a run keeps each execution of the word at an address.

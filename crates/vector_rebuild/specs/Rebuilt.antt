@@ -1,7 +1,7 @@
 -- What a rebuild holds of a history.
 use Rattle.std.specs.Prelude.{◌≡◌, ℕ, nat_eq, Bool, ◌&&◌, List, [], map, length, option_and_then, option_to_list, Option, Some, None}
 use Rattle.std.specs.Option.{option_map}
-use Rattle.std.specs.HashMap.{get}
+use Rattle.std.specs.HashMap.{get, spare}
 use Rattle.cov_base.specs.declared.event.Event.{Event}
 use Rattle.cov_base.specs.declared.event.Event.TheVariants.{Done}
 use Rattle.cov_base.specs.declared.event.Vector.{Vector}
@@ -57,6 +57,10 @@ kept_of r k = option_map half_as (get same r.halves (key_in k))
 -- how many entries were fed
 abbrev pub count_of : Rebuild → ℕ
 count_of r = r.fed
+
+-- for how many entries there is room
+abbrev pub room_of : Rebuild → ℕ
+room_of r = spare r.halves
 
 -- of each key the same is under way, and as many entries were fed
 pub record IsAsBefore (old new : Rebuild) : Type 0 where

@@ -1,8 +1,9 @@
 //! Vectors rebuilt from a history, entry by entry.
 
-ghost use Rattle.std.specs.Prelude.{◌≡◌, ◌++◌, ◌+◌, ◌<◌, ◌-◌, ◌^◌, List, [], ◌∷◌, length, option_to_list, true, IfOk, IfErr, OnOk, OnErr, Some, if◌then◌else◌};
+ghost use Rattle.std.specs.Prelude.{◌≡◌, ◌≢◌, ◌++◌, ◌+◌, ◌<◌, ◌≤◌, ◌-◌, ◌^◌, List, [], ◌∷◌, length, option_to_list, true, IfOk, IfErr, OnOk, OnErr, IsOk, Some, Err, if◌then◌else◌};
 ghost use Rattle.std.specs.HashMap.{get};
 ghost use Rattle.std.specs.Option.{option_map};
+ghost use Rattle.cov_base.specs.declared.failure.Failure.TheVariants.{WantOfMemory};
 ghost use Rattle.condition_graph.specs.Target.{place_of};
 ghost use Rattle.decision_map.specs.Roles.{needs_history};
 ghost use Rattle.object_facts.specs.Object.{facts_of};
@@ -14,7 +15,7 @@ ghost use Rattle.transcript.specs.Trace.{visit_in};
 ghost use Rattle.transcript.specs.Visit.{Key as Activation, onto};
 ghost use Rattle.trace_format.specs.declared.trace.HistoryEntry.{HistoryEntry};
 ghost use Rattle.vector_rebuild.specs.Entries.{branched_of};
-ghost use Rattle.vector_rebuild.specs.Rebuilt.{visit_as, half_as, key_in, same, kept_of, count_of, visits_of, taken_by, under_way, IsOff, IsAsBefore, IsEventOf, IsRefusedAfter, Rebuilds};
+ghost use Rattle.vector_rebuild.specs.Rebuilt.{visit_as, half_as, key_in, same, kept_of, count_of, visits_of, taken_by, under_way, room_of, IsOff, IsAsBefore, IsEventOf, IsRefusedAfter, Rebuilds};
 
 use crate::fault::BrokenHistory;
 use crate::half::{Half, begun, with_step};
@@ -53,6 +54,16 @@ impl Rebuild {
         self.fed
     }
 
+    /// Makes room for so many entries: they can be fed without memory.
+    pub fn reserve(&mut self, more: u32) -> Result<(), AllocError>
+        ensures room { OnOk result (more ≤ room_of self.new) }
+        ensures kept { IsAsBefore self.old self.new }
+        ensures fed { (o : Facts) (fed : List HistoryEntry) → Rebuilds o self.old fed → Rebuilds o self.new fed }
+        ensures more { room_of self.old ≤ room_of self.new }
+    {
+        self.halves.reserve(more as usize)
+    }
+
     /// The evaluation of a key that is under way.
     fn half(&self, key: Key) -> Option<Half>
         ensures { result ≡ get same self.now.halves key }
@@ -79,6 +90,10 @@ impl Rebuild {
             ≡ (if same key (key_in k) then half_by (place_of next) vector else kept_of self.old k)) }
         ensures count { self.new.fed ≡ self.old.fed }
         ensures err { OnErr result (IsAsBefore self.old self.new) }
+
+        // With room for it no memory is taken.
+        ensures roomy { 0 < room_of self.old → IsOk result }
+        ensures room { room_of self.old ≤ room_of self.new + 1 }
     {
         match next {
             Next::Node(next) => {
@@ -104,6 +119,8 @@ impl Rebuild {
         ensures count { OnOk result (self.new.fed ≡ self.old.fed + 1) }
         ensures off { IfErr result (IsOff self.old.fed (begun (kept_of self.old (visit_as visit.now).key) visit.now.step.node.0)) }
         ensures err { OnErr result (IsAsBefore self.old self.new) }
+        ensures roomy { 0 < room_of self.old → result ≢ Err WantOfMemory }
+        ensures room { room_of self.old ≤ room_of self.new + 1 }
     {
         let key = visit.key();
         let Some(coming) = self.coming(key, visit.step.node) else {
@@ -141,6 +158,10 @@ impl Rebuild {
         ensures broken { IfErr result (λ failure. (fed : List HistoryEntry) → Rebuilds (facts_of map.now) self.old fed
             → IsRefusedAfter (facts_of map.now) fed entry failure) }
         ensures refused { OnErr result (IsAsBefore self.old self.new) }
+
+        // With room for it no memory is taken, and room for at most one entry is used.
+        ensures roomy { 0 < room_of self.old → result ≢ Err WantOfMemory }
+        ensures room { room_of self.old ≤ room_of self.new + 1 }
     {
         let visit = visit_of(map, entry);
         let next = map

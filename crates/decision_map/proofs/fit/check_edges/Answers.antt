@@ -7,7 +7,8 @@ use Rattle.decision_map.specs.declared.fault.FitFault.TheVariants.{Edge}
 use Rattle.decision_map.specs.Blocks.{agrees}
 use Rattle.decision_map.specs.Kinds.{has_edges, kind_in}
 use Rattle.decision_map.proofs.Inside.{are_blocks, lasts_rise}
-use Rattle.decision_map.proofs.Flags.{Closes, closes_more, tested, unlike_here, unlike_passed}
+use Rattle.decision_map.specs.Seen.{Closes}
+use Rattle.decision_map.proofs.Flags.{closes_more, tested, unlike_here, unlike_passed}
 use Rattle.decision_map.proofs.Steps.{passed_step}
 use Rattle.decision_map.proofs.fit.check_edges.Goals as goal
 

@@ -1,7 +1,7 @@
 use Rattle.std.proofs.Common.{◌≡◌, [], take, drop, IfSome}
 use Rattle.decision_map.specs.Blocks.{first_unlike}
 use Rattle.decision_map.proofs.Inside.{IsBlockBefore}
-use Rattle.decision_map.proofs.Flags.{Closes}
+use Rattle.decision_map.specs.Seen.{Closes}
 use Rattle.decision_map.proofs.fit.check_edges.Given as goal
 
 -- the blocks so far have the flags of their ends, and the latest of them ends last

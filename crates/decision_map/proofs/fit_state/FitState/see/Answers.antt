@@ -1,0 +1,10 @@
+use Rattle.std.proofs.Common.{sym, subst, ◌∙◌, ◌++◌, ◌∷◌, []}
+use Rattle.trace_format.specs.declared.trace.Block.{Block}
+use Rattle.decision_map.specs.Seen.{HasSeen}
+use Rattle.decision_map.proofs.SeenLaws.{given_block}
+use Rattle.decision_map.proofs.fit_state.FitState.see.Goals as goal
+
+pub returns-in-Block-clause-block : goal.returns-in-Block-clause-block
+returns-in-Block-clause-block c = λ o object ending blocks block h is.
+    subst (λ (x : Block). HasSeen o c.see_block.new.self object ending (blocks ++ x ∷ []) [])
+    (given_block c.in-Block.start c.in-Block.last c.in-Block.flags block (sym c.in-Block.is ∙ is)) (c.see_block.ensures o object ending blocks h)
