@@ -41,7 +41,7 @@ no_more : (m n : ℕ) → n ≤ suc m * n
 no_more m n = grind arith
 
 mutual
-  type_fits : (s : Shape) → formed.IsType s → words s ≤ most_words → ShapeFits s
+  pub type_fits : (s : Shape) → formed.IsType s → words s ≤ most_words → ShapeFits s
   type_fits (word b) typed few = bounds_words b typed
   type_fits (row b s) typed few =
       let part : words s ≤ words (row b s) = subst (λ n. words s ≤ n * words s) (sym (some_turn b.low b.high typed.1.0)) (no_more _ (words s)) in
