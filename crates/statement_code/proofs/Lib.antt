@@ -40,4 +40,5 @@ pub mod FormedBlocks
 pub mod Laid
 pub mod Stacked
 pub mod Alike
+pub mod Initial
 pub mod Worked
