@@ -41,4 +41,5 @@ pub mod Laid
 pub mod Stacked
 pub mod Alike
 pub mod Initial
+pub mod Beginning
 pub mod Worked

@@ -1,15 +1,18 @@
 -- The words of the library level as a program begins.
-use Rattle.std.specs.Prelude.{ℕ, suc, nat_eq, List, [], ◌∷◌, Option, None, Some, if◌then◌else◌}
+use Rattle.std.specs.Prelude.{◌≡◌, ℕ, suc, nat_eq, List, [], ◌∷◌, Option, None, Some, if◌then◌else◌}
 use Rattle.std.specs.Int.{w32}
 use Rattle.std.specs.Int.RustNames.{FitsSigned}
 use Rattle.ada_meaning.specs.Arithmetic.{count_between}
-use Rattle.ada_meaning.specs.Execution.{initial_number, of_components}
+use Rattle.cov_base.specs.Lists.{Everywhere, Somewhere}
+use Rattle.ada_meaning.specs.Bodies.{StandsIn}
+use Rattle.ada_meaning.specs.Execution.{initial_number, of_components, library_place}
 use Rattle.ada_meaning.specs.Program.{Initial, no_initial, LibraryObject, Instance, Program}
 use Rattle.ada_meaning.specs.Resolved.{shape_in}
 use Rattle.ada_meaning.specs.Shape.{Shape, word, row, group, Shapes, no_shape, and_shape}
 use Rattle.kernel_ir.specs.Layouts.{Content, no_content, followed_by, repeated}
 use Rattle.kernel_ir.specs.Simple.{filled}
 use Rattle.kernel_ir.specs.World.{Memory}
+use Rattle.statement_code.specs.Objects.{Standing}
 
 module _ (p : Program) (inst : ℕ) where
   abbrev mutual
@@ -49,3 +52,8 @@ abbrev pub with_words : (p : Program) → (address_of : (inst declaration : ℕ)
 with_words p address_of [] memory = memory
 with_words p address_of (o ∷ os) memory = with_words p address_of os (in_all_of o.generic p.instances
     (λ inst. filled (initial_content p inst (shape_in p inst o.subtype) o.initial).words (address_of inst o.declaration)) memory)
+
+-- each object of the library level stands in each of its instances, at its address there
+abbrev pub AreAddressed : (p : Program) → List Standing → (address_of : (inst declaration : ℕ) → ℕ) → List LibraryObject → Type 0
+AreAddressed p library address_of os = Everywhere (λ o. (inst : ℕ) → StandsIn p o.generic inst
+    → Somewhere (λ s. (s.place ≡ library_place inst o.declaration) × ((s.shape ≡ shape_in p inst o.subtype) × (s.address ≡ address_of inst o.declaration))) library) os

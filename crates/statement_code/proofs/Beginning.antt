@@ -1,0 +1,91 @@
+-- A well-formed program and its kernel begin alike at the library level.
+use Rattle.std.proofs.Common.{◌≡◌, ℕ, ◌+◌, ◌<◌, ◌≤◌, inl, inr, ℤ, pos, List, [], ◌∷◌, sym, subst, ◌∙◌, arith}
+use Rattle.cov_base.specs.Lists.{Everywhere, Somewhere}
+use Rattle.ada_meaning.specs.Bodies.{instances_of, StandsIn}
+use Rattle.ada_meaning.proofs.BodyLaws.{instances_listed}
+use Rattle.ada_meaning.specs.Execution.{library_place, initial}
+use Rattle.ada_meaning.specs.Program.{Initial, no_initial, static_initial, others_initial, LibraryObject, Program}
+use Rattle.ada_meaning.specs.Resolved.{number_in, shape_in}
+use Rattle.ada_meaning.specs.Shape.{Shape, word, row, group, Shapes, no_shape, and_shape}
+use Rattle.ada_meaning.specs.State.{Place}
+use Rattle.ada_meaning.specs.WellFormed as formed
+use Rattle.ada_resolved.specs.Sizes.{words}
+use Rattle.kernel_ir.specs.declared.kernel.Kernel.{Kernel}
+use Rattle.kernel_ir.specs.Meaning as code
+use Rattle.kernel_ir.specs.World.{data_word}
+use Rattle.statement_code.specs.Cells.{Agree}
+use Rattle.statement_code.specs.Initial.{InitialFits, InitialsFit, with_words, AreAddressed}
+use Rattle.statement_code.specs.Objects.{Among, Standing, CellsOf}
+use Rattle.statement_code.specs.Programs.{IsLibrary}
+use Rattle.statement_code.proofs.Formed.{number_known}
+use Rattle.statement_code.proofs.Initial.{StandsThere, begins_law}
+use Rattle.statement_code.proofs.Kernels.{each_is}
+use Rattle.statement_code.proofs.Numbers.{word_is}
+use Rattle.statement_code.proofs.Objects.{among_words, among_good, cells_apart, lies_among}
+
+-- initial values are words
+module _ (p : Program) (inst : ℕ) where
+  mutual
+    initial_fits : (s : Shape) (v : Initial) → formed.IsType s → formed.IsInitial p inst v → InitialFits p inst s v
+    initial_fits (word b) no_initial typed is = word_is b.low typed.0
+    initial_fits (word b) (static_initial e) typed is = word_is (number_in p inst e) (number_known p inst (λ o. word b) e is)
+    initial_fits (word b) (others_initial v) typed is = word_is b.low typed.0
+    initial_fits (row b s) no_initial typed is = initial_fits s no_initial typed.1.1 tt
+    initial_fits (row b s) (static_initial e) typed is = initial_fits s no_initial typed.1.1 tt
+    initial_fits (row b s) (others_initial v) typed is = initial_fits s v typed.1.1 is
+    initial_fits (group no_shape) v typed is = absurd typed
+    initial_fits (group (and_shape s ss)) v typed is = (initial_fits s no_initial typed.0 tt, initials_fit ss typed.1)
+
+    initials_fit : (ss : Shapes) → formed.AreTypes ss → InitialsFit p inst ss
+    initials_fit no_shape typed = tt
+    initials_fit (and_shape s ss) typed = (initial_fits s no_initial typed.0 tt, initials_fit ss typed.1)
+
+-- the cells of an object are among all
+member : (os : List Standing) (s : Shape) (q : Place) (a : ℕ) (r : Place) (c : ℕ) → Somewhere (λ o. (o.place ≡ q) × ((o.shape ≡ s) × (o.address ≡ a))) os → Among s q a r c → CellsOf os r c
+member [] s q a r c there h = absurd there
+member (o ∷ os) s q a r c (inl is) h =
+    inl (subst (λ x. Among x o.place o.address r c) (sym is.1.0) (subst (λ x. Among s x o.address r c) (sym is.0) (subst (λ x. Among s q x r c) (sym is.1.1) h)))
+member (o ∷ os) s q a r c (inr there) h = inr (member os s q a r c there h)
+
+-- they are of the library level, between the first word of the data and the frames
+record IsBelow (low : ℕ) (q : Place) (c : ℕ) : Type 0 where
+  outside : q.frame ≡ 0
+  first : data_word ≤ c
+  last : c < low
+
+below : (low : ℕ) (os : List Standing) → Everywhere (λ s. (s.place.frame ≡ 0) × ((data_word ≤ s.address) × (s.address + words s.shape ≤ low))) os → (q : Place) (c : ℕ) → CellsOf os q c → IsBelow low q c
+below low [] all q c there = absurd there
+below low (o ∷ os) all q c (inl here) =
+    let at = among_words o.shape o.place o.address q c here in record {
+      outside = among_good (λ r. r.frame ≡ 0) (λ i r is. is) o.shape o.place o.address q c all.0.0 here;
+      first = omega (arith, at.0, all.0.1.0);
+      last = omega (arith, at.1, all.0.1.1);
+    }
+below low (o ∷ os) all q c (inr there) = below low os all.1 q c there
+
+module _ (p : Program) (library : List Standing) (low : ℕ) (apart : IsLibrary library low) (address_of : (inst declaration : ℕ) → ℕ) where
+  abbrev outside : (q : Place) (c : ℕ) → CellsOf library q c → q.frame ≡ 0
+  outside q c there = (below low library apart.outside q c there).outside
+
+  abbrev Stands : LibraryObject → Type 0
+  Stands o = (inst : ℕ) → StandsIn p o.generic inst → StandsThere p (CellsOf library) (cells_apart library apart.apart) outside address_of o inst
+
+  all_stand : (os : List LibraryObject) → Everywhere (formed.IsLibraryObject p) os → AreAddressed p library address_of os → Everywhere Stands os
+  all_stand [] well placed = tt
+  all_stand (o ∷ os) well placed = (
+    (λ inst stands. record {
+      lies = lies_among (CellsOf library) (shape_in p inst o.subtype) (library_place inst o.declaration) (address_of inst o.declaration)
+          (λ q c here. member library (shape_in p inst o.subtype) (library_place inst o.declaration) (address_of inst o.declaration) q c (placed.0 inst stands) here);
+      fits = (let is = each_is (λ i. formed.IsType (shape_in p i o.subtype) × formed.IsInitial p i o.initial) (instances_of o.generic p.instances) inst well.0 (instances_listed p o.generic inst stands) in
+          initial_fits p inst (shape_in p inst o.subtype) o.initial is.0 is.1);
+    }),
+    all_stand os well.1 placed.1,
+  )
+
+  pub begins_alike : (K : Kernel) → formed.IsWellFormed p → AreAddressed p library address_of p.objects
+      → ((input : List ℤ) (c : ℕ) → data_word ≤ c → c < low → (code.begin K input).memory c ≡ with_words p address_of p.objects (λ a. pos 0) c)
+      → (input : List ℤ) → Agree (CellsOf library) (initial p input).store (code.begin K input).memory
+  begins_alike K well placed same input q c there =
+      let agrees = begins_law p (CellsOf library) (cells_apart library apart.apart) outside address_of (all_stand p.objects well.library placed) input q c there in
+      let at = below low library apart.outside q c there in
+      (same input c at.first at.last ∙ agrees.0, agrees.1)
