@@ -1,5 +1,5 @@
 -- A well-formed program and its kernel begin alike at the library level.
-use Rattle.std.proofs.Common.{◌≡◌, ℕ, ◌+◌, ◌<◌, ◌≤◌, inl, inr, ℤ, pos, List, [], ◌∷◌, sym, subst, ◌∙◌, arith}
+use Rattle.std.proofs.Common.{◌≡◌, ℕ, ◌+◌, ◌<◌, ◌≤◌, inl, inr, ℤ, pos, List, [], ◌∷◌, sym, subst, ◌∙◌, arith, length, ap}
 use Rattle.cov_base.specs.Lists.{Everywhere, Somewhere}
 use Rattle.ada_meaning.specs.Bodies.{instances_of, StandsIn}
 use Rattle.ada_meaning.proofs.BodyLaws.{instances_listed}
@@ -12,15 +12,16 @@ use Rattle.ada_meaning.specs.WellFormed as formed
 use Rattle.ada_resolved.specs.Sizes.{words}
 use Rattle.kernel_ir.specs.declared.kernel.Kernel.{Kernel}
 use Rattle.kernel_ir.specs.Meaning as code
-use Rattle.kernel_ir.specs.World.{data_word}
+use Rattle.kernel_ir.specs.World.{Memory, data_word}
 use Rattle.statement_code.specs.Cells.{Agree}
-use Rattle.statement_code.specs.Initial.{InitialFits, InitialsFit, with_words, AreAddressed}
+use Rattle.statement_code.specs.Initial.{initial_content, InitialFits, InitialsFit, with_words, AreAddressed, HasInitialWords, IsObjectOf}
 use Rattle.statement_code.specs.Objects.{Among, Standing, CellsOf}
 use Rattle.statement_code.specs.Programs.{IsLibrary}
 use Rattle.statement_code.proofs.Formed.{number_known}
-use Rattle.statement_code.proofs.Initial.{StandsThere, begins_law}
+use Rattle.statement_code.proofs.Initial.{initial_size, StandsThere, begins_law}
 use Rattle.statement_code.proofs.Kernels.{each_is}
 use Rattle.statement_code.proofs.Numbers.{word_is}
+use Rattle.statement_code.proofs.Words.{objects_give}
 use Rattle.statement_code.proofs.Objects.{among_words, among_good, cells_apart, lies_among}
 
 -- initial values are words
@@ -82,10 +83,21 @@ module _ (p : Program) (library : List Standing) (low : ℕ) (apart : IsLibrary 
     all_stand os well.1 placed.1,
   )
 
-  pub begins_alike : (K : Kernel) → formed.IsWellFormed p → AreAddressed p library address_of p.objects
-      → ((input : List ℤ) (c : ℕ) → data_word ≤ c → c < low → (code.begin K input).memory c ≡ with_words p address_of p.objects (λ a. pos 0) c)
-      → (input : List ℤ) → Agree (CellsOf library) (initial p input).store (code.begin K input).memory
-  begins_alike K well placed same input q c there =
+  -- memory that has the initial words of all objects is as one that they were filled into, at each cell
+  cell_filled : (os : List Standing) → Everywhere (IsObjectOf p address_of) os → (memory m : Memory) → HasInitialWords p address_of memory p.objects → (q : Place) (c : ℕ) → CellsOf os q c
+      → with_words p address_of p.objects m c ≡ memory c
+  cell_filled [] are memory m has q c there = absurd there
+  cell_filled (s ∷ os) are memory m has q c (inl here) =
+      let at = among_words s.shape s.place s.address q c here in
+      let is = are.0 in
+      let address = is.address in
+      let many : length (initial_content p is.inst (shape_in p is.inst is.object.subtype) is.object.initial).words ≡ words s.shape =
+      initial_size p is.inst (shape_in p is.inst is.object.subtype) is.object.initial ∙ ap words (sym is.shape) in
+      objects_give memory c p address_of p.objects is.object is.inst has is.declared is.stands (omega (arith, at.0, address)) (omega (arith, at.1, address, many)) m
+  cell_filled (s ∷ os) are memory m has q c (inr there) = cell_filled os are.1 memory m has q c there
+
+  pub begins_alike : (K : Kernel) → formed.IsWellFormed p → AreAddressed p library address_of p.objects → Everywhere (IsObjectOf p address_of) library
+      → (input : List ℤ) → HasInitialWords p address_of (code.begin K input).memory p.objects → Agree (CellsOf library) (initial p input).store (code.begin K input).memory
+  begins_alike K well placed are input has q c there =
       let agrees = begins_law p (CellsOf library) (cells_apart library apart.apart) outside address_of (all_stand p.objects well.library placed) input q c there in
-      let at = below low library apart.outside q c there in
-      (same input c at.first at.last ∙ agrees.0, agrees.1)
+      (sym (cell_filled library are (code.begin K input).memory (λ a. pos 0) has q c there) ∙ agrees.0, agrees.1)

@@ -28,7 +28,7 @@ each_same (suc n) i f store = each_same n (i +ℤ pos 1) f (f i store)
 
 module _ (p : Program) (inst : ℕ) where
   mutual
-    initial_size : (s : Shape) (v : Initial) → length (initial_content p inst s v).words ≡ words s
+    pub initial_size : (s : Shape) (v : Initial) → length (initial_content p inst s v).words ≡ words s
     initial_size (word b) v = refl
     initial_size (row b s) v = repeated_size (count_between b.low b.high) (initial_content p inst s (of_components v)) (words s) (initial_size s (of_components v))
     initial_size (group ss) v = initial_sizes ss

@@ -41,5 +41,6 @@ pub mod Laid
 pub mod Stacked
 pub mod Alike
 pub mod Initial
+pub mod Words
 pub mod Beginning
 pub mod Worked

@@ -1,5 +1,5 @@
 -- The words of the library level as a program begins.
-use Rattle.std.specs.Prelude.{◌≡◌, ℕ, suc, nat_eq, List, [], ◌∷◌, Option, None, Some, if◌then◌else◌}
+use Rattle.std.specs.Prelude.{◌≡◌, ℕ, ℤ, suc, ◌+◌, slice_get, nat_eq, List, [], ◌∷◌, Option, None, Some, if◌then◌else◌}
 use Rattle.std.specs.Int.{w32}
 use Rattle.std.specs.Int.RustNames.{FitsSigned}
 use Rattle.ada_meaning.specs.Arithmetic.{count_between}
@@ -57,3 +57,21 @@ with_words p address_of (o ∷ os) memory = with_words p address_of os (in_all_o
 abbrev pub AreAddressed : (p : Program) → List Standing → (address_of : (inst declaration : ℕ) → ℕ) → List LibraryObject → Type 0
 AreAddressed p library address_of os = Everywhere (λ o. (inst : ℕ) → StandsIn p o.generic inst
     → Somewhere (λ s. (s.place ≡ library_place inst o.declaration) × ((s.shape ≡ shape_in p inst o.subtype) × (s.address ≡ address_of inst o.declaration))) library) os
+
+-- a memory has these words from an address on
+abbrev pub HasWordsAt : List ℤ → (address : ℕ) → Memory → Type 0
+HasWordsAt xs a memory = (k : ℕ) (x : ℤ) → slice_get xs k ≡ Some x → memory (a + k) ≡ x
+
+-- it has the initial words of each object of the library level, in each of its instances
+abbrev pub HasInitialWords : (p : Program) → (address_of : (inst declaration : ℕ) → ℕ) → Memory → List LibraryObject → Type 0
+HasInitialWords p address_of memory os = Everywhere (λ o. (inst : ℕ) → StandsIn p o.generic inst
+    → HasWordsAt (initial_content p inst (shape_in p inst o.subtype) o.initial).words (address_of inst o.declaration) memory) os
+
+-- what stands at the library level is an object of the program, in an instance
+pub record IsObjectOf (p : Program) (address_of : (inst declaration : ℕ) → ℕ) (s : Standing) : Type 0 where
+  pub object : LibraryObject
+  pub inst : ℕ
+  pub declared : Somewhere (λ o. o ≡ object) p.objects
+  pub stands : StandsIn p object.generic inst
+  pub shape : s.shape ≡ shape_in p inst object.subtype
+  pub address : s.address ≡ address_of inst object.declaration

@@ -1,6 +1,6 @@
 //! Laws of the code of programs. The functions here do nothing: each carries laws as its contract.
 
-ghost use Rattle.std.specs.Prelude.{◌≡◌, ◌≢◌, ◌+◌, ◌*◌, ◌≤◌, ◌<◌, ℕ, ℤ, pos, List, Some};
+ghost use Rattle.std.specs.Prelude.{◌≡◌, ◌≢◌, ◌+◌, ◌*◌, ◌≤◌, ℕ, ℤ, List, Some};
 ghost use Rattle.std.specs.Prelude.{false, length, map, sum_by, slice_get};
 ghost use Rattle.ada_meaning.specs.Bodies.{Body, bodies_of, IsBody};
 ghost use Rattle.ada_meaning.specs.Collected.{labels_of, decisions_of};
@@ -21,7 +21,6 @@ ghost use Rattle.kernel_ir.specs.Laws.{RaisesOneOf};
 ghost use Rattle.kernel_ir.specs.Limits.{IsWellFormed, IsWithin, kernel_instructions};
 ghost use Rattle.kernel_ir.specs.Meaning as code;
 ghost use Rattle.kernel_ir.specs.Obligations.{Condition, rows, conditions};
-ghost use Rattle.kernel_ir.specs.World.{data_word};
 ghost use Rattle.statement_code.specs.AllFuels.{Follows, EndsInTime};
 ghost use Rattle.statement_code.specs.Cells.{Agree};
 ghost use Rattle.statement_code.specs.Copies.{layouts_nodes, AreCovered};
@@ -29,7 +28,7 @@ ghost use Rattle.statement_code.specs.Fragments.{CodeLeaves, row_in, conditions_
 ghost use Rattle.statement_code.specs.Kernels.{Scheme, IsKernelBy, IsWhole};
 ghost use Rattle.statement_code.specs.Kernels.{AreOutside, place_of, rows_of, conditions_of, expanded_nodes};
 ghost use Rattle.statement_code.specs.Laid.{AreStacked, IsLaidKernel};
-ghost use Rattle.statement_code.specs.Initial.{with_words, AreAddressed};
+ghost use Rattle.statement_code.specs.Initial.{AreAddressed, HasInitialWords, IsObjectOf};
 ghost use Rattle.statement_code.specs.Objects.{Standing, CellsOf};
 ghost use Rattle.statement_code.specs.Own.{MarksOnce};
 ghost use Rattle.statement_code.specs.Programs.{Plan, AreLaid, IsLibrary, Same};
@@ -78,15 +77,14 @@ pub fn laid_kernels_are_whole()
         → AreDistinct objects → AreLaid plan objects }
 {}
 
-/// At the library level a kernel begins as its well-formed program does, where each object stands at its
-/// address in each of its instances, and memory has the objects' initial words.
+/// At the library level a kernel begins as its well-formed program does, where just the program's objects
+/// stand there, each at its address in each of its instances, and memory has the objects' initial words.
 pub fn libraries_begin_alike()
     ensures { (p : Program) (library : List Standing) (low : ℕ) → IsLibrary library low
         → (address_of : (inst declaration : ℕ) → ℕ) (K : Kernel) → IsWellFormedProgram p
-        → AreAddressed p library address_of p.objects
-        → ((input : List ℤ) (c : ℕ) → data_word ≤ c → c < low
-        → (code.begin K input).memory c ≡ with_words p address_of p.objects (λ a. pos 0) c)
-        → (input : List ℤ) → Agree (CellsOf library) (source.initial p input).store (code.begin K input).memory }
+        → AreAddressed p library address_of p.objects → Everywhere (IsObjectOf p address_of) library
+        → (input : List ℤ) → HasInitialWords p address_of (code.begin K input).memory p.objects
+        → Agree (CellsOf library) (source.initial p input).store (code.begin K input).memory }
 {}
 
 /// The kernel of a program is well-formed, where decisions have the graphs of their expressions, and at
