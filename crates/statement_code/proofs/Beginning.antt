@@ -1,8 +1,13 @@
 -- A well-formed program and its kernel begin alike at the library level.
-use Rattle.std.proofs.Common.{◌≡◌, ℕ, ◌+◌, ◌<◌, ◌≤◌, inl, inr, ℤ, pos, List, [], ◌∷◌, sym, subst, ◌∙◌, arith, length, ap}
+use Rattle.std.proofs.Common.{◌≡◌, ℕ, ◌+◌, ◌<◌, ◌≤◌, ◌≢◌, ◌⊎◌, nat_eq, true, false, map, inl, inr, ℤ, pos, List, [], ◌∷◌, sym, subst, ◌∙◌, arith, length, ap}
+use Rattle.std.specs.Prelude.{if◌then◌else◌}
+use Rattle.std.proofs.lemmas.Bool.{eq-eqb}
+use Rattle.std.proofs.lemmas.Bool.Decides.{eqb_tells}
 use Rattle.cov_base.specs.Lists.{Everywhere, Somewhere}
 use Rattle.ada_meaning.specs.Bodies.{instances_of, StandsIn}
 use Rattle.ada_meaning.proofs.BodyLaws.{instances_listed}
+use Rattle.ada_meaning.specs.Declared.{library_shape}
+use Rattle.ada_meaning.specs.Objects.{AreDistinct}
 use Rattle.ada_meaning.specs.Execution.{library_place, initial}
 use Rattle.ada_meaning.specs.Program.{Initial, no_initial, static_initial, others_initial, LibraryObject, Program}
 use Rattle.ada_meaning.specs.Resolved.{number_in, shape_in}
@@ -101,3 +106,46 @@ module _ (p : Program) (library : List Standing) (low : ℕ) (apart : IsLibrary 
   begins_alike K well placed are input has q c there =
       let agrees = begins_law p (CellsOf library) (cells_apart library apart.apart) outside address_of (all_stand p.objects well.library placed) input q c there in
       (sym (cell_filled library are (code.begin K input).memory (λ a. pos 0) has q c there) ∙ agrees.0, agrees.1)
+
+-- an object of the library level that a text names stands there, with its shape
+pub some_map : {X : Type 0} (P Q : X → Type 0) (xs : List X) → ((x : X) → P x → Q x) → Somewhere P xs → Somewhere Q xs
+some_map P Q [] f there = absurd there
+some_map P Q (x ∷ xs) f (inl is) = inl (f x is)
+some_map P Q (x ∷ xs) f (inr there) = inr (some_map P Q xs f there)
+
+module _ (p : Program) (library : List Standing) (address_of : (inst declaration : ℕ) → ℕ) (inst d : ℕ) where
+  abbrev pub Found : Shape → Standing → Type 0
+  Found a s = (s.place ≡ library_place inst d) × ((s.shape ≡ a) × (s.address ≡ address_of inst d))
+
+  others_differ : (e : ℕ) (os : List LibraryObject) → Everywhere (λ x. e ≡ x → ⊥) (map (λ o. o.declaration) os)
+      → Somewhere (λ (x : LibraryObject). (x.declaration ≡ d) × StandsIn p x.generic inst) os → e ≡ d → ⊥
+  others_differ e [] apart there is = there
+  others_differ e (o ∷ os) apart (inl here) is = apart.0 (is ∙ sym here.0)
+  others_differ e (o ∷ os) apart (inr there) is = others_differ e os apart.1 there is
+
+  pub found_outside : (os : List LibraryObject) → AreAddressed p library address_of os → AreDistinct (map (λ o. o.declaration) os)
+      → Somewhere (λ (x : LibraryObject). (x.declaration ≡ d) × StandsIn p x.generic inst) os → Somewhere (Found (library_shape p inst d os)) library
+  found_outside [] placed apart there = absurd there
+  found_outside (o ∷ os) placed apart (inl here) =
+      some_map (λ (s : Standing). (s.place ≡ library_place inst o.declaration) × ((s.shape ≡ shape_in p inst o.subtype) × (s.address ≡ address_of inst o.declaration)))
+      (Found (library_shape p inst d (o ∷ os))) library (λ s is. (
+        is.0 ∙ ap (library_place inst) here.0,
+        (is.1.0 ∙ ap (λ b. if b then shape_in p inst o.subtype else library_shape p inst d os) (sym (eq-eqb o.declaration d here.0)), is.1.1 ∙ ap (address_of inst) here.0),
+      ))
+      (placed.0 inst here.1)
+  found_outside (o ∷ os) placed apart (inr there) =
+      some_map (Found (library_shape p inst d os)) (Found (library_shape p inst d (o ∷ os))) library
+      (λ s is. (is.0, (is.1.0 ∙ ap (λ b. if b then shape_in p inst o.subtype else library_shape p inst d os) (sym (differs (eqb_tells o.declaration d))), is.1.1)))
+      (found_outside os placed.1 apart.1 there)
+    where
+      differs : ((nat_eq o.declaration d ≡ true) × (o.declaration ≡ d)) ⊎ ((nat_eq o.declaration d ≡ false) × (o.declaration ≢ d)) → nat_eq o.declaration d ≡ false
+      differs (inl is) = absurd (others_differ o.declaration os apart.0 there is.1)
+      differs (inr not) = not.0
+
+-- what stands there has a type
+pub standing_typed : (p : Program) (address_of : (inst declaration : ℕ) → ℕ) (s : Standing) → formed.IsWellFormed p → IsObjectOf p address_of s → formed.IsType s.shape
+standing_typed p address_of s well is =
+    let object = each_is (formed.IsLibraryObject p) p.objects is.object well.library is.declared in
+    subst formed.IsType (sym is.shape)
+    (each_is (λ i. formed.IsType (shape_in p i is.object.subtype) × formed.IsInitial p i is.object.initial) (instances_of is.object.generic p.instances) is.inst object
+    (instances_listed p is.object.generic is.inst is.stands)).0
