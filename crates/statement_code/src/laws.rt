@@ -26,7 +26,7 @@ ghost use Rattle.statement_code.specs.Cells.{Agree};
 ghost use Rattle.statement_code.specs.Copies.{layouts_nodes, AreCovered};
 ghost use Rattle.statement_code.specs.Fragments.{CodeLeaves, row_in, conditions_in};
 ghost use Rattle.statement_code.specs.Kernels.{Scheme, IsKernelBy, IsWhole};
-ghost use Rattle.statement_code.specs.Kernels.{AreOutside, place_of, rows_of, conditions_of, expanded_nodes};
+ghost use Rattle.statement_code.specs.Kernels.{AreOutside, nodes_at, place_of, rows_of, conditions_of, expanded_nodes};
 ghost use Rattle.statement_code.specs.Laid.{AreStacked, IsLaidKernel};
 ghost use Rattle.statement_code.specs.Initial.{AreAddressed, HasInitialWords, IsObjectOf};
 ghost use Rattle.statement_code.specs.Objects.{Standing, CellsOf};
@@ -53,7 +53,8 @@ pub fn kernels_end_where_their_programs_end()
 
 /// Each body of a program has a place in the list of its bodies, and stands nowhere else. Where nothing
 /// stands in a generic, the rows, conditions and nodes of all bodies are those of the subprograms, each
-/// once, in instance 0.
+/// once, in instance 0. The nodes of all bodies are no more than their subprograms' weights, if these are
+/// no less than the nodes of each.
 pub fn bodies_are_listed_once()
     ensures found { (p : Program) (j m : ℕ) → IsBody p (record { instance = j; subprogram = m })
         → slice_get (bodies_of p) (place_of j m (bodies_of p)) ≡ Some (record { instance = j; subprogram = m }) }
@@ -65,6 +66,8 @@ pub fn bodies_are_listed_once()
         → conditions_of p (bodies_of p) ≡ conditions_in 0 (decisions_of p.subprograms) }
     ensures nodes { (p : Program) → AreOutside p.subprograms
         → expanded_nodes p ≡ sum_by subprogram_nodes p.subprograms }
+    ensures weights { (p : Program) (weight : ℕ → ℕ) → ((m : ℕ) → nodes_at p.subprograms m ≤ weight m)
+        → expanded_nodes p ≤ sum_by (λ b. weight b.subprogram) (bodies_of p) }
 {}
 
 /// The kernel of a well-formed program is whole where its bodies are those of the program, each laid out in
