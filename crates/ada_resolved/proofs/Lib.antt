@@ -3,3 +3,4 @@ pub mod Instances
 pub mod SizeLaws
 pub mod Totals
 pub mod Rows
+pub mod TypeForms

@@ -125,7 +125,7 @@ past words n m more false e = refl
 -- a type that is seen through an instance has its size there
 module _ (v : InstanceValues) (inst i : ℕ) where
   mutual
-    seen_size : (t : type.Subtype) → type_size v inst (subtype_seen i t) ≡ type_size v i t
+    pub seen_size : (t : type.Subtype) → type_size v inst (subtype_seen i t) ≡ type_size v i t
     seen_size (type.scalar r) = ap (option_map (λ b. 1)) (seen_bounds v inst i r)
     seen_size (type.array r t) = λ s. array_size (seen_bounds v inst i r s) (seen_size t s)
     seen_size (type.fields cs) = seen_components cs

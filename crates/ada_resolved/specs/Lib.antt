@@ -3,3 +3,5 @@ pub mod Library
 pub mod Signs
 pub mod Sizes
 pub mod Table
+pub mod Forms
+pub mod Built

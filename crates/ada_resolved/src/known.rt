@@ -4,7 +4,7 @@
 ghost use Rattle.std.specs.Prelude.{◌≡◌, None, Some, option_map, slice_get, unwrap_or};
 ghost use Rattle.std.specs.Option.{option_copied};
 ghost use Rattle.ada_meaning.specs.Resolved as resolved;
-ghost use Rattle.ada_meaning.specs.Statics.{static_bounds, static_value, value_of_formal, bounds_of_formal};
+ghost use Rattle.ada_meaning.specs.Statics.{static_bounds, static_value, value_of_formal, bounds_of_formal, values_of};
 ghost use Rattle.ada_meaning.specs.Types as type;
 ghost use Rattle.ada_tree.specs.Programs.{bounds_of, formal_actual_of, program_of};
 ghost use Rattle.ada_tree.specs.View.{owner_of, scalar_range_of, static_of, static_value_of};
@@ -67,9 +67,23 @@ fn range_of(actual: FormalActual) -> Option<Range>
     }
 }
 
+impl<'a> Known<'a> {
+    /// What the instances of a program have, where all constants are computed.
+    pub fn of(program: &'a Program) -> Known<'a>
+        ensures program { result.program.now ≡ program.now }
+        ensures values { known_values result ≡ values_of (program_of program.now) }
+    {
+        Known {
+            program,
+            instance: 0,
+            constants: &[],
+        }
+    }
+}
+
 impl Known<'_> {
     /// What an instance has for the formal with this place (RM 12.3).
-    fn formal(&self, instance: u32, place: u32) -> Option<FormalActual>
+    pub fn formal(&self, instance: u32, place: u32) -> Option<FormalActual>
         ensures { option_map formal_actual_of result
             ≡ resolved.formal_of (program_of self.now.program.now) instance place }
     {

@@ -10,10 +10,15 @@
 
 mod arithmetic;
 mod constants;
+mod forms;
 mod known;
+mod names;
 mod sizes;
 mod values;
 
 pub use constants::constants_in;
+pub use forms::{RecordForm, TypeForm, TypeIn};
+pub use known::owner_in;
+pub use names::{exception_in, target_in};
 pub use sizes::{TypeSizes, sizes_are_exact};
 pub use values::{bounds_in, number_in};

@@ -188,7 +188,7 @@ fn stands_in(instances: &[Instance], generic: Option<u32>, instance: u32) -> boo
 /// computed once, so types that double stay small.
 #[derive(Drop)]
 pub struct TypeSizes<'a> {
-    program: &'a Program,
+    pub(crate) program: &'a Program,
     last_instance: u32,
     rows: Vec<Seq<Option<u32>>>,
     ghost instances: { last_instance ≡ length program.now.instances },
@@ -205,6 +205,13 @@ impl<'a> TypeSizes<'a> {
             last_instance: instance_count(program.instances.as_slice())?,
             rows: table_of(alloc, program)?,
         })
+    }
+
+    /// The program whose types these are.
+    pub fn program(&self) -> &'a Program
+        ensures { result.now ≡ self.now.program.now }
+    {
+        self.program
     }
 
     /// The size of a type in words, in the instance with this number, which is 0 in no generic. There is

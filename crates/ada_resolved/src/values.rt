@@ -13,12 +13,7 @@ use ada_tree::{Program, Range, ScalarRange, Static};
 pub fn number_in(program: &Program, instance: u32, value: Static) -> Option<i32>
     ensures { result ≡ static_value (values_of (program_of program.now)) instance (static_of value) }
 {
-    let known = Known {
-        program,
-        instance: 0,
-        constants: &[],
-    };
-    known.number(instance, value)
+    Known::of(program).number(instance, value)
 }
 
 /// The bounds of a range in the instance with this number, which is 0 in no generic (RM 3.5). There are
@@ -27,10 +22,5 @@ pub fn bounds_in(program: &Program, instance: u32, range: ScalarRange) -> Option
     ensures { option_map bounds_of result
         ≡ static_bounds (values_of (program_of program.now)) instance (scalar_range_of range) }
 {
-    let known = Known {
-        program,
-        instance: 0,
-        constants: &[],
-    };
-    known.bounds(instance, range)
+    Known::of(program).bounds(instance, range)
 }

@@ -138,15 +138,21 @@ pub data Actual : Type 0 where
   type_actual : AdaSubtype → Actual
   routine_actual : Routine → Actual
 
--- the type that is given for a formal type, if there is one
-abbrev pub given_type : AdaType → Option Actual → AdaType
-given_type t (Some (type_actual (of_type u r))) = u
-given_type t a = t
+-- The type that is given for a formal type: a scalar one (RM 12.5). An instance stands in no generic's text, so neither does
+-- the type; where none is given, this is never asked for.
+abbrev pub own_identity : Identity → Identity
+own_identity (declared_in here u n) = declared_in (of_instance 0) u n
+own_identity i = i
+
+abbrev pub given_type : Option Actual → AdaType
+given_type (Some (type_actual (of_type (integer_type i) r))) = integer_type (own_identity i)
+given_type (Some (type_actual (of_type (enumeration i n) r))) = enumeration (own_identity i) n
+given_type a = integer_type integer
 
 -- Entities of a generic's text as they are seen through an instance with this number and these actuals (RM 12.3): what
 -- is declared there belongs to the instance, formal types are the actual ones, and static values are those of the
--- instance.
-module _ (inst : ℕ) (actuals : List Actual) where
+-- instance. What another instance has stays that instance's.
+module _ (inst : ℕ) where
   abbrev pub owner_seen : Owner → Owner
   owner_seen here = of_instance inst
   owner_seen (of_instance i) = of_instance i
@@ -155,13 +161,30 @@ module _ (inst : ℕ) (actuals : List Actual) where
   identity_seen (declared_in o u n) = declared_in (owner_seen o) u n
   identity_seen i = i
 
+  abbrev pub static_seen : Static → Static
+  static_seen (static_of i e) = static_of i e
+  static_seen e = static_of inst e
+
+  abbrev pub object_seen : Object → Object
+  object_seen (library_object o d) = library_object (owner_seen o) d
+  object_seen (local_object d) = local_object d
+
+  abbrev pub callee_seen : Callee → Callee
+  callee_seen (subprogram o n) = subprogram (owner_seen o) n
+  callee_seen c = c
+
+  abbrev pub exception_seen : ExceptionName → ExceptionName
+  exception_seen (predefined n) = predefined n
+  exception_seen (declared o d) = declared (owner_seen o) d
+
+module _ (inst : ℕ) (actuals : List Actual) where
   abbrev mutual
     pub type_seen : AdaType → AdaType
-    type_seen (integer_type i) = integer_type (identity_seen i)
-    type_seen (enumeration i n) = enumeration (identity_seen i) n
-    type_seen (formal_type i k b) = given_type (formal_type i k b) (slice_get actuals k)
-    type_seen (array_type i x c) = array_type (identity_seen i) (subtype_seen x) (subtype_seen c)
-    type_seen (record_type i fs) = record_type (identity_seen i) (fields_seen fs)
+    type_seen (integer_type i) = integer_type (identity_seen inst i)
+    type_seen (enumeration i n) = enumeration (identity_seen inst i) n
+    type_seen (formal_type i k b) = given_type (slice_get actuals k)
+    type_seen (array_type i x c) = array_type (identity_seen inst i) (subtype_seen x) (subtype_seen c)
+    type_seen (record_type i fs) = record_type (identity_seen inst i) (fields_seen fs)
 
     pub subtype_seen : AdaSubtype → AdaSubtype
     subtype_seen (of_type t r) = of_type (type_seen t) (range_seen inst r)
@@ -170,28 +193,24 @@ module _ (inst : ℕ) (actuals : List Actual) where
     fields_seen no_field = no_field
     fields_seen (and_field name t fs) = and_field name (subtype_seen t) (fields_seen fs)
 
-  abbrev pub object_seen : Object → Object
-  object_seen (library_object o d) = library_object (owner_seen o) d
-  object_seen (local_object d) = local_object d
-
   abbrev pub variable_seen : Variable → Variable
   variable_seen v = record {
-    object = object_seen v.object;
+    object = object_seen inst v.object;
     parts = v.parts;
     subtype = subtype_seen v.subtype;
     is_writable = v.is_writable;
     is_indexed = v.is_indexed;
-    known = option_map (static_of inst) v.known;
+    known = option_map (static_seen inst) v.known;
     values = within (range_seen inst (range_in v.subtype));
   }
 
   abbrev pub parameter_seen : Parameter → Parameter
-  parameter_seen q =
-      record { name = q.name; mode = q.mode; mark = option_map identity_seen q.mark; subtype = subtype_seen q.subtype }
-
-  abbrev pub callee_seen : Callee → Callee
-  callee_seen (subprogram o n) = subprogram (owner_seen o) n
-  callee_seen c = c
+  parameter_seen q = record {
+    name = q.name;
+    mode = q.mode;
+    mark = option_map (identity_seen inst) q.mark;
+    subtype = subtype_seen q.subtype;
+  }
 
   abbrev pub result_values_seen : Option Parameter → Spans
   result_values_seen None = within (range_in integer_subtype)
@@ -199,25 +218,21 @@ module _ (inst : ℕ) (actuals : List Actual) where
 
   abbrev pub routine_seen : Routine → Routine
   routine_seen r = record {
-    callee = callee_seen r.callee;
+    callee = callee_seen inst r.callee;
     parameters = map parameter_seen r.parameters;
     result = option_map parameter_seen r.result;
     values = result_values_seen r.result;
     awaits_body = false;
   }
 
-  abbrev pub exception_seen : ExceptionName → ExceptionName
-  exception_seen (predefined n) = predefined n
-  exception_seen (declared o d) = declared (owner_seen o) d
-
   abbrev pub seen : Entity → Entity
   seen hidden = hidden
-  seen (mark i t) = mark (identity_seen i) (subtype_seen t)
+  seen (mark i t) = mark (identity_seen inst i) (subtype_seen t)
   seen (literal t x) = literal (type_seen t) x
   seen (object v) = object (variable_seen v)
-  seen (formal_object t e) = formal_object (subtype_seen t) (static_of inst e)
+  seen (formal_object t e) = formal_object (subtype_seen t) (static_seen inst e)
   seen (routine r) = routine (routine_seen r)
-  seen (raisable e) = raisable (exception_seen e)
+  seen (raisable e) = raisable (exception_seen inst e)
   seen component = component
   seen test_io = test_io
   seen (unit n) = unit n

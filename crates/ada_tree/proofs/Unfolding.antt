@@ -1,8 +1,9 @@
 -- Unfolding the types of a program: without a type nothing changes, and the obligations and the objects of a body stay what they are.
-use Rattle.std.proofs.Common.{◌≡◌, ℕ, zero, suc, List, [], ◌∷◌, ◌++◌, map, option_map, slice_get, refl, ap}
+use Rattle.std.proofs.Common.{◌≡◌, ℕ, zero, suc, List, [], ◌∷◌, ◌++◌, map, option_map, slice_get, refl, ap, ◌||◌}
 use Rattle.std.specs.Prelude.{unwrap_or}
 use Rattle.cov_base.specs.Lists.{Everywhere}
 use Rattle.ada_meaning.specs.Collected.{in_value, in_decision, in_expr, in_parts, in_turns, in_declarations, in_stmt, in_stmts, in_branches, in_alternatives, in_handlers, in_block, declaration_labels, labels, all_labels, branch_labels, alternative_labels, handler_labels, block_labels, after_if, after_while}
+use Rattle.ada_meaning.specs.Declared.{gives, some_gives, branch_gives, alternative_gives, handler_gives, block_gives}
 use Rattle.ada_meaning.specs.Objects.{number_of, objects, all_objects, branch_objects, alternative_objects, handler_objects, block_objects}
 use Rattle.ada_meaning.specs.Seen.{subtype_seen}
 use Rattle.ada_meaning.specs.Types.{Subtype, scalar, array, fields, subtype_of, Components, no_component, and_component}
@@ -213,6 +214,43 @@ module _ (types : List Subtype) where
 
     pub objects_of_block : (b : tree.Block) → block_objects (unfolded_block types b) ≡ block_objects b
     objects_of_block (tree.block ds ss hs) = λ i. declared_objects ds i ++ (statements_objects ss i ++ objects_of_handlers hs i)
+
+  mutual
+    statement_gives : (s : tree.Stmt) → gives (unfolded_statement types s) ≡ gives s
+    statement_gives (tree.null_statement l) = refl
+    statement_gives (tree.assignment l o parts v) = refl
+    statement_gives (tree.procedure_call l c actuals) = refl
+    statement_gives (tree.if_statement l bs) = gives_of_branches bs
+    statement_gives (tree.case_statement l e choices) = gives_of_alternatives choices
+    statement_gives (tree.bare_loop l ss) = statements_give ss
+    statement_gives (tree.while_loop l d t ss) = statements_give ss
+    statement_gives (tree.for_loop l d reversed ts ss) = statements_give ss
+    statement_gives (tree.exit_statement l) = refl
+    statement_gives (tree.exit_when l d t) = refl
+    statement_gives (tree.return_statement l) = refl
+    statement_gives (tree.return_value l r e) = refl
+    statement_gives (tree.raise_statement l x) = refl
+    statement_gives (tree.raise_again l) = refl
+    statement_gives (tree.block_statement b) = gives_of_block b
+
+    statements_give : (ss : tree.Stmts) → some_gives (unfolded_statements types ss) ≡ some_gives ss
+    statements_give tree.no_statement = refl
+    statements_give (tree.and_statement s ss) = λ i. statement_gives s i || statements_give ss i
+
+    gives_of_branches : (bs : tree.Branches) → branch_gives (unfolded_branches types bs) ≡ branch_gives bs
+    gives_of_branches (tree.else_part ss) = statements_give ss
+    gives_of_branches (tree.branch d t ss bs) = λ i. statements_give ss i || gives_of_branches bs i
+
+    gives_of_alternatives : (xs : tree.Alternatives) → alternative_gives (unfolded_alternatives types xs) ≡ alternative_gives xs
+    gives_of_alternatives tree.no_alternative = refl
+    gives_of_alternatives (tree.alternative cs ss xs) = λ i. statements_give ss i || gives_of_alternatives xs i
+
+    gives_of_handlers : (hs : tree.Handlers) → handler_gives (unfolded_handlers types hs) ≡ handler_gives hs
+    gives_of_handlers tree.no_handler = refl
+    gives_of_handlers (tree.handler cs ss hs) = λ i. statements_give ss i || gives_of_handlers hs i
+
+    pub gives_of_block : (b : tree.Block) → block_gives (unfolded_block types b) ≡ block_gives b
+    gives_of_block (tree.block ds ss hs) = λ i. statements_give ss i || gives_of_handlers hs i
 
 -- a type of a table is an array or a record
 abbrev pub IsComposite : Subtype → Type 0

@@ -1,6 +1,7 @@
 -- What the text of a program weighs, by the generic in which it stands: library units by their entries, what code is made of by a weight of
 -- its own. Text of a generic counts once for each of its instances (RM 12.3).
-use Rattle.std.specs.Prelude.{◌≡◌, ℕ, ◌+◌, ◌≤◌, nat_eq, Bool, true, false, List, [], ◌∷◌, length, sum_by, Option, Some, None, if◌then◌else◌}
+use Rattle.std.specs.Prelude.{◌≡◌, ℕ, ◌+◌, ◌≤◌, nat_eq, Bool, true, false, List, length, sum_by, Option, Some, None, if◌then◌else◌}
+use Rattle.ada_tree.specs.declared.program.ExceptionDeclaration.{ExceptionDeclaration}
 use Rattle.ada_tree.specs.declared.program.Instance.{Instance}
 use Rattle.ada_tree.specs.declared.program.Program.{Program}
 use Rattle.ada_tree.specs.declared.program.Subprogram.{Subprogram}
@@ -48,6 +49,10 @@ in_instance count (InstanceOf g) = count g
 abbrev pub in_instances : (ℕ → ℕ) → List UnitEntry → ℕ
 in_instances count us = sum_by (λ u. in_instance count u.role) us
 
+-- how many exceptions are declared in a generic, or in none: the name of each is a token that counts
+abbrev pub exceptions_in : Option ℕ → List ExceptionDeclaration → ℕ
+exceptions_in g ds = sum_by (λ d. if stands_in g d.generic then 1 else 0) ds
+
 module _ (weight : Subprogram → ℕ) where
   -- the weight of the bodies and of the types that stand in a generic, or in none
   abbrev pub bodies_weight : Option ℕ → List Subprogram → ℕ
@@ -56,8 +61,8 @@ module _ (weight : Subprogram → ℕ) where
   abbrev pub types_weight : Option ℕ → List TypeDeclaration → ℕ
   types_weight g ts = sum_by (λ t. if stands_in g t.generic then type_nodes t else 0) ts
 
-  -- Bodies by this weight, and the declarations of types, weigh no more than the nodes of the units in which they stand; and the instances of
-  -- a program are those that its units are.
+  -- Bodies by this weight, the declarations of types and those of exceptions weigh no more than the nodes of the units in which they stand; and
+  -- the instances of a program are those that its units are.
   pub record IsWeighed (p : Program) : Type 0 where
-    pub text : (g : Option ℕ) → bodies_weight g p.subprograms + types_weight g p.types ≤ text_nodes g p.units
+    pub text : (g : Option ℕ) → bodies_weight g p.subprograms + types_weight g p.types + exceptions_in g p.declared ≤ text_nodes g p.units
     pub instances : (count : ℕ → ℕ) → sum_by (λ (i : Instance). count i.generic) p.instances ≡ in_instances count p.units

@@ -16,6 +16,7 @@ mod label;
 mod laws;
 mod objects;
 mod program;
+mod results;
 mod statement;
 mod types;
 

@@ -1,5 +1,5 @@
 -- What files hold and a sink has taken, and how a call changes it.
-use Rattle.std.specs.Prelude.{◌≡◌, ◌≢◌, ℕ, ◌+◌, ◌-◌, ◌^◌, ◌≤◌, min, List, ◌++◌, take, Option, None, Some, IfSome, IsSomeAnd}
+use Rattle.std.specs.Prelude.{◌≡◌, ◌≢◌, ℕ, ◌+◌, ◌-◌, ◌^◌, ◌≤◌, ◌↔◌, min, List, [], ◌++◌, length, take, drop, Option, None, Some, IfSome, IsSomeAnd}
 use Rattle.std.specs.Ordering.{nat_cmp}
 use Rattle.std.specs.Cmp.Lexicographic.{slice_cmp}
 use Rattle.std.specs.FinMap as map
@@ -19,6 +19,15 @@ WhereTold Related old new = IfSome old (λ before. IsSomeAnd new (λ after. Rela
 -- this name has these bytes
 abbrev pub Holds : List ℕ → List ℕ → Held → Type 0
 Holds name bytes held = map.get held name ≡ Some bytes
+
+-- the part has the first of these bytes from a place on, and has none exactly where that is at their end or past it
+pub record IsPart (from : ℕ) (bytes part : List ℕ) : Type 0 where
+  pub taken : part ≡ take (length part) (drop from bytes)
+  pub ended : part ≡ [] ↔ length bytes ≤ from
+
+-- this name is there, with bytes of which this is a part
+abbrev pub HoldsPart : List ℕ → ℕ → List ℕ → Held → Type 0
+HoldsPart name from part held = IsSomeAnd (map.get held name) (λ bytes. IsPart from bytes part)
 
 -- the files tell what they hold, and this name is not there
 abbrev pub IsAbsent : Option Held → List ℕ → Type 0

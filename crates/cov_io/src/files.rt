@@ -1,8 +1,8 @@
-//! Files by name, each read and written whole.
+//! Files by name, each read whole or a part at a time, and written whole.
 
-ghost use Rattle.std.specs.Prelude.{◌≡◌, ◌≢◌, ℕ, ◌≤◌, ◌⊎◌, Option, [], OnOk, OnErr, IfSome, IsErrOf};
+ghost use Rattle.std.specs.Prelude.{◌≡◌, ◌≢◌, ℕ, ◌<◌, ◌≤◌, ◌⊎◌, Option, [], length, OnOk, OnErr, IfSome, IsErrOf};
 ghost use Rattle.cov_io.specs.declared.files.FileFault.TheVariants.{NoMemory};
-ghost use Rattle.cov_io.specs.Outside.{Held, Rose, WhereTold, Holds, IsAbsent, SameBut, Replaces};
+ghost use Rattle.cov_io.specs.Outside.{Held, Rose, WhereTold, Holds, HoldsPart, IsAbsent, SameBut, Replaces};
 
 use std::alloc::{AllocError, AllocFailed};
 use thiserror::Error;
@@ -50,6 +50,37 @@ pub trait Files {
     /// A name that the files tell is not there is `Failed`, and is not counted.
     fn read(&mut self, name: &str, into: &mut Vec<u8>) -> Result<(), FileFault>
         ensures ok { OnOk result (IfSome (held self.old) (Holds name.now into.new.items)) }
+        ensures err { OnErr result (into.new.items ≡ []) }
+        ensures same { held self.new ≡ held self.old }
+
+        // Why the files fail a read, and that a name which is not there always fails.
+        ensures failed { IsErrOf result FileFault.Failed
+            → Rose (reads_failed self.old) (reads_failed self.new)
+            ⊎ IsAbsent (held self.old) name.now }
+        ensures absent { IsAbsent (held self.old) name.now → IsErrOf result FileFault.Failed }
+
+        // How the counts move.
+        ensures uncounted { IsAbsent (held self.old) name.now
+            → reads_failed self.new ≡ reads_failed self.old }
+        ensures stays { result ≢ Err FileFault.Failed
+            → reads_failed self.new ≡ reads_failed self.old }
+        ensures later { reads_failed self.old ≤ reads_failed self.new }
+        ensures writes { writes_failed self.new ≡ writes_failed self.old };
+
+    /// Replaces `into` by a part of the file, or empties it where that fails.
+    ///
+    /// The part is the first of the bytes from `from` on, at most `most` of them. It may have fewer,
+    /// and has none exactly where `from` is at the end of the file or past it. It fails as `read` does.
+    fn read_part(
+        &mut self,
+        name: &str,
+        from: u64,
+        most: usize,
+        into: &mut Vec<u8>,
+    ) -> Result<(), FileFault>
+        requires { 0 < most }
+        ensures ok { OnOk result (IfSome (held self.old) (HoldsPart name.now from into.new.items)) }
+        ensures few { length into.new.items ≤ most }
         ensures err { OnErr result (into.new.items ≡ []) }
         ensures same { held self.new ≡ held self.old }
 

@@ -1,10 +1,11 @@
 //! The files of the system.
 
-ghost use Rattle.std.specs.Prelude.{◌≡◌, None, OnOk, IfSome};
+ghost use Rattle.std.specs.Prelude.{◌≡◌, ◌≤◌, None, length, OnOk, IfSome};
 ghost use Rattle.cov_io.specs.Outside.{Appends};
 
+use crate::fault_counts::FaultCounts;
 use crate::files::{FileFault, Files};
-use std::io::{ErrorKind, Read};
+use std::io::{ErrorKind, Read, Seek, SeekFrom};
 use std::{fs, rt};
 
 /// How many bytes one turn of a read asks for.
@@ -14,8 +15,7 @@ const TURN: usize = 4096;
 #[derive(Drop)]
 pub struct HostFiles<R: rt::Files + Drop> {
     rt: R,
-    read_faults: u64,
-    write_faults: u64,
+    faults: FaultCounts,
 }
 
 impl<R: rt::Files + Drop> HostFiles<R> {
@@ -26,8 +26,10 @@ impl<R: rt::Files + Drop> HostFiles<R> {
     {
         HostFiles {
             rt,
-            read_faults: 0,
-            write_faults: 0,
+            faults: FaultCounts {
+                reads: 0,
+                writes: 0,
+            },
         }
     }
 }
@@ -35,9 +37,9 @@ impl<R: rt::Files + Drop> HostFiles<R> {
 impl<R: rt::Files + Drop> Files for HostFiles<R> {
     ghost held = { λ _. None };
 
-    ghost reads_failed = { λ files. files.read_faults };
+    ghost reads_failed = { λ files. files.faults.reads };
 
-    ghost writes_failed = { λ files. files.write_faults };
+    ghost writes_failed = { λ files. files.faults.writes };
 
     fn read(&mut self, name: &str, into: &mut Vec<u8>) -> Result<(), FileFault> {
         into.clear();
@@ -45,31 +47,58 @@ impl<R: rt::Files + Drop> Files for HostFiles<R> {
             Ok(mut file) => read_to_end(&mut file, into),
             Err(_) => Err(FileFault::Failed),
         };
-        let Err(fault) = outcome else {
-            return Ok(());
-        };
-        into.clear();
-        if fault == FileFault::Failed {
-            self.read_faults = self.read_faults.saturating_add(1);
+        match outcome {
+            Ok(()) => Ok(()),
+            Err(FileFault::Failed) => {
+                into.clear();
+                Err(self.faults.fail_read())
+            }
+            Err(FileFault::NoMemory) => {
+                into.clear();
+                Err(FileFault::NoMemory)
+            }
         }
-        Err(fault)
+    }
+
+    fn read_part(
+        &mut self,
+        name: &str,
+        from: u64,
+        most: usize,
+        into: &mut Vec<u8>,
+    ) -> Result<(), FileFault> {
+        into.clear();
+        let outcome = match fs::open(&self.rt, name) {
+            Ok(mut file) => read_once(&mut file, from, most, into),
+            Err(_) => Err(FileFault::Failed),
+        };
+        match outcome {
+            Ok(()) => Ok(()),
+            Err(FileFault::Failed) => {
+                into.clear();
+                Err(self.faults.fail_read())
+            }
+            Err(FileFault::NoMemory) => {
+                into.clear();
+                Err(FileFault::NoMemory)
+            }
+        }
     }
 
     fn write(&mut self, name: &str, bytes: &[u8]) -> Result<(), FileFault> {
         // This takes no memory, so whatever it answers is a fault of the files.
         if fs::write(&self.rt, name, bytes).is_err() {
-            self.write_faults = self.write_faults.saturating_add(1);
-            return Err(FileFault::Failed);
+            return Err(self.faults.fail_write());
         }
         Ok(())
     }
 
     fn read_faults(&self) -> u64 {
-        self.read_faults
+        self.faults.reads
     }
 
     fn write_faults(&self) -> u64 {
-        self.write_faults
+        self.faults.writes
     }
 }
 
@@ -84,6 +113,32 @@ fn read_to_end<R: Read>(reader: &mut R, into: &mut Vec<u8>) -> Result<(), FileFa
         match reader.read(&mut turn) {
             Ok(0) => return Ok(()),
             Ok(count) => into.extend_from_slice(&turn[..count])?,
+            Err(error) if error.kind() == ErrorKind::Interrupted => {}
+            Err(_) => return Err(FileFault::Failed),
+        }
+    }
+    Err(FileFault::Failed)
+}
+
+/// Fills `into` by one read of at most `most` bytes from `from` on. An interrupted one is tried again.
+fn read_once<R: Read + Seek>(
+    reader: &mut R,
+    from: u64,
+    most: usize,
+    into: &mut Vec<u8>,
+) -> Result<(), FileFault>
+    ensures { OnOk result (length into.new.items ≤ most) }
+{
+    if reader.seek(SeekFrom::Start(from)).is_err() {
+        return Err(FileFault::Failed);
+    }
+    into.resize(most, 0)?;
+    for _ in 0..u32::MAX {
+        match reader.read(into.as_mut_slice()) {
+            Ok(count) => {
+                into.truncate(count);
+                return Ok(());
+            }
             Err(error) if error.kind() == ErrorKind::Interrupted => {}
             Err(_) => return Err(FileFault::Failed),
         }

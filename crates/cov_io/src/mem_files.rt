@@ -1,12 +1,14 @@
 //! Files in memory.
 
-ghost use Rattle.std.specs.Prelude.{◌≡◌, Some};
+ghost use Rattle.std.specs.Prelude.{◌≡◌, ◌<◌, ◌≤◌, length, Some};
 ghost use Rattle.std.specs.Option.{option_copied};
 ghost use Rattle.std.specs.FinMap as map;
 ghost use Rattle.cov_io.specs.Entries.{held_of};
 ghost use Rattle.cov_io.specs.MemFiles.{held_by, failing_calls};
+ghost use Rattle.cov_io.specs.Outside.{IsPart};
 
 use crate::contents::{Contents, Entry};
+use crate::fault_counts::FaultCounts;
 use crate::fault_plan::FaultPlan;
 use crate::files::{FileFault, Files};
 
@@ -17,8 +19,7 @@ use crate::files::{FileFault, Files};
 pub struct MemFiles {
     contents: Contents,
     plan: FaultPlan,
-    read_faults: u64,
-    write_faults: u64,
+    faults: FaultCounts,
 }
 
 impl MemFiles {
@@ -35,8 +36,10 @@ impl MemFiles {
         MemFiles {
             contents: Contents::new(contents),
             plan: FaultPlan::new(failing),
-            read_faults: 0,
-            write_faults: 0,
+            faults: FaultCounts {
+                reads: 0,
+                writes: 0,
+            },
         }
     }
 
@@ -51,9 +54,9 @@ impl MemFiles {
 impl Files for MemFiles {
     ghost held = { λ files. Some (held_by files) };
 
-    ghost reads_failed = { λ files. files.read_faults };
+    ghost reads_failed = { λ files. files.faults.reads };
 
-    ghost writes_failed = { λ files. files.write_faults };
+    ghost writes_failed = { λ files. files.faults.writes };
 
     fn read(&mut self, name: &str, into: &mut Vec<u8>) -> Result<(), FileFault> {
         into.clear();
@@ -62,26 +65,54 @@ impl Files for MemFiles {
             return Err(FileFault::Failed);
         };
         if fails {
-            self.read_faults = self.read_faults.saturating_add(1);
-            return Err(FileFault::Failed);
+            return Err(self.faults.fail_read());
         }
         into.extend_from_slice(bytes)?;
         Ok(())
     }
 
+    fn read_part(
+        &mut self,
+        name: &str,
+        from: u64,
+        most: usize,
+        into: &mut Vec<u8>,
+    ) -> Result<(), FileFault> {
+        into.clear();
+        let fails = self.plan.fails_next();
+        let Some(bytes) = self.contents.get(name) else {
+            return Err(FileFault::Failed);
+        };
+        if fails {
+            return Err(self.faults.fail_read());
+        }
+        into.extend_from_slice(part_of(bytes, from, most))?;
+        Ok(())
+    }
+
     fn write(&mut self, name: &str, bytes: &[u8]) -> Result<(), FileFault> {
         if self.plan.fails_next() {
-            self.write_faults = self.write_faults.saturating_add(1);
-            return Err(FileFault::Failed);
+            return Err(self.faults.fail_write());
         }
         self.contents.insert(name, bytes)
     }
 
     fn read_faults(&self) -> u64 {
-        self.read_faults
+        self.faults.reads
     }
 
     fn write_faults(&self) -> u64 {
-        self.write_faults
+        self.faults.writes
     }
+}
+
+/// As many of the bytes from `from` on as there are, up to `most`.
+fn part_of(bytes: &[u8], from: u64, most: usize) -> &[u8]
+    requires { 0 < most }
+    ensures part { IsPart from bytes.now result.now }
+    ensures few { length result.now ≤ most }
+{
+    let start = bytes.len().min(from as usize);
+    let rest = &bytes[start..];
+    &rest[..rest.len().min(most)]
 }

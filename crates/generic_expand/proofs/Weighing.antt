@@ -9,6 +9,7 @@ use Rattle.ada_meaning.specs.Bodies.{instances_from, instances_of}
 use Rattle.ada_tree.specs.Programs.{instance_of, types_of}
 use Rattle.ada_tree.specs.Weights.{IsWeighed, bodies_weight, in_instance, stands_in, text_nodes, type_nodes, types_weight as types_in, unit_nodes_in}
 use Rattle.ada_tree.specs.Weights as text
+use Rattle.ada_tree.specs.declared.program.ExceptionDeclaration.{ExceptionDeclaration}
 use Rattle.ada_tree.specs.declared.program.Instance.{Instance}
 use Rattle.ada_tree.specs.declared.program.Program.{Program}
 use Rattle.ada_tree.specs.declared.program.Subprogram.{Subprogram}
@@ -18,7 +19,7 @@ use Rattle.ada_tree.specs.declared.program.UnitRole.TheVariants.{Once, OfGeneric
 use Rattle.ada_tree.specs.declared.types.TypeDeclaration.{TypeDeclaration}
 use Rattle.generic_expand.specs.Copying.{copy_in, in_instances, of_subprogram, of_subprograms}
 use Rattle.generic_expand.specs.Expanded.{expanded_nodes, first_past, generic_nodes, instance_limit, instances_in, node_limit, nodes_in, past_instances, past_nodes}
-use Rattle.generic_expand.specs.Limits.{PassesFirst, copies_weight, instance_count, node_count, types_weight, weight_of}
+use Rattle.generic_expand.specs.Limits.{PassesFirst, copies_weight, declared_copies, exception_count, instance_count, node_count, types_weight, weight_of}
 use Rattle.generic_expand.proofs.Copying.{of_all}
 
 -- a count over units that is stopped at the first one with which it passes the limit
@@ -234,9 +235,10 @@ module _ (weight : Subprogram → ℕ) (p : Program) where
       ap (sum_by (weight_of weight p)) (sym (of_all (types_of p.types) 0 p.subprograms p.instances))
       ∙ copies_from [] p.subprograms 0 p.instances refl refl
 
-  -- bodies and types of each instance's generic are within its text
+  -- bodies, types and exceptions of each instance's generic are within its text
   each_within : IsWeighed weight p → (is : List Instance)
       → of_instances (λ (s : Subprogram). s.generic) weight is p.subprograms + of_instances (λ (t : TypeDeclaration). t.generic) type_nodes is p.types
+      + of_instances (λ (d : ExceptionDeclaration). d.generic) (λ d. 1) is p.declared
       ≤ sum_by (λ i. text_nodes (Some i.generic) p.units) is
   each_within weighed [] = omega arith
   each_within weighed (i ∷ is) =
@@ -244,18 +246,31 @@ module _ (weight : Subprogram → ℕ) (p : Program) where
         arith,
         sum_by-cons (λ j. of_text (λ (s : Subprogram). s.generic) weight (Some j.generic) p.subprograms) i is,
         sum_by-cons (λ j. of_text (λ (t : TypeDeclaration). t.generic) type_nodes (Some j.generic) p.types) i is,
+        sum_by-cons (λ j. of_text (λ (d : ExceptionDeclaration). d.generic) (λ d. 1) (Some j.generic) p.declared) i is,
         sum_by-cons (λ j. text_nodes (Some j.generic) p.units) i is,
         weighed.text (Some i.generic),
         each_within weighed is,
       )
 
-  pub copies_within : IsWeighed weight p → copies_weight weight p + types_weight p ≤ node_count p.units
+  once_each : (ds : List ExceptionDeclaration) → sum_by (λ d. declared_copies p d.generic) ds ≡ sum_by (λ d. 1 * declared_copies p d.generic) ds
+  once_each [] = refl
+  once_each (d ∷ ds) =
+      omega (
+        arith,
+        sum_by-cons (λ e. declared_copies p e.generic) d ds,
+        sum_by-cons (λ e. 1 * declared_copies p e.generic) d ds,
+        once_each ds,
+      )
+
+  pub copies_within : IsWeighed weight p → copies_weight weight p + types_weight p + exception_count p ≤ node_count p.units
   copies_within weighed =
       omega (
         arith,
         copies_are,
         all_copied (λ (s : Subprogram). s.generic) weight p.subprograms p.instances,
         all_copied (λ (t : TypeDeclaration). t.generic) type_nodes p.types p.instances,
+        once_each p.declared,
+        all_copied (λ (d : ExceptionDeclaration). d.generic) (λ d. 1) p.declared p.instances,
         weighed.text None,
         each_within weighed p.instances,
         weighed.instances (λ g. text_nodes (Some g) p.units),

@@ -27,13 +27,17 @@ pub record PassesFirst (count : UnitEntry → ℕ) (limit : ℕ) (units : List U
   pub past : limit < sum_by count before + count unit
   pub stands : place ≡ unit.pos
 
--- how often a declaration of a type counts: once for each instance of its generic
-abbrev pub type_copies : Program → Option ℕ → ℕ
-type_copies p g = length (instances_of g (map instance_of p.instances))
+-- how often a declaration counts: once for each instance of its generic
+abbrev pub declared_copies : Program → Option ℕ → ℕ
+declared_copies p g = length (instances_of g (map instance_of p.instances))
 
 -- the weight of the declarations of types, copies counted
 abbrev pub types_weight : Program → ℕ
-types_weight p = sum_by (λ t. type_nodes t * type_copies p t.generic) p.types
+types_weight p = sum_by (λ t. type_nodes t * declared_copies p t.generic) p.types
+
+-- how many exceptions a program has beside the predefined ones
+abbrev pub exception_count : Program → ℕ
+exception_count p = sum_by (λ d. declared_copies p d.generic) p.declared
 
 module _ (weight : Subprogram → ℕ) (p : Program) where
   abbrev pub weight_of : BodyCopy → ℕ

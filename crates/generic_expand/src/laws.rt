@@ -1,10 +1,12 @@
 //! What copies mean.
 
-ghost use Rattle.std.specs.Prelude.{◌≡◌, ◌≤◌, ◌+◌, ℕ, List, None, Some};
+ghost use Rattle.std.specs.Prelude.{◌≡◌, ◌≤◌, ◌+◌, ℕ, List, None, Some, length};
 ghost use Rattle.ada_meaning.specs.Calls.{Argument, Calls};
 ghost use Rattle.ada_meaning.specs.Copies.{subprogram_copy};
 ghost use Rattle.ada_meaning.specs.Execution.{called};
 ghost use Rattle.ada_meaning.specs.Program.{Program, Subprogram};
+ghost use Rattle.ada_meaning.specs.Obligations.{IsNumbered};
+ghost use Rattle.ada_tree.specs.Programs.{program_of};
 ghost use Rattle.ada_tree.specs.Weights.{IsWeighed};
 ghost use Rattle.ada_tree.specs.declared.program.Program.{Program as TypedProgram};
 ghost use Rattle.ada_tree.specs.declared.program.Subprogram.{Subprogram as TypedSubprogram};
@@ -12,7 +14,7 @@ ghost use Rattle.ada_tree.specs.declared.program.UnitEntry.{UnitEntry};
 ghost use Rattle.cov_base.specs.declared.position.Pos.{Pos};
 ghost use Rattle.generic_expand.specs.Expanded as expanded;
 ghost use Rattle.generic_expand.specs.Expanded.{first_past, instance_limit, node_limit, past_instances};
-ghost use Rattle.generic_expand.specs.Limits.{PassesFirst, copies_weight, instance_count, node_count, types_weight};
+ghost use Rattle.generic_expand.specs.Limits.{PassesFirst, copies_weight, exception_count, instance_count, node_count, types_weight};
 
 /// The copy of a subprogram for an instance means what the subprogram means in the instance: a call of it
 /// has the same outcome, with the same events, the same output and the same cost (RM 12.3).
@@ -34,8 +36,10 @@ pub fn limits_are_exact()
 {}
 
 /// Where what is made of a program weighs no more than its text, generic by generic, the copies of its
-/// bodies and of its types weigh no more than the expanded program has nodes.
+/// bodies, of its types and of its exceptions weigh no more than the expanded program has nodes. Where the
+/// numbers of a program are given, it has as many exceptions as are declared, copies counted.
 pub fn copies_are_within_the_nodes()
-    ensures { (weight : TypedSubprogram → ℕ) (p : TypedProgram) → IsWeighed weight p
-        → copies_weight weight p + types_weight p ≤ node_count p.units }
+    ensures weight { (weight : TypedSubprogram → ℕ) (p : TypedProgram) → IsWeighed weight p
+        → copies_weight weight p + types_weight p + exception_count p ≤ node_count p.units }
+    ensures exceptions { (p : TypedProgram) → IsNumbered (program_of p) → length p.exceptions ≡ exception_count p }
 {}

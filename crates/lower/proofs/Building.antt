@@ -11,7 +11,8 @@ use Rattle.kernel_ir.specs.declared.simple.Simple.{Simple}
 use Rattle.kernel_ir.specs.Tree.{simple, Code, no_op, and_op}
 use Rattle.lower.specs.Known.{Known}
 use Rattle.lower.specs.Chain.{operand_code, operands_code, end_of_operands}
-use Rattle.lower.specs.Lowered.{one, end_of, end_of_declarations, end_of_statements, expr_code}
+use Rattle.statement_code.specs.Values.{one}
+use Rattle.lower.specs.Lowered.{end_of, end_of_declarations, end_of_statements, expr_code}
 use Rattle.lower.proofs.Values.{end_is_above}
 
 pub nothing_put : (a : Code) → a ≡ joined a no_op

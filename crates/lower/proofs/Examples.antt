@@ -6,7 +6,8 @@ use Rattle.ada_meaning.specs.Tree as tree
 use Rattle.ada_meaning.specs.Types as type
 use Rattle.kernel_ir.specs.declared.simple.Simple.TheVariants as op
 use Rattle.lower.specs.Known.{known_outside}
-use Rattle.lower.specs.Lowered.{one, expr_code}
+use Rattle.statement_code.specs.Values.{one}
+use Rattle.lower.specs.Lowered.{expr_code}
 use Rattle.lower.specs.Structured.{HasValue, HasBounds}
 
 -- a program with one instance, of a generic with a formal object, which is 7 there, and a formal type, which has the values 3 to 9

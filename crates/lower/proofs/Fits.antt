@@ -21,7 +21,8 @@ use Rattle.kernel_ir.specs.Limits.{IsWord, SimpleFits, EdgeFits, OpFits, CodeFit
 use Rattle.kernel_ir.specs.Tree.{Code, exit, no_op, Nodes, no_node}
 use Rattle.kernel_ir.specs.Sequence.{joined}
 use Rattle.lower.specs.Known.{known_outside}
-use Rattle.lower.specs.Lowered.{one, within, single, sign_on, past, end_of, end_of_test, end_of_call, end_of_value, end_of_declaration, end_of_declarations, end_of_statement, end_of_statements, end_of_branches, end_of_block, objects_in, width_of, expr_code, nodes_code, decide_on, decided_code, value_code, call_code, declaration_code, declarations_code, statement_code, statements_code, branches_code, block_code, body_of, kernel_of}
+use Rattle.statement_code.specs.Values.{one, within, single, sign_on, past}
+use Rattle.lower.specs.Lowered.{end_of, end_of_test, end_of_call, end_of_value, end_of_declaration, end_of_declarations, end_of_statement, end_of_statements, end_of_branches, end_of_block, objects_in, width_of, expr_code, nodes_code, decide_on, decided_code, value_code, call_code, declaration_code, declarations_code, statement_code, statements_code, branches_code, block_code, body_of, kernel_of}
 use Rattle.lower.specs.Structured.{IsVisible, behind, behind_all, AreInBase, IsPlainExpr, IsPlainTest, IsPlainValue, IsPlainCall, IsPlainDeclaration, ArePlainDeclarations, IsPlainStatement, ArePlainStatements, ArePlainBranches, IsPlainBlock, IsPlainProcedure, IsStructured}
 use Rattle.lower.proofs.Follows.{block_above}
 use Rattle.lower.proofs.Known.{number_in_base, bounds_in_base}

@@ -12,7 +12,8 @@ use Rattle.kernel_ir.specs.Tree.{Code, no_op, Nodes, no_node, and_node}
 use Rattle.kernel_ir.specs.TreeView.{nodes_of}
 use Rattle.lower.specs.Known.{Known}
 use Rattle.lower.specs.Forms.{with_nodes, conditions_in, edge_before, true_before, false_before, operand_nodes, end_of_tests}
-use Rattle.lower.specs.Lowered.{past, end_of_test, nodes_code}
+use Rattle.statement_code.specs.Values.{past}
+use Rattle.lower.specs.Lowered.{end_of_test, nodes_code}
 use Rattle.lower.proofs.Values.{test_is_above}
 
 -- its conditions are those of its operands
@@ -36,7 +37,7 @@ tests_above k [] = omega arith
 tests_above k (t ∷ ts) = omega (arith, tests_above k ts)
 
 -- past one operand, and past those right of it
-past_twice : (c : ℕ) (us : List tree.Test) (e : Edge) → past c (edge_before false us e) ≡ past (c + conditions_in us) e
+pub past_twice : (c : ℕ) (us : List tree.Test) (e : Edge) → past c (edge_before false us e) ≡ past (c + conditions_in us) e
 past_twice c [] e = let same : c ≡ c + 0 = omega arith in ap (λ n. past n e) same
 past_twice c (u ∷ us) (edge.Leaf outcome) = refl
 past_twice c (u ∷ us) (edge.NodeAfter skipped) =

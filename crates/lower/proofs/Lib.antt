@@ -13,3 +13,4 @@ pub mod Whole
 pub mod Forms
 pub mod AllFuels
 pub mod Examples
+pub mod Pieces

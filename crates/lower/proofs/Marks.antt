@@ -18,7 +18,8 @@ use Rattle.kernel_ir.specs.declared.simple.Simple.{Simple}
 use Rattle.kernel_ir.specs.Sequence.{joined}
 use Rattle.kernel_ir.specs.Tree.{Op, simple, exit, forever, Code, no_op, and_op, Nodes, no_node}
 use Rattle.lower.specs.Known.{known_outside}
-use Rattle.lower.specs.Lowered.{one, single, start_of, sign_on, operator_on, relation_on, past, objects_in, expr_code, nodes_code, decide_on, decided_code, value_code, call_code, declaration_code, declarations_code, statement_code, statements_code, branches_code, block_code, body_of, kernel_of}
+use Rattle.statement_code.specs.Values.{one, single, sign_on, operator_on, relation_on, past}
+use Rattle.lower.specs.Lowered.{start_of, objects_in, expr_code, nodes_code, decide_on, decided_code, value_code, call_code, declaration_code, declarations_code, statement_code, statements_code, branches_code, block_code, body_of, kernel_of}
 use Rattle.lower.specs.Marked.{row_of, conditions_of, all_conditions}
 use Rattle.lower.specs.Structured.{behind, behind_all, IsPlainExpr, IsPlainTest, IsPlainValue, IsPlainCall, IsPlainDeclaration, ArePlainDeclarations, IsPlainStatement, ArePlainStatements, ArePlainBranches, IsPlainBlock, IsPlainProcedure, IsStructured}
 

@@ -16,7 +16,8 @@ use Rattle.kernel_ir.specs.Tree.{Code, no_node, choose, exit}
 use Rattle.kernel_ir.specs.World.{Memory, Ended, slot_in, with_slot, paid}
 use Rattle.kernel_ir.specs.World as kernel
 use Rattle.lower.specs.Known.{known_outside}
-use Rattle.lower.specs.Lowered.{single, end_of_test, decide_on, decided_code, kernel_of}
+use Rattle.statement_code.specs.Values.{single}
+use Rattle.lower.specs.Lowered.{end_of_test, decide_on, decided_code, kernel_of}
 use Rattle.lower.specs.Structured.{IsPlainTest}
 use Rattle.lower.proofs.Flows.{Step, turn_step}
 use Rattle.lower.proofs.Relation.{Inside, AtStops, goes_to_twice}

@@ -14,7 +14,8 @@ use Rattle.kernel_ir.specs.declared.simple.Simple.TheVariants as op
 use Rattle.kernel_ir.specs.Sequence.{joined}
 use Rattle.kernel_ir.specs.Tree.{Code, simple, exit, no_op, and_op, Nodes, no_node}
 use Rattle.lower.specs.Known.{known_outside}
-use Rattle.lower.specs.Lowered.{one, single, within, sign_on, operator_on, relation_on, complement_on, past, end_of, end_of_test, end_of_call, end_of_value, end_of_declarations, end_of_statement, end_of_statements, end_of_branches, end_of_block, objects_in, expr_code, nodes_code, decided_code, value_code, call_code, declaration_code, declarations_code, statement_code, statements_code, branches_code, block_code, body_of, kernel_of}
+use Rattle.statement_code.specs.Values.{one, single, within, sign_on, operator_on, relation_on, complement_on, past}
+use Rattle.lower.specs.Lowered.{end_of, end_of_test, end_of_call, end_of_value, end_of_declarations, end_of_statement, end_of_statements, end_of_branches, end_of_block, objects_in, expr_code, nodes_code, decided_code, value_code, call_code, declaration_code, declarations_code, statement_code, statements_code, branches_code, block_code, body_of, kernel_of}
 use Rattle.lower.specs.Sizes.{expr_nodes, test_nodes, actuals_nodes, value_nodes, declaration_nodes, declarations_nodes, statement_nodes, statements_nodes, branches_nodes, block_nodes, all_nodes}
 use Rattle.lower.specs.Structured.{behind, behind_all, IsPlainExpr, IsPlainTest, IsPlainValue, IsPlainCall, IsPlainDeclaration, ArePlainDeclarations, IsPlainStatement, ArePlainStatements, ArePlainBranches, IsPlainBlock, IsPlainProcedure, IsStructured}
 use Rattle.lower.proofs.Follows.{block_above}

@@ -20,7 +20,8 @@ use Rattle.kernel_ir.specs.Tree.{simple, forever, exit, no_op, and_op}
 use Rattle.kernel_ir.specs.World.{Memory, Ended, Ends, slot_in, slot_word, with_slot, paid, noted}
 use Rattle.kernel_ir.specs.World as kernel
 use Rattle.lower.specs.Known.{known_outside}
-use Rattle.lower.specs.Lowered.{one, single, within, end_of_value, end_of_declaration, end_of_declarations, end_of_statement, end_of_statements, end_of_branches, end_of_block, expr_code, value_code, declaration_code, declarations_code, decided_code, statement_code, statements_code, branches_code, block_code, kernel_of}
+use Rattle.statement_code.specs.Values.{one, single, within}
+use Rattle.lower.specs.Lowered.{end_of_value, end_of_declaration, end_of_declarations, end_of_statement, end_of_statements, end_of_branches, end_of_block, expr_code, value_code, declaration_code, declarations_code, decided_code, statement_code, statements_code, branches_code, block_code, kernel_of}
 use Rattle.lower.specs.Same.{Observed}
 use Rattle.lower.specs.Structured.{IsVisible, behind, behind_all, IsPlainValue, IsPlainDeclaration, ArePlainDeclarations, IsPlainStatement, ArePlainStatements, ArePlainBranches, IsPlainBlock}
 use Rattle.lower.proofs.Outcomes.{decided_does, while_does}

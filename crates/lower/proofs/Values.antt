@@ -24,7 +24,8 @@ use Rattle.kernel_ir.specs.Tree.{simple, Code, Nodes, no_node}
 use Rattle.kernel_ir.specs.World.{Memory, Ended, Ends, Cut, slot_in, with_slot, paid, noted}
 use Rattle.kernel_ir.specs.World as kernel
 use Rattle.lower.specs.Known.{known_outside}
-use Rattle.lower.specs.Lowered.{one, sign_on, operator_on, operator_for, relation_on, relation_for, complement_on, past, end_of, end_of_test, expr_code, nodes_code, decide_on, kernel_of}
+use Rattle.statement_code.specs.Values.{one, sign_on, operator_on, operator_for, relation_on, relation_for, complement_on, past}
+use Rattle.lower.specs.Lowered.{end_of, end_of_test, expr_code, nodes_code, decide_on, kernel_of}
 use Rattle.lower.specs.Same.{Observed}
 use Rattle.lower.specs.Structured.{IsPlainExpr, IsPlainTest}
 use Rattle.lower.proofs.Known.{number_is}

@@ -17,7 +17,8 @@ use Rattle.kernel_ir.specs.declared.kernel.Layout.{Layout}
 use Rattle.kernel_ir.specs.Sequence.{joined}
 use Rattle.kernel_ir.specs.Tree.{simple, forever, exit, no_op, and_op}
 use Rattle.lower.specs.Known.{Known, known_outside}
-use Rattle.lower.specs.Lowered.{single, start_of, end_of_test, end_of_value, end_of_declaration, end_of_declarations, end_of_statement, end_of_statements, end_of_branches, end_of_block, objects_in, value_code, declaration_code, declarations_code, decided_code, statement_code, statements_code, branches_code, block_code, body_of, body_of_block, kernel_of}
+use Rattle.statement_code.specs.Values.{single}
+use Rattle.lower.specs.Lowered.{start_of, end_of_test, end_of_value, end_of_declaration, end_of_declarations, end_of_statement, end_of_statements, end_of_branches, end_of_block, objects_in, value_code, declaration_code, declarations_code, decided_code, statement_code, statements_code, branches_code, block_code, body_of, body_of_block, kernel_of}
 
 -- unfolding types leaves the code of a body as it is: a composite object has none yet
 value_code_stays : (known : Known) (types : List Subtype) (k : ℕ) (o : tree.Object) (v : tree.NewValue)

@@ -5,7 +5,8 @@ use Rattle.ada_tree.specs.View.{operator_of}
 use Rattle.kernel_ir.specs.Sequence.{joined}
 use Rattle.kernel_ir.specs.Tree.{Code, no_op}
 use Rattle.lower.specs.Known.{Known}
-use Rattle.lower.specs.Lowered.{one, operator_on, end_of, expr_code}
+use Rattle.statement_code.specs.Values.{one, operator_on}
+use Rattle.lower.specs.Lowered.{end_of, expr_code}
 
 module _ (known : Known) where
   -- the code of one operator with its right operand, where k holds the left one

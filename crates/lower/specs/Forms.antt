@@ -6,7 +6,8 @@ use Rattle.kernel_ir.specs.declared.code.Edge.TheVariants as edge
 use Rattle.kernel_ir.specs.declared.code.Node.{Node}
 use Rattle.kernel_ir.specs.Tree.{Nodes, and_node}
 use Rattle.lower.specs.Known.{Known}
-use Rattle.lower.specs.Lowered.{past, end_of_test, nodes_code}
+use Rattle.statement_code.specs.Values.{past}
+use Rattle.lower.specs.Lowered.{end_of_test, nodes_code}
 
 -- nodes before others
 abbrev pub with_nodes : List Node → Nodes → Nodes

@@ -7,3 +7,5 @@ pub mod Marked
 pub mod Chain
 pub mod Forms
 pub mod AllFuels
+pub mod Context
+pub mod Pieces

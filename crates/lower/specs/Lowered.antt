@@ -3,79 +3,28 @@
 use Rattle.std.specs.Prelude.{ℕ, ◌+◌, max, true, false, List, [], ◌∷◌, length, map}
 use Rattle.ada_meaning.specs.Arithmetic.{base_range}
 use Rattle.ada_meaning.specs.Objects.{block_objects}
-use Rattle.ada_meaning.specs.Program.{Bounds, Subprogram, Program}
+use Rattle.ada_meaning.specs.Program.{Subprogram, Program}
 use Rattle.ada_meaning.specs.Tree as tree
 use Rattle.ada_meaning.specs.Types as type
 use Rattle.kernel_ir.specs.declared.code.Edge.{Edge}
 use Rattle.kernel_ir.specs.declared.code.Edge.TheVariants as edge
 use Rattle.kernel_ir.specs.declared.kernel.Body.{Body}
 use Rattle.kernel_ir.specs.declared.kernel.Kernel.{Kernel}
-use Rattle.kernel_ir.specs.declared.simple.Operator.{Operator}
-use Rattle.kernel_ir.specs.declared.simple.Operator.TheVariants as operator
-use Rattle.kernel_ir.specs.declared.simple.Relation.{Relation}
-use Rattle.kernel_ir.specs.declared.simple.Relation.TheVariants as relation
 use Rattle.kernel_ir.specs.declared.simple.Simple.{Simple}
 use Rattle.kernel_ir.specs.declared.simple.Simple.TheVariants as op
 use Rattle.kernel_ir.specs.Sequence.{joined}
+use Rattle.statement_code.specs.Values.{single, one, within, sign_on, operator_on, relation_on, complement_on, past}
 use Rattle.lower.specs.Known.{Known, known_outside}
 use Rattle.kernel_ir.specs.Tree.{Op, simple, choose, forever, exit, returns, decide, call, Code, no_op, and_op, Nodes, no_node, and_node}
-
--- code of one operation
-abbrev pub single : Op → Code
-single o = and_op o no_op
-
--- of one that holds no others
-abbrev pub one : Simple → Code
-one s = single (simple s)
 
 -- a statement starts
 abbrev pub start_of : tree.Label → Simple
 start_of l = op.Start (record { 0 = l.number }) (record { 0 = 0 })
 
--- raises Constraint_Error unless a slot's value lies within bounds
-abbrev pub within : (slot : ℕ) → Bounds → Simple
-within k b = op.Within k b.low b.high
-
 -- the slot of an object
 abbrev pub slot_of : tree.Object → ℕ
 slot_of (tree.library_object o d) = d
 slot_of (tree.local_object d) = d
-
--- the operator on one integer, on a slot; the result is checked against the base range (RM 4.5.4, 4.5.6)
-abbrev pub sign_on : (slot : ℕ) → type.Sign → Simple
-sign_on k type.unary_plus = within k base_range
-sign_on k type.unary_minus = op.Negate k k
-sign_on k type.absolute_value = op.Absolute k k
-
--- the operator on two integers (RM 4.5.3, 4.5.5)
-abbrev pub operator_for : type.Operator → Operator
-operator_for type.addition = operator.Add
-operator_for type.subtraction = operator.Subtract
-operator_for type.multiplication = operator.Multiply
-operator_for type.division = operator.Divide
-operator_for type.modulus = operator.Modulo
-operator_for type.remainder = operator.Remainder
-
--- an operator, on a slot and the one behind it
-abbrev pub operator_on : (slot : ℕ) → type.Operator → Simple
-operator_on k o = op.Arithmetic (operator_for o) k k (k + 1)
-
--- a relation of two values (RM 4.5.2)
-abbrev pub relation_for : type.Relation → Relation
-relation_for type.equal = relation.Equal
-relation_for type.unequal = relation.Unequal
-relation_for type.less = relation.Less
-relation_for type.at_most = relation.AtMost
-relation_for type.greater = relation.Greater
-relation_for type.at_least = relation.AtLeast
-
--- a relation, of a slot and the one behind it
-abbrev pub relation_on : (slot : ℕ) → type.Relation → Simple
-relation_on k r = op.Compare (relation_for r) k k (k + 1)
-
--- `not`, of a slot
-abbrev pub complement_on : (slot : ℕ) → Simple
-complement_on k = op.Complement k k
 
 abbrev mutual
   -- the first slot behind those that the value of an expression is worked out in, of which k is the first
@@ -145,11 +94,6 @@ objects_in b = length (block_objects b)
 -- how many words the frame of a body has: one for each object, and those that values are worked out in
 abbrev pub width_of : tree.Block → ℕ
 width_of b = end_of_block (objects_in b) b
-
--- an edge that leads past so many more nodes
-abbrev pub past : ℕ → Edge → Edge
-past n (edge.Leaf outcome) = edge.Leaf outcome
-past n (edge.NodeAfter skipped) = edge.NodeAfter (n + skipped)
 
 -- by the values of static expressions and the bounds of ranges; k is the first slot behind the objects
 module _ (known : Known) where

@@ -6,7 +6,8 @@ ghost use Rattle.kernel_ir.specs.Sequence.{joined};
 ghost use Rattle.kernel_ir.specs.Tree.{exit, no_op, Nodes};
 ghost use Rattle.lower.specs.Known.{known_by};
 ghost use Rattle.lower.specs.Forms.{with_nodes, operand_nodes, end_of_tests};
-ghost use Rattle.lower.specs.Lowered.{single, end_of_test, nodes_code, decide_on, decided_code};
+ghost use Rattle.statement_code.specs.Values.{single};
+ghost use Rattle.lower.specs.Lowered.{end_of_test, nodes_code, decide_on, decided_code};
 
 use crate::edges::{Edges, OUTCOMES, edges_before};
 use crate::expressions::{put_expr, slot_behind};

@@ -4,7 +4,7 @@ ghost use Rattle.std.specs.Prelude.{◌≡◌, ◌+◌, IfOk};
 ghost use Rattle.ada_meaning.specs.Tree as tree;
 ghost use Rattle.ada_tree.specs.View.{neutral_of};
 ghost use Rattle.lower.specs.Forms.{conditions_in, true_before, false_before};
-ghost use Rattle.lower.specs.Lowered.{past};
+ghost use Rattle.statement_code.specs.Values.{past};
 
 use ada_tree::{ShortCircuit, Test, TestKind};
 use kernel_ir::Edge;

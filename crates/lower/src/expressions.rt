@@ -9,7 +9,8 @@ ghost use Rattle.kernel_ir.specs.Tree.{no_op};
 ghost use Rattle.kernel_ir.specs.declared.simple.Simple.TheVariants as op;
 ghost use Rattle.lower.specs.Known.{known_by};
 ghost use Rattle.lower.specs.Chain.{operands_code, end_of_operands};
-ghost use Rattle.lower.specs.Lowered.{one, within, slot_of, sign_on, operator_for, operator_on, relation_for, end_of, expr_code};
+ghost use Rattle.statement_code.specs.Values.{one, within, sign_on, operator_for, operator_on, relation_for};
+ghost use Rattle.lower.specs.Lowered.{slot_of, end_of, expr_code};
 
 use crate::decisions::put_decision;
 use crate::statics::Statics;
@@ -60,7 +61,7 @@ pub(crate) fn within(slot: Slot, range: Range) -> Simple
 }
 
 /// An operator on one integer, on a slot. Unary plus is a check against the base range.
-fn sign_on(slot: Slot, sign: Sign) -> Simple
+pub(crate) fn sign_on(slot: Slot, sign: Sign) -> Simple
     ensures { result ≡ sign_on slot (sign_of sign) }
 {
     match sign {
@@ -77,7 +78,7 @@ fn sign_on(slot: Slot, sign: Sign) -> Simple
 }
 
 /// An operator on two integers.
-fn operator_for(operator: Operator) -> kernel_ir::Operator
+pub(crate) fn operator_for(operator: Operator) -> kernel_ir::Operator
     ensures { result ≡ operator_for (operator_of operator) }
 {
     match operator {
@@ -91,7 +92,7 @@ fn operator_for(operator: Operator) -> kernel_ir::Operator
 }
 
 /// A relation of two values.
-fn relation_for(relation: Relation) -> kernel_ir::Relation
+pub(crate) fn relation_for(relation: Relation) -> kernel_ir::Relation
     ensures { result ≡ relation_for (relation_of relation) }
 {
     match relation {

@@ -5,13 +5,18 @@
 //! ending on every input, at no more than three times the cost.
 #![tactic(auto)]
 
+mod calls;
+mod context;
 mod decisions;
 mod edges;
 mod expressions;
 mod laws;
 mod lowering;
+mod nodes;
+mod parts;
 mod statements;
 mod statics;
+mod value;
 
 pub use laws::{
     kernels_are_small, kernels_do_what_their_programs_do, kernels_end_where_their_programs_end,

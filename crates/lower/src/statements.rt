@@ -7,7 +7,8 @@ ghost use Rattle.ada_tree.specs.View.{callee_of, actuals_of, declaration_of, lab
 ghost use Rattle.kernel_ir.specs.Sequence.{joined};
 ghost use Rattle.kernel_ir.specs.Tree.{simple, and_op, forever, exit, returns};
 ghost use Rattle.lower.specs.Known.{known_by};
-ghost use Rattle.lower.specs.Lowered.{one, single, start_of, end_of_test, end_of_branches, end_of_block, decided_code, branches_code, block_code, end_of, end_of_call, end_of_declaration, end_of_declarations, end_of_put, end_of_statement, end_of_statements, end_of_value, value_code, checked_code, output_code, put_code, input_code, get_code, call_code, declaration_code, declarations_code, statement_code, statements_code};
+ghost use Rattle.statement_code.specs.Values.{one, single};
+ghost use Rattle.lower.specs.Lowered.{start_of, end_of_test, end_of_branches, end_of_block, decided_code, branches_code, block_code, end_of, end_of_call, end_of_declaration, end_of_declarations, end_of_put, end_of_statement, end_of_statements, end_of_value, value_code, checked_code, output_code, put_code, input_code, get_code, call_code, declaration_code, declarations_code, statement_code, statements_code};
 
 use crate::decisions::{leaving, put_decided, put_exit_when};
 use crate::expressions::{INTEGER, put_expr, put_nothing, slot_behind, slot_of, within};

@@ -9,3 +9,4 @@ pub mod GenericExamples
 pub mod ControlExamples
 pub mod ObligedExamples
 pub mod FrameExamples
+pub mod FormedExamples

@@ -3,7 +3,7 @@
 use Rattle.std.specs.Prelude.{◌≡◌, ℕ, ℤ, pos, List, [], ◌∷◌, codes, Option, Some, None}
 use Rattle.ada_meaning.specs.Types.{Static, Range, addition, between, static_number, static_formal, static_constant, static_operation, static_first, static_last, formal_range, scalar, here, of_instance}
 use Rattle.ada_meaning.specs.Tree.{Expr, constant, read, conversion, library_object, whole, subprogram, formal_subprogram, no_actual, by_expression, Stmt, assignment, procedure_call, scalar_value, raise_statement, declared, handler, named_exception, no_handler, case_statement, value_choice, other_values, alternative, no_alternative, block_statement, block, initialized}
-use Rattle.ada_meaning.specs.Program.{Bounds, put_target, actual_type, actual_object, actual_subprogram, GenericConstant, LibraryObject, Instance, static_initial, Program}
+use Rattle.ada_meaning.specs.Program.{Bounds, put_target, actual_type, actual_object, actual_subprogram, GenericConstant, LibraryObject, Instance, static_initial, Subprogram, Program}
 use Rattle.ada_meaning.specs.Arithmetic.{base_range}
 use Rattle.ada_meaning.specs.Bodies.{Body, bodies_of}
 use Rattle.ada_meaning.specs.Obligations.{IsResolved}
@@ -78,23 +78,28 @@ counter name line r b step = record {
 --    when C2.Bad => Test_IO.Put (0);
 --    when C1.Bad => Test_IO.Put (1);
 -- end Count;
+abbrev pub next_one : Subprogram
+next_one =
+    generic_body 0 [] []
+    (if_only (at 0 13 7) (at 0 13 10)
+    (asks 13 10 (exceeds last (minus (constant (static_last item)) (constant (static_formal 1)))))
+    (raise_statement (at 1 14 10) (declared here 0) next ended_here)
+    next assignment (at 2 16 7) (library_object here 0) whole (scalar_value item (plus last (constant (static_formal 1))))
+    next procedure_call (at 3 17 7) (formal_subprogram 2) (by_expression (conversion integer last) no_actual)
+    next ended_here)
+    no_handler
+
+abbrev pub counting : Subprogram
+counting =
+    body [] []
+    (next_of 4 31 1 next next_of 5 32 2 next next_of 6 33 1 next next_of 7 34 1 next ended_here)
+    (handler (named_exception (declared (of_instance 2) 0) ∷ []) (put (at 8 36 19) (number 0) next ended_here)
+    (handler (named_exception (declared (of_instance 1) 0) ∷ []) (put (at 9 37 19) (number 1) next ended_here)
+    no_handler))
+
 abbrev pub count : Program
 count = record {
-  subprograms =
-      generic_body 0 [] []
-      (if_only (at 0 13 7) (at 0 13 10)
-      (asks 13 10 (exceeds last (minus (constant (static_last item)) (constant (static_formal 1)))))
-      (raise_statement (at 1 14 10) (declared here 0) next ended_here)
-      next assignment (at 2 16 7) (library_object here 0) whole (scalar_value item (plus last (constant (static_formal 1))))
-      next procedure_call (at 3 17 7) (formal_subprogram 2) (by_expression (conversion integer last) no_actual)
-      next ended_here)
-      no_handler
-      ∷ body [] []
-      (next_of 4 31 1 next next_of 5 32 2 next next_of 6 33 1 next next_of 7 34 1 next ended_here)
-      (handler (named_exception (declared (of_instance 2) 0) ∷ []) (put (at 8 36 19) (number 0) next ended_here)
-      (handler (named_exception (declared (of_instance 1) 0) ∷ []) (put (at 9 37 19) (number 1) next ended_here)
-      no_handler))
-      ∷ [];
+  subprograms = next_one ∷ counting ∷ [];
   main = 1;
   objects = record { declaration = 0; generic = Some 0; subtype = scalar item; initial = static_initial (static_first item) } ∷ [];
   constants = [];

@@ -5,13 +5,14 @@
 //! programs do.
 #![tactic(auto)]
 
+ghost use Rattle.ada_meaning.specs.WellFormed.{IsWellFormed};
 ghost use Rattle.meaning_examples.specs.Composites.{ByParts, CompositeParameters};
 ghost use Rattle.meaning_examples.specs.Control.{Choices, EndOfFunction, CutOff};
 ghost use Rattle.meaning_examples.specs.Decisions.{Returns, AndFirst, OrFirst, Abandoned};
 ghost use Rattle.meaning_examples.specs.Depth.{Deep, Signs, Limits};
 ghost use Rattle.meaning_examples.specs.Exceptions.{Unhandled, OfOperations, InDeclarations, InHandlers};
 ghost use Rattle.meaning_examples.specs.Frames.{OwnVariables, Places, WordsOfInput};
-ghost use Rattle.meaning_examples.specs.Generics.{OwnObjects, OwnConstants};
+ghost use Rattle.meaning_examples.specs.Generics.{count, OwnObjects, OwnConstants};
 ghost use Rattle.meaning_examples.specs.Loops.{While, For, ArrayAndCase};
 ghost use Rattle.meaning_examples.specs.Nested.{InnerAbandoned, Recursive, AsOperand, AsIndex};
 ghost use Rattle.meaning_examples.specs.Obliged.{OfNested, OfCount};
@@ -68,10 +69,12 @@ pub fn composites()
     ensures composite_parameters { CompositeParameters }
 {}
 
-/// A generic with formals of each kind, and one with constants, each in two instances.
+/// A generic with formals of each kind, and one with constants, each in two instances. The first program is
+/// well-formed.
 pub fn generics()
     ensures objects { OwnObjects }
     ensures constants { OwnConstants }
+    ensures well_formed { IsWellFormed count }
 {}
 
 /// Choices and loops of other forms, the end of a function, and a loop without an end.

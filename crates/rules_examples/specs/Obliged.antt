@@ -1,13 +1,14 @@
--- The obligations of worked sources, entry by entry: of calls that are recursive, of two instances of one generic, of exceptions and instances
--- over two files, of arrays and records.
-use Rattle.std.specs.Prelude.{◌≡◌, ℕ, List, [], ◌∷◌, ◌++◌, codes, Option, Some, None}
+-- The obligations of worked sources, entry by entry: of calls that are recursive, of packages, of two instances of one generic, of exceptions and
+-- instances over two files, of arrays and records. The objects of each subprogram are numbered from 0 in the order of the text.
+use Rattle.std.specs.Prelude.{◌≡◌, ℕ, List, [], ◌∷◌, ◌++◌, codes, map, length, Option, Some, None}
 use Rattle.cov_base.specs.declared.obligations.StmtEntry.{StmtEntry}
 use Rattle.cov_base.specs.declared.obligations.DecEntry.{DecEntry}
 use Rattle.cov_base.specs.declared.obligations.InstanceEntry.{InstanceEntry}
 use Rattle.cov_base.specs.declared.obligations.Obligations.{Obligations}
 use Rattle.cov_base.specs.declared.obligations.Place.{Place}
 use Rattle.ada_syntax.specs.declared.unit.Unit.{Unit as LibraryUnit}
-use Rattle.ada_meaning.specs.Obligations.{no_instance, obligations_of, predefined_names}
+use Rattle.ada_meaning.specs.Objects.{objects_of}
+use Rattle.ada_meaning.specs.Obligations.{no_instance, numbers, obligations_of, predefined_names}
 use Rattle.ada_rules.specs.Legal as rules
 use Rattle.rules_examples.specs.Cases.{◌⏎◌, Lines, units_from}
 
@@ -41,9 +42,22 @@ abbrev pub obliged : (main : List ℕ) → Option (List LibraryUnit) → Option 
 obliged main None = None
 obliged main (Some units) = obliged_by (rules.checked units main)
 
+-- the numbers of the objects of each subprogram, and those from 0 on
+abbrev pub objects_by : rules.Checked → List (List ℕ)
+objects_by (rules.legal p) = map objects_of p.subprograms
+objects_by refused = []
+
+abbrev pub objects_in : (main : List ℕ) → Option (List LibraryUnit) → List (List ℕ)
+objects_in main None = []
+objects_in main (Some units) = objects_by (rules.checked units main)
+
+abbrev pub from_0 : List (List ℕ) → List (List ℕ)
+from_0 objects = map (λ ns. numbers 0 (length ns)) objects
+
 -- files whose obligations are these
 pub record Owe (main : List ℕ) (files : List Lines) (o : Obligations) : Type 0 where
   pub shown : obliged main (units_from 0 files) ≡ Some o
+  pub numbered : objects_in main (units_from 0 files) ≡ from_0 (objects_in main (units_from 0 files))
 
 -- a function that calls itself in a decision, and handles what its body raises
 abbrev pub Recursive : Type 0
@@ -84,6 +98,74 @@ Recursive = Owe (codes "p8") (("function F (N, D : Integer) return Boolean is   
           no_instance
           ∷ [];
       exceptions = predefined_names;
+    })
+
+-- a package with objects, exceptions and subprograms: its own objects are no obligations
+abbrev pub Packaged : Type 0
+Packaged = Owe (codes "main") (("package Counter is" ⏎
+    "   Limit : constant Integer := 3;" ⏎
+    "   Count : Integer := 0;" ⏎
+    "   Full, Idle : exception;" ⏎
+    "   procedure Step (By : Integer);" ⏎
+    "   function Left return Integer;" ⏎
+    "end Counter;" ⏎
+    "package body Counter is" ⏎
+    "   Ready : Boolean := True;" ⏎
+    "   procedure Step (By : Integer) is" ⏎
+    "   begin" ⏎
+    "      if By = 0 then" ⏎
+    "         raise Idle;" ⏎
+    "      elsif Count + By > Limit and then Ready then" ⏎
+    "         Ready := False;" ⏎
+    "         raise Full;" ⏎
+    "      end if;" ⏎
+    "      Count := Count + By;" ⏎
+    "   end Step;" ⏎
+    "   function Left return Integer is" ⏎
+    "   begin" ⏎
+    "      return Limit - Count;" ⏎
+    "   end Left;" ⏎
+    "end Counter;" ⏎
+    "with Counter; with Test_IO;" ⏎
+    "procedure Main is" ⏎
+    "   Turn : Integer := Counter.Left;" ⏎
+    "begin" ⏎
+    "   while Turn > 0 or else Counter.Count < Counter.Limit loop" ⏎
+    "      Counter.Step (2);" ⏎
+    "      Turn := Counter.Left;" ⏎
+    "   end loop;" ⏎
+    "   Test_IO.Put (Turn);" ⏎
+    "exception" ⏎
+    "   when Counter.Full | Counter.Idle =>" ⏎
+    "      Test_IO.Put (Counter.Count);" ⏎
+    "end Main;" ⏎ []) ∷ []) (record {
+      statements =
+          statement 0 12 7
+          ∷ statement 0 13 10
+          ∷ statement 0 15 10
+          ∷ statement 0 16 10
+          ∷ statement 0 18 7
+          ∷ statement 0 22 7
+          ∷ statement 0 27 4
+          ∷ statement 0 29 4
+          ∷ statement 0 30 7
+          ∷ statement 0 31 7
+          ∷ statement 0 33 4
+          ∷ statement 0 36 7
+          ∷ [];
+      decisions =
+          decision 0 0 12 10 73 (0 ∷ [])
+          (condition 12 10 ∷ [])
+          ∷ decision 0 0 14 13 73 (0 ∷ 1 ∷ 33 ∷ [])
+          (condition 14 13 ∷ condition 14 41 ∷ [])
+          ∷ decision 7 0 29 10 87 (0 ∷ 1 ∷ 34 ∷ [])
+          (condition 29 10 ∷ condition 29 27 ∷ [])
+          ∷ [];
+      regions = [];
+      instances =
+          no_instance
+          ∷ [];
+      exceptions = predefined_names ++ codes "counter.full" ∷ codes "counter.idle" ∷ [];
     })
 
 -- two instances of one generic: its text counts once
@@ -266,4 +348,4 @@ Composite = Owe (codes "grid") (("procedure Grid is" ⏎
     })
 
 abbrev pub Obliged : Type 0
-Obliged = Recursive × Twice × Ordered × Composite
+Obliged = Recursive × Packaged × Twice × Ordered × Composite

@@ -1,6 +1,10 @@
 pub mod Trace
 pub mod Formats
 pub mod Checks
+pub mod Stream
+pub mod Watch
+pub mod Places
+pub mod Reader
 pub mod Consolidated
 pub mod ConsolidatedFormats
 pub mod ConsolidatedChecks

@@ -9,7 +9,8 @@ use Rattle.kernel_ir.specs.Tree.{decide, no_node}
 use Rattle.lower.specs.Known.{known_by}
 use Rattle.lower.specs.Chain.{operand_code, operands_code, end_of_operands}
 use Rattle.lower.specs.Forms.{with_nodes, end_of_tests}
-use Rattle.lower.specs.Lowered.{one, single, sign_on, operator_on, relation_on, complement_on, end_of, end_of_test, expr_code}
+use Rattle.statement_code.specs.Values.{one, single, sign_on, operator_on, relation_on, complement_on}
+use Rattle.lower.specs.Lowered.{end_of, end_of_test, expr_code}
 use Rattle.lower.proofs.Building.{two_put, three_put, chain_code, chain_end, operands_above, one_more, none_left, one_further}
 use Rattle.lower.proofs.Forms.{form_end, tests_above, condition_put, form_put, operand_put, operands_put, left_fewer, left_further, decision_put}
 use Rattle.lower.proofs.+value.Goals as goal

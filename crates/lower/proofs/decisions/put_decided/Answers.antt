@@ -1,7 +1,8 @@
 use Rattle.ada_tree.specs.View.{label_of}
 use Rattle.kernel_ir.specs.Tree.{choose}
 use Rattle.lower.specs.Known.{known_by}
-use Rattle.lower.specs.Lowered.{single, decide_on}
+use Rattle.statement_code.specs.Values.{single}
+use Rattle.lower.specs.Lowered.{decide_on}
 use Rattle.lower.proofs.Building.{two_put}
 use Rattle.lower.proofs.decisions.put_decided.Goals as goal
 

@@ -4,7 +4,8 @@ use Rattle.ada_tree.specs.Sizes.{stmt_size}
 use Rattle.ada_tree.specs.View.{declaration_of, label_of, statements_of, branches_of}
 use Rattle.kernel_ir.specs.Tree.{exit, forever, no_op}
 use Rattle.lower.specs.Known.{known_by}
-use Rattle.lower.specs.Lowered.{single, start_of, end_of_statement, end_of_statements, declarations_code, decided_code, statement_code, statements_code, branches_code}
+use Rattle.statement_code.specs.Values.{single}
+use Rattle.lower.specs.Lowered.{start_of, end_of_statement, end_of_statements, declarations_code, decided_code, statement_code, statements_code, branches_code}
 use Rattle.lower.proofs.Building.{two_put, one_then_put, one_more, one_further, none_left, statements_above}
 use Rattle.lower.proofs.statements.+statement.Goals as goal
 

@@ -1,0 +1,9 @@
+pub mod SeenLaws
+pub mod Agreement
+pub mod TableLaws
+pub mod LookupLaws
+pub mod RoutineLaws
+pub mod RegionLaws
+pub mod NestingLaws
+pub mod StandardLaws
+pub mod UnitLaws

@@ -1,0 +1,11 @@
+pub mod Views
+pub mod Tables
+pub mod TypeTable
+pub mod EntityViews
+pub mod SeenEntities
+pub mod Answers
+pub mod RegionView
+pub mod RegionCode
+pub mod StandardCode
+pub mod UnitViews
+pub mod RoutineViews

@@ -1,0 +1,100 @@
+//! Regions of declarations (Ada RM 2012, 8.1, 8.3).
+
+ghost use Rattle.std.specs.Prelude.{◌≡◌, [], option_map, IfOk, IfErr, OnOk};
+ghost use Rattle.ada_rules.specs.Entities as rules;
+ghost use Rattle.ada_entities.specs.EntityViews.{Tables, entity_of, region_of};
+ghost use Rattle.ada_entities.specs.RegionCode.{with_entry, Declares, RefusesName, Redefines};
+
+use crate::entity::Entity;
+use crate::fault::{Refusal, refused};
+use ada_syntax::Identifier;
+use cov_base::Failure;
+use indexmap::IndexMap;
+use std::alloc::{AllocError, Global};
+use std::marker::Model;
+
+/// A region: its declarations by name in lower case, in order, each name once.
+#[derive(Drop)]
+pub struct Region {
+    table: IndexMap<Vec<u8>, Entity>,
+}
+
+impl Model for Region {
+    ghost use Rattle.std.specs.Prelude.{ℕ, List, map};
+    ghost use Rattle.ada_entities.specs.declared.entity.Entity.{Entity};
+    ghost use Rattle.ada_entities.specs.RegionView.{entry_of};
+
+    ghost Value = { List (List ℕ × Entity) };
+
+    ghost view = { λ r. map entry_of r.table.entries };
+}
+
+/// An identifier in lower case: what identifiers are compared by (RM 2.3).
+pub fn key(alloc: Global, identifier: &Identifier) -> Result<Vec<u8>, AllocError>
+    ensures { IfOk result (λ v. v.items ≡ rules.key identifier.now) }
+{
+    identifier.text.as_slice().to_ascii_lowercase(alloc)
+}
+
+impl Region {
+    /// A region without declarations.
+    pub fn new(alloc: Global) -> Region
+        ensures { result ≡ [] }
+    {
+        Region {
+            table: IndexMap::new(alloc),
+        }
+    }
+
+    /// What a name, in lower case, denotes in the region.
+    pub fn find(&self, name: &[u8]) -> Option<Entity>
+        ensures { (k : Tables) → option_map (entity_of k) result ≡ rules.entity_of name.now (region_of k self.now) }
+    {
+        self.table.get(name).copied()
+    }
+
+    /// Lets a name, in lower case, denote this: at its place where it is there, and else behind the
+    /// others.
+    fn put(&mut self, name: Vec<u8>, entity: Entity) -> Result<(), AllocError>
+        ensures { OnOk result (self.new ≡ with_entry name.items entity self.old) }
+    {
+        self.table.insert(name, entity)?;
+        Ok(())
+    }
+
+    /// Adds a declaration behind the others. Where the name is declared already, the declaration is
+    /// refused at it.
+    pub fn declare(
+        &mut self,
+        alloc: Global,
+        name: &Identifier,
+        entity: Entity,
+    ) -> Result<(), Failure<Refusal>>
+        ensures declared { OnOk result (Declares self.old name.now entity self.new) }
+        ensures refused { IfErr result (RefusesName self.old name.now entity) }
+    {
+        let lower = key(alloc, name)?;
+        if self.find(lower.as_slice()).is_some() {
+            return Err(refused(name.pos));
+        }
+        self.put(lower, entity)?;
+        Ok(())
+    }
+
+    /// Lets a name of the region denote something else: what its declaration declares, where it stood
+    /// hidden so far. A name that is not declared here stays so.
+    pub fn redefine(
+        &mut self,
+        alloc: Global,
+        name: &Identifier,
+        entity: Entity,
+    ) -> Result<(), AllocError>
+        ensures { OnOk result (Redefines self.old (rules.key name.now) entity self.new) }
+    {
+        let lower = key(alloc, name)?;
+        if self.find(lower.as_slice()).is_none() {
+            return Ok(());
+        }
+        self.put(lower, entity)
+    }
+}

@@ -1,0 +1,97 @@
+//! Subprograms (Ada RM 2012, 6.1).
+
+ghost use Rattle.std.specs.Prelude.{◌≡◌, ◌∷◌, [], ◌++◌, length, IfOk, OnOk};
+ghost use Rattle.ada_tree.specs.View.{callee_of};
+ghost use Rattle.ada_tree.specs.Programs.{mode_of};
+ghost use Rattle.ada_entities.specs.StandardCode.{test_routine};
+ghost use Rattle.ada_entities.specs.RoutineViews.{IsRoutine, AreTestIo};
+
+use crate::entity::Values;
+use crate::table::numbered;
+use crate::types::{Identity, Subtype};
+use ada_tree::{Callee, Mode};
+use cov_base::{Bytes, Seq};
+use std::alloc::{AllocError, Global};
+use std::marker::Model;
+
+/// A parameter, by its name in lower case; which subtype its mark names, where it names one (RM 6.1).
+#[derive(Drop)]
+pub struct Parameter {
+    pub name: Bytes,
+    pub mode: Mode,
+    pub mark: Option<Identity>,
+    pub subtype: Subtype,
+}
+
+/// The result of a function (RM 6.1).
+#[derive(Clone, Copy)]
+pub struct ResultMark {
+    pub mark: Option<Identity>,
+    pub subtype: Subtype,
+}
+
+/// A subprogram: what calls name, its parameters, and of a function the result and the values that a
+/// case statement on a call names.
+#[derive(Drop)]
+pub struct Routine {
+    pub callee: Callee,
+    pub parameters: Seq<Parameter>,
+    pub result: Option<ResultMark>,
+    pub values: Values,
+}
+
+/// The subprograms of a compilation, by their numbers.
+#[derive(Drop)]
+pub struct Routines {
+    routines: Vec<Routine>,
+}
+
+impl Model for Routines {
+    ghost use Rattle.std.specs.Prelude.{List};
+    ghost use Rattle.ada_entities.specs.declared.routines.Routine.{Routine};
+
+    ghost Value = { List Routine };
+
+    ghost view = { λ r. r.routines.items };
+}
+
+/// A subprogram of `Test_IO`, with its one parameter (RM A.1).
+fn test_routine(alloc: Global, callee: Callee, mode: Mode) -> Result<Routine, AllocError>
+    ensures { IfOk result (λ r. IsRoutine r (test_routine (callee_of callee) (mode_of mode))) }
+{
+    let mut parameters = Vec::new(alloc);
+    parameters.push(Parameter {
+        name: Bytes::from("item".as_bytes().to_vec(alloc)?),
+        mode,
+        mark: Some(Identity::Integer),
+        subtype: Subtype::integer(),
+    })?;
+    Ok(Routine {
+        callee,
+        parameters: Seq::from(parameters),
+        result: None,
+        values: Values::Within(Subtype::integer().range),
+    })
+}
+
+impl Routines {
+    /// The subprograms of `Test_IO`, Get and Put.
+    pub fn new(alloc: Global) -> Result<Routines, AllocError>
+        ensures { IfOk result (λ rs. AreTestIo rs) }
+    {
+        let mut routines = Vec::new(alloc);
+        routines.push(test_routine(alloc, Callee::TestGet, Mode::Out)?)?;
+        routines.push(test_routine(alloc, Callee::TestPut, Mode::In)?)?;
+        Ok(Routines { routines })
+    }
+
+    /// Adds a subprogram, and answers its number.
+    pub fn add(&mut self, routine: Routine) -> Result<u32, AllocError>
+        ensures number { IfOk result (λ n. n ≡ length self.old) }
+        ensures added { OnOk result (self.new ≡ self.old ++ routine ∷ []) }
+    {
+        let number = numbered(self.routines.as_slice().len())?;
+        self.routines.push(routine)?;
+        Ok(number)
+    }
+}

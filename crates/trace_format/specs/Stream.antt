@@ -1,0 +1,28 @@
+-- Where a file that is fetched a part at a time stands.
+use Rattle.std.specs.Prelude.{◌≡◌, ℕ, ◌+◌, ◌<◌, ◌≤◌, ◌⊎◌, List, length, take, drop, Option, None, Some, IsSomeAnd}
+use Rattle.sha2.specs.Hashers.{Holds256}
+use Rattle.cov_io.specs.Outside.{Held, Holds}
+use Rattle.trace_format.specs.declared.stream.Stream.{Stream}
+
+-- the files tell what they hold, and this name has these bytes
+abbrev pub AreTold : Option Held → List ℕ → List ℕ → Type 0
+AreTold held name bytes = IsSomeAnd held (Holds name bytes)
+
+-- so many of the bytes were taken. The part that was fetched begins at start, and what stands before it was hashed
+pub record StandsAt (s : Stream) (bytes : List ℕ) (taken : ℕ) : Type 0 where
+  pub start : ℕ
+  pub hashed : Holds256 s.hasher (take start bytes)
+  pub part : s.part.items ≡ take (length s.part.items) (drop start bytes)
+  pub fetched : s.fetched ≡ start + length s.part.items
+  pub reach : s.fetched ≤ length bytes
+  pub taken_is : taken ≡ start + s.at
+  pub within : s.at ≤ length s.part.items
+
+-- how many were taken
+abbrev pub count_of : Option ℕ → ℕ
+count_of None = 0
+count_of (Some b) = 1
+
+-- a byte stands next in the part in memory, or all bytes were taken
+abbrev pub HasNext : Stream → List ℕ → ℕ → Type 0
+HasNext s bytes taken = (s.at < length s.part.items) ⊎ (length bytes ≤ taken)
