@@ -4,11 +4,12 @@ use Rattle.std.specs.Prelude.{unwrap_or}
 use Rattle.std.proofs.lemmas.List.{length-map}
 use Rattle.cov_base.specs.Lists.{Everywhere, Somewhere}
 use Rattle.ada_meaning.specs.Bodies.{Body, bodies_of, StandsIn, IsBody}
-use Rattle.ada_meaning.specs.Declared.{object_shape, block_shapes}
+use Rattle.ada_meaning.specs.Execution.{library_place}
+use Rattle.ada_meaning.specs.Declared.{library_shape, object_shape, block_shapes}
 use Rattle.ada_meaning.specs.Objects.{objects_of, block_objects}
 use Rattle.ada_meaning.specs.Obligations.{numbers}
 use Rattle.ada_meaning.specs.Program.{in_mode, out_mode, Parameter, Target, get_target, put_target, body_target, Program}
-use Rattle.ada_meaning.specs.Resolved.{ResolvedParameter, parameters_of_subprogram, parameter_in, parameters_of, shape_in}
+use Rattle.ada_meaning.specs.Resolved.{owner_in, ResolvedParameter, parameters_of_subprogram, parameter_in, parameters_of, shape_in}
 use Rattle.ada_meaning.specs.Shape.{Shape, word, row, group, Shapes, no_shape, and_shape}
 use Rattle.ada_meaning.specs.Tree as tree
 use Rattle.ada_meaning.specs.WellFormed as formed
@@ -20,16 +21,20 @@ use Rattle.kernel_ir.specs.declared.kernel.Kernel.{Kernel}
 use Rattle.kernel_ir.specs.Layouts.{content_in}
 use Rattle.kernel_ir.specs.Limits.{most_words}
 use Rattle.kernel_ir.specs.Tree.{Code}
+use Rattle.kernel_ir.specs.World.{data_word}
 use Rattle.statement_code.specs.Bodies.{IsParameterOf, body_code}
+use Rattle.statement_code.specs.Initial.{IsObjectOf}
+use Rattle.statement_code.specs.Objects.{Standing}
 use Rattle.statement_code.specs.Kernels.{Scheme, BodyBy, HasRoom, IsWhole}
 use Rattle.statement_code.specs.Laid.{AreParametersPlaced, IsLaidOut, IsLaidKernel}
 use Rattle.statement_code.specs.Names.{Names, names_in}
 use Rattle.statement_code.specs.Numbers.{ShapeFits, ShapesFit, BlockFits}
-use Rattle.statement_code.specs.Programs.{Plan, size_in_plan, IsLocal, AreParametersLaid, AreGiven, IsSeen, site_of, IsPlanned}
+use Rattle.statement_code.specs.Programs.{IsHome, Plan, size_in_plan, IsLocal, AreParametersLaid, AreGiven, IsSeen, site_of, IsPlanned}
 use Rattle.statement_code.specs.Statements.{HasLayout, IsPlainBlock}
 use Rattle.statement_code.specs.Stores.{HasWords}
 use Rattle.statement_code.specs.Values.{IsComposite, IsBody as IsCallableBody, arguments}
 use Rattle.statement_code.proofs.Alike.{body_alike}
+use Rattle.statement_code.proofs.Beginning.{Found, some_map, found_outside, standing_typed, begins_alike}
 use Rattle.statement_code.proofs.Formed.{bounds_words, type_has}
 use Rattle.statement_code.proofs.FormedBlocks.{IsLocalObject, AreSeen, block_formed}
 use Rattle.statement_code.proofs.Kernels.{each_is, found_there, laid_at, parameters_many, text_is}
@@ -41,7 +46,7 @@ no_more : (m n : ℕ) → n ≤ suc m * n
 no_more m n = grind arith
 
 mutual
-  type_fits : (s : Shape) → formed.IsType s → words s ≤ most_words → ShapeFits s
+  pub type_fits : (s : Shape) → formed.IsType s → words s ≤ most_words → ShapeFits s
   type_fits (word b) typed few = bounds_words b typed
   type_fits (row b s) typed few =
       let part : words s ≤ words (row b s) = subst (λ n. words s ≤ n * words s) (sym (some_turn b.low b.high typed.1.0)) (no_more _ (words s)) in
@@ -208,7 +213,12 @@ module _ (p : Program) (K : Kernel) (s : Scheme) (well : formed.IsWellFormed p) 
     seen = record { seen = seen_too; typed = λ o there. object_typed p j is.declared o well subprogram there; same = same_too }
       where
         seen_too : (o : tree.Object) → formed.StartSees p j is.declared o → IsSeen s.library plan j (parameters_of p (body_target j m)) o
-        seen_too (tree.library_object o d) there = inl (laid.outside o d there).1
+        seen_too (tree.library_object o d) there =
+            let outside = laid.outside o d there in
+            inl (some_map (Found p s.library s.address_of (owner_in j o) d (library_shape p (owner_in j o) d p.objects))
+            (λ (x : Standing). (x.place ≡ library_place (owner_in j o) d) × ((x.shape ≡ plan.shape_of (tree.library_object o d)) × IsHome (plan.home_of (tree.library_object o d)) x.address)) s.library
+            (λ x is. (is.0, (is.1.0 ∙ outside.0, subst (IsHome (plan.home_of (tree.library_object o d))) (sym is.1.1) outside.1)))
+            (found_outside p s.library s.address_of (owner_in j o) d p.objects kernel.addressed well.declared.library there))
         seen_too (tree.local_object d) there =
             inr (subst (λ qs. IsParameterOf plan.shape_of qs (tree.local_object d)) given_are (parameter_seen 0 is.declared.parameters from_zero d there))
 
@@ -301,12 +311,12 @@ module _ (p : Program) (K : Kernel) (s : Scheme) (well : formed.IsWellFormed p) 
       main_is = kernel.main_is;
       main_body = (main_is, (kernel.bodies 0 p.main main_is).gives ∙ well.main_alone.procedure);
       no_parameter = ap (λ o. map (parameter_in p 0) (parameters_of_subprogram o)) well.is_main ∙ ap (map (parameter_in p 0)) well.main_alone.bare;
-      begins = kernel.begins;
+      begins = λ input. begins_alike p s.library s.low kernel.apart s.address_of K well kernel.addressed kernel.objects input (kernel.begins input);
     };
     many = kernel.many;
     numbered = λ n b there. kernel.numbers b.instance b.subprogram (listed n b there) ∙ place_is p n b there;
     room = λ j m is. room_is j m is;
-    library = kernel.library;
+    library = library_fit s.library kernel.objects kernel.library;
     library_words = kernel.library_words;
     library_few = kernel.library_few;
     layouts = kernel.layouts;
@@ -315,5 +325,10 @@ module _ (p : Program) (K : Kernel) (s : Scheme) (well : formed.IsWellFormed p) 
     exceptions_few = kernel.exceptions_few;
   }
     where
+      library_fit : (os : List Standing) → Everywhere (IsObjectOf p s.address_of) os → Everywhere (λ o. (words o.shape ≤ most_words) × (o.address < data_word + length K.library)) os
+          → Everywhere (λ o. ShapeFits o.shape × (o.address < data_word + length K.library)) os
+      library_fit [] are small = tt
+      library_fit (o ∷ os) are small = ((type_fits o.shape (standing_typed p s.address_of o well are.0) small.0.0, small.0.1), library_fit os are.1 small.1)
+
       listed : (n : ℕ) (b : Body) → slice_get (bodies_of p) n ≡ Some b → IsBody p b
       listed n b there = (bodies_law p b).0 (found_there (bodies_of p) n b there)

@@ -37,7 +37,10 @@ pub mod Places
 pub mod Once
 pub mod Formed
 pub mod FormedBlocks
-pub mod Laid
 pub mod Stacked
 pub mod Alike
+pub mod Initial
+pub mod Words
+pub mod Beginning
+pub mod Laid
 pub mod Worked

@@ -1,5 +1,5 @@
 -- What the bodies of a program come to where nothing stands in a generic: each subprogram once, in instance 0.
-use Rattle.std.proofs.Common.{◌≡◌, ℕ, suc, ◌+◌, List, [], ◌∷◌, ◌++◌, append_assoc, map, sum_by, None, Some, slice_get, option_map, refl, sym, ap, ◌∙◌, arith}
+use Rattle.std.proofs.Common.{◌≡◌, ◌≤◌, ℕ, suc, ◌+◌, List, [], ◌∷◌, ◌++◌, append_assoc, map, sum_by, None, Some, slice_get, option_map, refl, sym, ap, ◌∙◌, arith}
 use Rattle.std.specs.Prelude.{unwrap_or}
 use Rattle.std.proofs.lemmas.List.{map-append}
 use Rattle.std.proofs.lemmas.List.Sums.{sum_by-cons}
@@ -85,3 +85,19 @@ module _ (p : Program) where
 
   pub nodes_once : AreOutside p.subprograms → expanded_nodes p ≡ sum_by subprogram_nodes p.subprograms
   nodes_once outside = nodes_from 0 p.subprograms outside from_zero
+
+  -- the nodes of all bodies are no more than these weigh, where each subprogram weighs no less than its nodes
+  all_weigh : (weight : ℕ → ℕ) → ((m : ℕ) → nodes_at p.subprograms m ≤ weight m) → (bs : List Body)
+      → sum_by (λ b. nodes_at p.subprograms b.subprogram) bs ≤ sum_by (λ b. weight b.subprogram) bs
+  all_weigh weight covers [] = omega arith
+  all_weigh weight covers (b ∷ bs) =
+      omega (
+        arith,
+        sum_by-cons (λ (c : Body). nodes_at p.subprograms c.subprogram) b bs,
+        sum_by-cons (λ (c : Body). weight c.subprogram) b bs,
+        covers b.subprogram,
+        all_weigh weight covers bs,
+      )
+
+  pub nodes_weigh : (weight : ℕ → ℕ) → ((m : ℕ) → nodes_at p.subprograms m ≤ weight m) → expanded_nodes p ≤ sum_by (λ b. weight b.subprogram) (bodies_of p)
+  nodes_weigh weight covers = all_weigh weight covers (bodies_of p)

@@ -45,10 +45,10 @@ copied_both (suc n) k from to m =
     at : (a : ℕ) → a + 1 + n ≡ a + suc n
     at a = omega arith
 
-two_filled : (xs ys : List ℤ) (n a : ℕ) (m : Memory) → length xs ≡ n → filled (xs ++ ys) a m ≡ filled ys (a + n) (filled xs a m)
+pub two_filled : (xs ys : List ℤ) (n a : ℕ) (m : Memory) → length xs ≡ n → filled (xs ++ ys) a m ≡ filled ys (a + n) (filled xs a m)
 two_filled xs ys n a m h = filled_both xs ys a m ∙ ap (λ k. filled ys (a + k) (filled xs a m)) h
 
-repeated_size : (n : ℕ) (c : Content) (k : ℕ) → length c.words ≡ k → length (repeated n c).words ≡ n * k
+pub repeated_size : (n : ℕ) (c : Content) (k : ℕ) → length c.words ≡ k → length (repeated n c).words ≡ n * k
 repeated_size zero c k h = omega arith
 repeated_size (suc n) c k h = omega (arith, length-append c.words (repeated n c).words, h, repeated_size n c k h)
 
@@ -73,7 +73,7 @@ in_parts Set a n k c (inr here) = by_test (nat_lt c (a + n)) refl
     by_test true is = inl (inr (here.0, grind (arith, nat_tests, is)))
     by_test false is = inr (grind (arith, nat_tests, is), omega (arith, here.1))
 
-no_more : (Set : ℕ → Type 0) (a n c : ℕ) → n ≡ 0 → With Set a n c → Set c
+pub no_more : (Set : ℕ → Type 0) (a n c : ℕ) → n ≡ 0 → With Set a n c → Set c
 no_more Set a n c none (inl set) = set
 no_more Set a n c none (inr here) = absurd (omega (arith, none, here.0, here.1))
 
@@ -81,7 +81,7 @@ no_more Set a n c none (inr here) = absurd (omega (arith, none, here.0, here.1))
 module _ (Cell : Cells) (step : ℕ) (L : ℤ → ℕ → Type 0) (f : ℤ → Store → Store) (xs : Content) (size : length xs.words ≡ step)
     (does : (Set : ℕ → Type 0) (i : ℤ) (a : ℕ) (store : Store) (m : Memory) → L i a → Agree (Within Cell Set) store m
     → Agree (Within Cell (With Set a step)) (f i store) (filled xs.words a m)) where
-  each_filled : (n : ℕ) (Set : ℕ → Type 0) (i : ℤ) (a : ℕ) (store : Store) (m : Memory) → Each n i a step L → Agree (Within Cell Set) store m
+  pub each_filled : (n : ℕ) (Set : ℕ → Type 0) (i : ℤ) (a : ℕ) (store : Store) (m : Memory) → Each n i a step L → Agree (Within Cell Set) store m
       → Agree (Within Cell (With Set a (n * step))) (each_store n i f store) (filled (repeated n xs).words a m)
   each_filled zero Set i a store m h agrees = fewer Cell Set (With Set a (0 * step)) store m (λ c. no_more Set a (0 * step) c (omega arith)) agrees
   each_filled (suc n) Set i a store m h agrees =

@@ -63,7 +63,7 @@ plan_of j zero = record { width = 2; base = 1; gives = false; locals = 0 ∷ [];
 plan_of j (suc m) = record { width = 2; base = 0; gives = false; locals = []; shape_of = λ o. word bounds; home_of = λ o. in_frame 0; layout_of = λ d. 0 }
 
 abbrev scheme : Scheme
-scheme = record { number = λ j m. place_of j m (bodies_of program); library = []; low = data_word; plan_of = plan_of }
+scheme = record { number = λ j m. place_of j m (bodies_of program); library = []; address_of = λ inst d. data_word; low = data_word; plan_of = plan_of }
 
 abbrev body : (j m : ℕ) → tree.Block → Body
 body j m b = record {
@@ -176,7 +176,9 @@ kernel_laid = record {
   apart = record { apart = tt; outside = tt };
   above = omega arith;
   room = omega arith;
-  begins = λ input q a there. absurd there;
+  addressed = tt;
+  objects = tt;
+  begins = λ input. tt;
   library = tt;
   library_words = tt;
   library_few = omega arith;

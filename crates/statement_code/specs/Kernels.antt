@@ -19,10 +19,11 @@ use Rattle.statement_code.specs.Sizes.{subprogram_nodes}
 use Rattle.statement_code.specs.Values.{IsComposite}
 
 -- How the kernel of a program is laid out: the numbers of its bodies, by instance and subprogram; the objects of the library level, all of
--- them below a word; and how each body is laid out.
+-- them below a word, and their addresses by instance and declaration; and how each body is laid out.
 pub record Scheme : Type 0 where
   pub number : (inst subprogram : ℕ) → ℕ
   pub library : List Standing
+  pub address_of : (inst declaration : ℕ) → ℕ
   pub low : ℕ
   pub plan_of : (inst subprogram : ℕ) → Plan
 

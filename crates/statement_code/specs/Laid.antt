@@ -3,10 +3,9 @@ use Rattle.std.specs.Prelude.{◌≡◌, ◌⊎◌, ℕ, ◌+◌, ◌*◌, ◌^�
 use Rattle.cov_base.specs.Lists.{Everywhere}
 use Rattle.ada_meaning.specs.Bodies.{bodies_of, IsBody}
 use Rattle.ada_meaning.specs.Declared.{object_shape, is_function}
-use Rattle.ada_meaning.specs.Execution.{initial}
 use Rattle.ada_meaning.specs.Objects.{objects_of}
 use Rattle.ada_meaning.specs.Program.{Subprogram, body_target, Program}
-use Rattle.ada_meaning.specs.Resolved.{ResolvedParameter, parameter_in, parameters_of}
+use Rattle.ada_meaning.specs.Resolved.{ResolvedParameter, owner_in, parameter_in, parameters_of}
 use Rattle.ada_meaning.specs.Tree as tree
 use Rattle.ada_meaning.specs.Types as type
 use Rattle.ada_meaning.specs.WellFormed.{StartSees}
@@ -18,12 +17,10 @@ use Rattle.kernel_ir.specs.Meaning as code
 use Rattle.kernel_ir.specs.World.{data_word, area_end}
 use Rattle.statement_code.specs.Alike.{AreNamesIn}
 use Rattle.statement_code.specs.Bodies.{body_code}
-use Rattle.statement_code.specs.Cells.{Agree}
+use Rattle.statement_code.specs.Initial.{AreAddressed, HasInitialWords, IsObjectOf}
 use Rattle.statement_code.specs.Kernels.{Scheme, place_of}
 use Rattle.statement_code.specs.Names.{Names}
-use Rattle.statement_code.specs.Numbers.{ShapeFits}
-use Rattle.statement_code.specs.Objects.{CellsOf}
-use Rattle.statement_code.specs.Programs.{Plan, slot_in_plan, size_in_plan, AreLaid, IsOutside, IsLibrary}
+use Rattle.statement_code.specs.Programs.{Plan, slot_in_plan, size_in_plan, AreLaid, IsHome, IsLibrary}
 use Rattle.statement_code.specs.Statements.{end_of_block, IsInFrame, HasLayout}
 use Rattle.statement_code.specs.Values.{in_frame, arguments, IsWord, IsComposite}
 
@@ -67,14 +64,15 @@ module _ (p : Program) (K : Kernel) (s : Scheme) where
     pub laid : AreLaid plan plan.locals
     pub parameters : AreParametersPlaced plan (length declared.parameters) (map (parameter_in p j) declared.parameters) 0
     pub outside : (o : type.Owner) (d : ℕ) → StartSees p j declared (tree.library_object o d)
-        → (object_shape p j declared (tree.library_object o d) ≡ plan.shape_of (tree.library_object o d)) × IsOutside s.library plan j (tree.library_object o d)
+        → (object_shape p j declared (tree.library_object o d) ≡ plan.shape_of (tree.library_object o d))
+        × IsHome (plan.home_of (tree.library_object o d)) (s.address_of (owner_in j o) d)
     pub few : length declared.parameters ≤ plan.base
     pub small : plan.base < plan.width
     pub narrow : plan.width + arguments ≤ widest
     pub ends : end_of_block plan.base declared.body ≤ plan.width
 
-  -- The kernel: it has the program's bodies in their order, its library's words are as the program begins, all frames lie above them, and
-  -- what it has beside bodies is small enough for machine code.
+  -- The kernel: it has the program's bodies in their order; just the program's objects stand at the library level, with their initial words, and
+  -- below all frames; and what it has beside bodies is small enough for machine code.
   pub record IsLaidKernel : Type 0 where
     pub many : length K.bodies ≡ length (bodies_of p)
     pub numbers : (j m : ℕ) → IsBody p (record { instance = j; subprogram = m }) → s.number j m ≡ place_of j m (bodies_of p)
@@ -83,8 +81,10 @@ module _ (p : Program) (K : Kernel) (s : Scheme) where
     pub apart : IsLibrary s.library s.low
     pub above : data_word ≤ s.low
     pub room : s.low + widest * 512 ≤ area_end
-    pub begins : (input : List ℤ) → Agree (CellsOf s.library) (initial p input).store (code.begin K input).memory
-    pub library : Everywhere (λ o. ShapeFits o.shape × (o.address < data_word + length K.library)) s.library
+    pub addressed : AreAddressed p s.library s.address_of p.objects
+    pub objects : Everywhere (IsObjectOf p s.address_of) s.library
+    pub begins : (input : List ℤ) → HasInitialWords p s.address_of (code.begin K input).memory p.objects
+    pub library : Everywhere (λ o. (words o.shape ≤ most_words) × (o.address < data_word + length K.library)) s.library
     pub library_words : Everywhere (λ word. word < 2 ^ 32) K.library
     pub library_few : length K.library ≤ most_words
     pub layouts : LayoutsFit 0 K.layouts

@@ -20,3 +20,4 @@ pub mod Kernels
 pub mod Own
 pub mod Laid
 pub mod Alike
+pub mod Initial

@@ -1,6 +1,7 @@
 //! Laws of the code of programs. The functions here do nothing: each carries laws as its contract.
 
-ghost use Rattle.std.specs.Prelude.{◌≡◌, ◌≢◌, ◌+◌, ◌*◌, ◌≤◌, ℕ, ℤ, List, Some, false, length, map, sum_by, slice_get};
+ghost use Rattle.std.specs.Prelude.{◌≡◌, ◌≢◌, ◌+◌, ◌*◌, ◌≤◌, ℕ, ℤ, List, Some};
+ghost use Rattle.std.specs.Prelude.{false, length, map, sum_by, slice_get};
 ghost use Rattle.ada_meaning.specs.Bodies.{Body, bodies_of, IsBody};
 ghost use Rattle.ada_meaning.specs.Collected.{labels_of, decisions_of};
 ghost use Rattle.ada_meaning.specs.Execution as source;
@@ -21,13 +22,16 @@ ghost use Rattle.kernel_ir.specs.Limits.{IsWellFormed, IsWithin, kernel_instruct
 ghost use Rattle.kernel_ir.specs.Meaning as code;
 ghost use Rattle.kernel_ir.specs.Obligations.{Condition, rows, conditions};
 ghost use Rattle.statement_code.specs.AllFuels.{Follows, EndsInTime};
+ghost use Rattle.statement_code.specs.Cells.{Agree};
 ghost use Rattle.statement_code.specs.Copies.{layouts_nodes, AreCovered};
 ghost use Rattle.statement_code.specs.Fragments.{CodeLeaves, row_in, conditions_in};
 ghost use Rattle.statement_code.specs.Kernels.{Scheme, IsKernelBy, IsWhole};
-ghost use Rattle.statement_code.specs.Kernels.{AreOutside, place_of, rows_of, conditions_of, expanded_nodes};
+ghost use Rattle.statement_code.specs.Kernels.{AreOutside, nodes_at, place_of, rows_of, conditions_of, expanded_nodes};
 ghost use Rattle.statement_code.specs.Laid.{AreStacked, IsLaidKernel};
+ghost use Rattle.statement_code.specs.Initial.{AreAddressed, HasInitialWords, IsObjectOf};
+ghost use Rattle.statement_code.specs.Objects.{Standing, CellsOf};
 ghost use Rattle.statement_code.specs.Own.{MarksOnce};
-ghost use Rattle.statement_code.specs.Programs.{Plan, AreLaid, Same};
+ghost use Rattle.statement_code.specs.Programs.{Plan, AreLaid, IsLibrary, Same};
 ghost use Rattle.statement_code.specs.Sizes.{subprogram_nodes};
 
 /// Under each fuel but 512, which is the greatest depth of calls, a program and a kernel that is made
@@ -49,7 +53,8 @@ pub fn kernels_end_where_their_programs_end()
 
 /// Each body of a program has a place in the list of its bodies, and stands nowhere else. Where nothing
 /// stands in a generic, the rows, conditions and nodes of all bodies are those of the subprograms, each
-/// once, in instance 0.
+/// once, in instance 0. The nodes of all bodies are no more than their subprograms' weights, if these are
+/// no less than the nodes of each.
 pub fn bodies_are_listed_once()
     ensures found { (p : Program) (j m : ℕ) → IsBody p (record { instance = j; subprogram = m })
         → slice_get (bodies_of p) (place_of j m (bodies_of p)) ≡ Some (record { instance = j; subprogram = m }) }
@@ -61,6 +66,8 @@ pub fn bodies_are_listed_once()
         → conditions_of p (bodies_of p) ≡ conditions_in 0 (decisions_of p.subprograms) }
     ensures nodes { (p : Program) → AreOutside p.subprograms
         → expanded_nodes p ≡ sum_by subprogram_nodes p.subprograms }
+    ensures weights { (p : Program) (weight : ℕ → ℕ) → ((m : ℕ) → nodes_at p.subprograms m ≤ weight m)
+        → expanded_nodes p ≤ sum_by (λ b. weight b.subprogram) (bodies_of p) }
 {}
 
 /// The kernel of a well-formed program is whole where its bodies are those of the program, each laid out in
@@ -71,6 +78,16 @@ pub fn laid_kernels_are_whole()
         → IsWhole p K s }
     ensures stacked { (plan : Plan) (objects : List ℕ) (from : ℕ) → AreStacked plan from objects
         → AreDistinct objects → AreLaid plan objects }
+{}
+
+/// At the library level a kernel begins as its well-formed program does, where just the program's objects
+/// stand there, each at its address in each of its instances, and memory has the objects' initial words.
+pub fn libraries_begin_alike()
+    ensures { (p : Program) (library : List Standing) (low : ℕ) → IsLibrary library low
+        → (address_of : (inst declaration : ℕ) → ℕ) (K : Kernel) → IsWellFormedProgram p
+        → AreAddressed p library address_of p.objects → Everywhere (IsObjectOf p address_of) library
+        → (input : List ℤ) → HasInitialWords p address_of (code.begin K input).memory p.objects
+        → Agree (CellsOf library) (source.initial p input).store (code.begin K input).memory }
 {}
 
 /// The kernel of a program is well-formed, where decisions have the graphs of their expressions, and at

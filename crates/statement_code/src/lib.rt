@@ -16,7 +16,8 @@
 //! | `AllFuels` | what a kernel does on an input, under all fuels together |
 //! | `Fragments`, `Copies` | what code marks, names and leaves, and how long it is; a kernel of bodies |
 //! | `Kernels`, `Own` | the kernel of a whole program, by a scheme; which obligations it marks, and how often |
-//! | `Laid` | how the kernel of a well-formed program is laid out |
+//! | `Laid`, `Alike` | how the kernel of a well-formed program is laid out, and by which names its code may be made |
+//! | `Initial` | the words of the library level as a program begins |
 //!
 //! The law of statements is `block_does` in `proofs/Statements.antt`: where the cells of objects lie apart from what
 //! is kept and from the slots that are worked in, and calls do what `Calls` says, a block and its code both go on,
@@ -48,5 +49,5 @@ mod laws;
 pub use laws::{
     bodies_are_listed_once, kernels_are_small, kernels_do_what_their_programs_do,
     kernels_end_in_time, kernels_end_where_their_programs_end, kernels_hold_the_obligations,
-    laid_kernels_are_whole,
+    laid_kernels_are_whole, libraries_begin_alike,
 };
