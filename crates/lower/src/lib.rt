@@ -14,6 +14,7 @@ mod laws;
 mod lowering;
 mod nodes;
 mod parts;
+mod sets;
 mod statements;
 mod statics;
 mod value;
