@@ -4,3 +4,5 @@ pub mod SizeLaws
 pub mod Totals
 pub mod Rows
 pub mod TypeForms
+pub mod Growing
+pub mod InitialTypes

@@ -5,3 +5,4 @@ pub mod Sizes
 pub mod Table
 pub mod Forms
 pub mod Built
+pub mod Initials
