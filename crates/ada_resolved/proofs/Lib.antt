@@ -4,5 +4,3 @@ pub mod SizeLaws
 pub mod Totals
 pub mod Rows
 pub mod TypeForms
-pub mod Growing
-pub mod InitialTypes

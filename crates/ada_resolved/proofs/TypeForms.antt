@@ -116,7 +116,7 @@ module _ (p : Program) where
   seen inst i t = λ s. sized (seen_size (values_of Meant) inst i t s) (seen_shape Meant inst i t s)
 
   -- a type by its number is that of the table
-  pub named : (types : List type.Subtype) (inst : ℕ) (o : Owner) (n : ℕ)
+  named : (types : List type.Subtype) (inst : ℕ) (o : Owner) (n : ℕ)
       → known_shape Meant inst (unfolded types (view.subtype_of (subtype.Composite o n))) ≡ numbered_shape (owner_in inst (owner_of o)) n (slice_get types n)
   named types inst Here n = refl
   named types inst (Instance i) n = by_case (slice_get types n)
@@ -145,7 +145,7 @@ module _ (p : Program) where
   unsized i t none = ap (λ o. sized o (shape_in Meant i t)) (sym none)
 
   -- what has a size has its shape
-  pub with_size : (i : ℕ) (t : type.Subtype) (m : ℕ) → type_size (values_of Meant) i t ≡ Some m → known_shape Meant i t ≡ shape_in Meant i t
+  with_size : (i : ℕ) (t : type.Subtype) (m : ℕ) → type_size (values_of Meant) i t ≡ Some m → known_shape Meant i t ≡ shape_in Meant i t
   with_size i t m has = ap (λ o. sized o (shape_in Meant i t)) has
 
   pub bounds_are : (i : ℕ) (r : type.Range) (b : Bounds) → static_bounds (values_of Meant) i r ≡ Some b → b ≡ bounds_in Meant i r

@@ -5,4 +5,3 @@ pub mod Sizes
 pub mod Table
 pub mod Forms
 pub mod Built
-pub mod Initials

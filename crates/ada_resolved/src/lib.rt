@@ -5,17 +5,14 @@
 //! The contract that the layers above use: [`number_in`] is `static_value`, [`bounds_in`] is
 //! `static_bounds`, and [`constants_in`] is `constant_values`, each value computed once and in order;
 //! [`TypeSizes`] has the sizes of types in words, which are those of the shapes that executions take, and
-//! the words of the objects of the library level; its [`TypeSizes::objects_of`] has the subtypes of a
-//! subprogram's objects by number, whose shapes are those of the text.
+//! the words of the objects of the library level.
 #![tactic(auto)]
 
 mod arithmetic;
 mod constants;
 mod forms;
-mod initials;
 mod known;
 mod names;
-mod objects;
 mod sizes;
 mod values;
 
