@@ -5,7 +5,8 @@
 //! The contract that the layers above use: [`number_in`] is `static_value`, [`bounds_in`] is
 //! `static_bounds`, and [`constants_in`] is `constant_values`, each value computed once and in order;
 //! [`TypeSizes`] has the sizes of types in words, which are those of the shapes that executions take, and
-//! the words of the objects of the library level.
+//! the words of the objects of the library level; [`TypeSizes::form`] says what a type is built of, one step
+//! at a time. [`target_in`] and [`exception_in`] are what callees and names of exceptions come to.
 #![tactic(auto)]
 
 mod arithmetic;

@@ -14,3 +14,4 @@ pub mod Forms
 pub mod AllFuels
 pub mod Examples
 pub mod Pieces
+pub mod Settings

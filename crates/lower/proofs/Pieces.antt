@@ -44,7 +44,7 @@ use Rattle.lower.specs.Pieces.{part_slots, slots_of, part_for, loaded_on, expr_f
 use Rattle.lower.proofs.Building.{two_put, three_put}
 use Rattle.lower.proofs.Forms.{past_twice}
 
-false_is_not : false ≡ true → ⊥
+pub false_is_not : false ≡ true → ⊥
 false_is_not e = grind arith
 
 -- without one more of the first ones

@@ -9,3 +9,4 @@ pub mod Forms
 pub mod AllFuels
 pub mod Context
 pub mod Pieces
+pub mod Settings

@@ -135,6 +135,7 @@ fn bodies_before(bodies: &[BodyCopy], instance: u32, subprogram: u32) -> Result<
 
 impl Home {
     ghost use Rattle.lower.specs.Context.{home_of};
+    ghost use Rattle.statement_code.specs.Statements.{keep_on};
     ghost use Rattle.statement_code.specs.Values.{address_on, fetch_on};
 
     /// The address of the object's first word, into a slot.
@@ -144,6 +145,16 @@ impl Home {
         match self {
             Home::Frame(slot) => Simple::FrameAddress { to, slot },
             Home::Library(word) => Simple::LibraryAddress { to, word },
+        }
+    }
+
+    /// A slot's value, into the object's first word.
+    pub fn keep(self, from: Slot) -> Simple
+        ensures { result ≡ keep_on from (home_of self) }
+    {
+        match self {
+            Home::Frame(to) => Simple::Move { to, from },
+            Home::Library(word) => Simple::WriteLibrary { word, from },
         }
     }
 

@@ -3,6 +3,11 @@
 //! The contract that the layers above use: [`lower`] gives the kernel of a structured program, and
 //! [`kernels_do_what_their_programs_do`] says of it that it has the program's events, output and
 //! ending on every input, at no more than three times the cost.
+//!
+//! Beside them stands the code of the whole language, so far of expressions, names with parts, calls and
+//! assignments (`value`, `parts`, `calls`, `nodes`, `sets`), by what names of a text come to (`context`): each
+//! function there puts exactly the code of which `statement_code` proves what it does. `lower` does not
+//! stand on it yet.
 #![tactic(auto)]
 
 mod calls;
@@ -14,6 +19,7 @@ mod laws;
 mod lowering;
 mod nodes;
 mod parts;
+mod sets;
 mod statements;
 mod statics;
 mod value;

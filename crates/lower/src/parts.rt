@@ -1,6 +1,6 @@
 //! Code of names of objects with their parts (Ada RM 2012, 4.1.1, 4.1.3).
 
-ghost use Rattle.std.specs.Prelude.{◌≡◌, ◌≤◌, pos, IfOk, OnOk};
+ghost use Rattle.std.specs.Prelude.{◌≡◌, ◌≤◌, pos, IfNone, IfOk, IfSome, OnOk};
 ghost use Rattle.ada_meaning.specs.Tree as tree;
 ghost use Rattle.ada_tree.specs.Programs.{bounds_of};
 ghost use Rattle.ada_tree.specs.View.{is_filled, object_of, parts_of, with_selector};
@@ -9,6 +9,7 @@ ghost use Rattle.ada_resolved.specs.Sizes.{word_limit};
 ghost use Rattle.kernel_ir.specs.Sequence.{joined};
 ghost use Rattle.kernel_ir.specs.declared.simple.Simple.TheVariants as op;
 ghost use Rattle.statement_code.specs.Objects.{component_of};
+ghost use Rattle.statement_code.specs.Values.{part_shape};
 ghost use Rattle.lower.specs.Context.{shape_named, text};
 ghost use Rattle.lower.specs.Pieces.{located_for, parts_for};
 
@@ -126,4 +127,38 @@ pub(crate) fn put_located(
         of = put_selector(alloc, context, code, to, of, selector)?;
     }
     Ok(())
+}
+
+/// The type of the part that a selector names, of an object of a type; none, where there is no such part.
+fn selected(context: &BodyContext, of: Option<TypeIn>, selector: &Selector) -> Option<TypeIn>
+    ensures some { IfSome result (λ part. (rest : tree.Parts)
+        → part_shape (shape_of (text context.now) part) rest
+        ≡ part_shape (shape_named (text context.now) of) (with_selector selector.now rest)) }
+    ensures none { IfNone result ((rest : tree.Parts) → shape_named (text context.now) of
+        ≡ part_shape (shape_named (text context.now) of) (with_selector selector.now rest)) }
+{
+    match (context.sizes.form(of?), selector) {
+        (TypeForm::Record(record), Selector::Component(place)) => Some(component(record, *place)),
+        (TypeForm::Array(_, component), Selector::Element(..)) => Some(component),
+        _ => None,
+    }
+}
+
+/// The type of a part of an object of a type: that of the last part that is there.
+pub(crate) fn part_of(
+    context: &BodyContext,
+    of: Option<TypeIn>,
+    selectors: &[Selector],
+) -> Option<TypeIn>
+    ensures { shape_named (text context.now) result
+        ≡ part_shape (shape_named (text context.now) of) (parts_of selectors.now) }
+{
+    let mut part = of;
+    for selector in selectors {
+        let Some(next) = selected(context, part, selector) else {
+            return part;
+        };
+        part = Some(next);
+    }
+    part
 }
