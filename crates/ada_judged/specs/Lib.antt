@@ -1,3 +1,4 @@
 pub mod Views
 pub mod StaticView
 pub mod StaticSize
+pub mod JudgedView

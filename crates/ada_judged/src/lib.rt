@@ -3,8 +3,11 @@
 //! here are of its definitions.
 #![tactic(auto)]
 
+mod judged;
 mod kind;
+mod operators;
 mod static_tree;
 
+pub use judged::{Form, Indexing, Judged, Spelling, Variable};
 pub use kind::Kind;
 pub use static_tree::{StaticKind, StaticOperand, StaticTree};
