@@ -1,8 +1,9 @@
 -- What the checker's expressions are of the rules' definitions.
 use Rattle.std.specs.Prelude.{Bool, true, false, Option, Some, None, option_map, if◌then◌else◌}
 use Rattle.cov_base.specs.declared.position.Pos.{Pos}
-use Rattle.ada_meaning.specs.Types.{Sign}
-use Rattle.ada_rules.specs.Types.{is_integral, is_boolean}
+use Rattle.ada_meaning.specs.Types.{Sign, Operator, Relation}
+use Rattle.ada_rules.specs.Types.{is_integral, is_discrete, is_boolean}
+use Rattle.ada_rules.specs.Types as types
 use Rattle.ada_meaning.specs.Tree as tree
 use Rattle.ada_tree.specs.View.{object_of, parts_of}
 use Rattle.ada_rules.specs.Denoted as rules
@@ -65,3 +66,10 @@ signed_integer p s x = if is_integral x.kind then Some (rules.signed p x s) else
 
 abbrev pub complement_of_boolean : rules.Judged → Option rules.Judged
 complement_of_boolean x = if is_boolean x.kind then Some (rules.complement_of x) else None
+
+-- operators with two operands, which fit this kind together
+abbrev pub operation_of_integers : Pos → Operator → (x y : rules.Judged) → types.Kind → Option rules.Judged
+operation_of_integers p o x y kind = if is_integral kind then Some (rules.operation_of p o x y kind) else None
+
+abbrev pub relation_of_discrete : Pos → Relation → (x y : rules.Judged) → types.Kind → Option rules.Judged
+relation_of_discrete p r x y kind = if is_discrete kind then Some (rules.relation_with p r x y) else None

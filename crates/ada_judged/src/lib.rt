@@ -3,6 +3,7 @@
 //! here are of its definitions.
 #![tactic(auto)]
 
+mod binary;
 mod judged;
 mod kind;
 mod operators;
