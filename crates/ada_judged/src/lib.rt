@@ -6,6 +6,7 @@
 mod binary;
 mod judged;
 mod kind;
+mod logic;
 mod operators;
 mod static_tree;
 

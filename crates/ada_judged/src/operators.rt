@@ -95,7 +95,7 @@ impl Judged {
 }
 
 /// A test under `not`: two in succession cancel.
-fn negated(alloc: Global, test: Test) -> Result<Test, AllocError>
+pub(crate) fn negated(alloc: Global, test: Test) -> Result<Test, AllocError>
     ensures { IfOk result (λ t. t ≡ rules.negated test) }
 {
     match test.kind {
