@@ -4,6 +4,7 @@ use Rattle.cov_base.specs.declared.position.Pos.{Pos}
 use Rattle.ada_meaning.specs.Types.{Sign, Operator, Relation}
 use Rattle.ada_rules.specs.Types.{is_integral, is_discrete, is_boolean}
 use Rattle.ada_rules.specs.Types as types
+use Rattle.ada_rules.specs.Statics.{within}
 use Rattle.ada_meaning.specs.Tree as tree
 use Rattle.ada_tree.specs.View.{object_of, parts_of}
 use Rattle.ada_rules.specs.Denoted as rules
@@ -73,3 +74,10 @@ operation_of_integers p o x y kind = if is_integral kind then Some (rules.operat
 
 abbrev pub relation_of_discrete : Pos → Relation → (x y : rules.Judged) → types.Kind → Option rules.Judged
 relation_of_discrete p r x y kind = if is_discrete kind then Some (rules.relation_with p r x y) else None
+
+-- a conversion to a scalar subtype
+abbrev pub conversion_to : types.AdaSubtype → rules.Judged → Option rules.Judged
+conversion_to t x =
+    if rules.converts (types.type_in t) x.kind
+    then Some (rules.valued (tree.conversion (types.range_in t) (rules.expr_of x)) (types.kind_of (types.type_in t)) None (Some (within (types.range_in t))))
+    else None

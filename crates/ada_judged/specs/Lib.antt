@@ -2,3 +2,4 @@ pub mod Views
 pub mod StaticView
 pub mod StaticSize
 pub mod JudgedView
+pub mod PartViews

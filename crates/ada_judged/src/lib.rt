@@ -8,6 +8,7 @@ mod judged;
 mod kind;
 mod logic;
 mod operators;
+mod parts;
 mod static_tree;
 
 pub use judged::{Form, Indexing, Judged, Spelling, Variable};
