@@ -1,5 +1,5 @@
 -- Tests under `not`.
-use Rattle.std.proofs.Common.{◌≡◌, Bool, List, [], ◌∷◌, IsTrue, Result, IfOk, Box, Global, refl, sym, subst}
+use Rattle.std.proofs.Common.{◌≡◌, Bool, List, [], ◌∷◌, IsTrue, Result, Ok, Err, IfOk, Box, Global, refl, sym, subst}
 use Rattle.std.proofs.lemmas.Bool.{false≢true}
 use Rattle.cov_base.specs.declared.position.Pos.{Pos}
 use Rattle.ada_meaning.specs.Tree.{Expr, operation, Test, condition, negation, operator}
@@ -54,3 +54,7 @@ other_condition at (expr.Complement e) f h = absurd (h e refl)
 other_condition at (expr.Conversion r e) f h = refl
 other_condition at (expr.Call c xs) f h = refl
 other_condition at (expr.Decision l t) f h = refl
+
+pub ok_then : {A E : Type 0} (P Q : A → Type 0) (r : Result A E) → ((x : A) → P x → Q x) → IfOk r P → IfOk r Q
+ok_then P Q (Ok x) f h = f x h
+ok_then P Q (Err e) f h = tt

@@ -5,10 +5,11 @@ ghost use Rattle.ada_meaning.specs.Tree as tree;
 ghost use Rattle.ada_tree.specs.View.{with_selector};
 ghost use Rattle.ada_rules.specs.Denoted as rules;
 ghost use Rattle.ada_entities.specs.Views.{subtype_of};
+ghost use Rattle.ada_entities.specs.Tables.{parts_of};
 ghost use Rattle.ada_entities.specs.TypeTable.{tables};
 ghost use Rattle.ada_entities.specs.EntityViews.{Tables};
 ghost use Rattle.ada_judged.specs.JudgedView.{is_indexed, variable_of, judged_of, conversion_to};
-ghost use Rattle.ada_judged.specs.PartViews.{IsComponent};
+ghost use Rattle.ada_judged.specs.PartViews.{as_denoted, element_by, IsComponent, IsElement};
 
 use crate::judged::{Form, Indexing, Judged, Spelling, Variable};
 use crate::kind::Kind;
@@ -66,6 +67,37 @@ impl Variable {
             },
             None => Ok(None),
         }
+    }
+}
+
+impl Variable {
+    /// The element of an array at an index (RM 4.1.1), where these are the subtypes of its index and of
+    /// its components. None where the index is of another type, or there is no array.
+    fn element_with(
+        self,
+        index: Judged,
+        parts: Option<(Subtype, Subtype)>,
+    ) -> Result<Option<Variable>, AllocError>
+        ensures { IfOk result (λ o. (k : Tables) → as_denoted k o
+            ≡ element_by (variable_of k self) (judged_of k index) (option_map (parts_of k.types) parts)) }
+    {
+        let Some((subtype, component)) = parts else {
+            return Ok(None);
+        };
+        if !index.kind.fits(subtype.of) {
+            return Ok(None);
+        }
+        let selector = Selector::Element(subtype.range, index.form.into_expr());
+        Ok(Some(self.part(selector, component, Indexing::Indexed)?))
+    }
+
+    /// The element of an array at an index (RM 4.1.1). None where the object is no array, or the index
+    /// is of another type than its index.
+    pub fn element(self, types: &Types, index: Judged) -> Result<Option<Variable>, AllocError>
+        ensures { IfOk result (IsElement (tables types.now) index self) }
+    {
+        let parts = types.array_of(self.subtype.of);
+        self.element_with(index, parts)
     }
 }
 
