@@ -1,3 +1,5 @@
 pub mod Views
 pub mod StaticView
 pub mod StaticSize
+pub mod JudgedView
+pub mod PartViews

@@ -26,5 +26,6 @@ tree_is_larger t f = omega (arith, of_kind t.kind f)
   where
     of_kind : (k : StaticKind) → IsTrue (has_operators k) → deep-StaticKind k ≤ static_size (static_at k)
     of_kind (kind.Value e) h = omega arith
+    of_kind (kind.Constant c) h = omega arith
     of_kind (kind.Signed s a) h = omega arith
     of_kind (kind.Operations a os) h = omega (arith, operations_below a.value os.items h)

@@ -2,6 +2,7 @@
 use Rattle.std.specs.Prelude.{ℕ, ◌+◌, Bool, true, false, List, [], ◌∷◌}
 use Rattle.ada_meaning.specs.Types.{Static, static_sign, static_operation}
 use Rattle.ada_tree.specs.View as tree
+use Rattle.ada_entities.specs.EntityViews.{constant_of}
 use Rattle.ada_tree.specs.View.{sign_of, operator_of}
 use Rattle.ada_judged.specs.declared.static_tree.StaticTree.TheInside.{Inside}
 use Rattle.ada_judged.specs.declared.static_tree.StaticKind.{StaticKind}
@@ -27,6 +28,7 @@ has_operators x = true
 
 abbrev pub static_at : StaticKind → Static
 static_at (kind.Value e) = tree.static_of e
+static_at (kind.Constant c) = constant_of c
 static_at (kind.Signed s e) = static_sign (sign_of s) e.value
 static_at (kind.Operations e os) = with_operands e.value os.items
 

@@ -3,8 +3,14 @@
 //! here are of its definitions.
 #![tactic(auto)]
 
+mod binary;
+mod judged;
 mod kind;
+mod logic;
+mod operators;
+mod parts;
 mod static_tree;
 
+pub use judged::{Form, Indexing, Judged, Spelling, Variable};
 pub use kind::Kind;
 pub use static_tree::{StaticKind, StaticOperand, StaticTree};

@@ -1,5 +1,6 @@
 //! Static expressions, as they are before their values are looked at (Ada RM 2012, 4.9).
 
+use ada_entities::ConstantValue;
 use ada_tree::{Operator, Sign, Static};
 use std::alloc::{AllocError, Global};
 use std::marker::Model;
@@ -18,6 +19,8 @@ pub struct StaticTree {
 pub enum StaticKind {
     /// A value that is no operator's.
     Value(Static),
+    /// The value of a constant.
+    Constant(ConstantValue),
     /// An operator with one operand (RM 4.5.4, 4.5.6).
     Signed(Sign, Box<StaticTree>),
     /// The first operand, and at least one operator with what stands right of it (RM 4.5.3, 4.5.5).
@@ -55,7 +58,8 @@ impl Model for StaticTree {
 }
 
 impl StaticTree {
-    ghost use Rattle.std.specs.Prelude.{◌≡◌, IfOk};
+    ghost use Rattle.std.specs.Prelude.{◌≡◌, option_map, IfOk};
+    ghost use Rattle.ada_entities.specs.EntityViews.{constant_of};
     ghost use Rattle.ada_meaning.specs.Types.{static_sign, static_operation};
     ghost use Rattle.ada_tree.specs.View.{static_of, sign_of, operator_of};
     ghost use Rattle.ada_judged.specs.StaticView.{with_operands};
@@ -66,6 +70,18 @@ impl StaticTree {
     {
         StaticTree {
             kind: StaticKind::Value(value),
+        }
+    }
+
+    /// The value of a constant, where it has one.
+    pub fn of_constant(known: Option<ConstantValue>) -> Option<StaticTree>
+        ensures { result ≡ option_map constant_of known }
+    {
+        match known {
+            Some(value) => Some(StaticTree {
+                kind: StaticKind::Constant(value),
+            }),
+            None => None,
         }
     }
 
