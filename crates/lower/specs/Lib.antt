@@ -10,3 +10,4 @@ pub mod AllFuels
 pub mod Context
 pub mod Pieces
 pub mod Settings
+pub mod Choosing

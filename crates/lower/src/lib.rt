@@ -11,6 +11,7 @@
 #![tactic(auto)]
 
 mod calls;
+mod choosing;
 mod context;
 mod decisions;
 mod edges;

@@ -19,14 +19,14 @@ use kernel_ir::{Code, Simple, Slot};
 use std::alloc::{AllocError, Global};
 
 /// Puts a number behind code, into a slot.
-fn put_number(code: &mut Code, to: Slot, value: i32) -> Result<(), AllocError>
+pub(crate) fn put_number(code: &mut Code, to: Slot, value: i32) -> Result<(), AllocError>
     ensures { OnOk result (code.new ≡ joined code.old (one (op.Number to value))) }
 {
     code.push_simple(Simple::Number { to, value })
 }
 
 /// Puts the value of a static expression behind code, into a slot (RM 4.9).
-fn put_static(
+pub(crate) fn put_static(
     context: &BodyContext,
     code: &mut Code,
     to: Slot,
