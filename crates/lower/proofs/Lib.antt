@@ -15,3 +15,4 @@ pub mod AllFuels
 pub mod Examples
 pub mod Pieces
 pub mod Settings
+pub mod Returned

@@ -11,3 +11,4 @@ pub mod Context
 pub mod Pieces
 pub mod Settings
 pub mod Choosing
+pub mod Procedures

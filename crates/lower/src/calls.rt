@@ -28,7 +28,7 @@ pub(crate) struct Taken {
 }
 
 /// The parameter with this place, if there is one.
-fn parameter_at(parameters: &[Parameter], place: usize) -> Option<Parameter>
+pub(crate) fn parameter_at(parameters: &[Parameter], place: usize) -> Option<Parameter>
     ensures { result ≡ slice_get parameters.now place }
 {
     parameters.get(place).copied()

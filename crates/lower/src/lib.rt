@@ -20,6 +20,7 @@ mod laws;
 mod lowering;
 mod nodes;
 mod parts;
+mod procedures;
 mod sets;
 mod statements;
 mod statics;
