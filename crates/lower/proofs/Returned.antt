@@ -16,11 +16,12 @@ use Rattle.ada_resolved.specs.Sizes.{words}
 use Rattle.kernel_ir.proofs.Joining.{joined_assoc}
 use Rattle.kernel_ir.specs.declared.simple.Simple.TheVariants as op
 use Rattle.kernel_ir.specs.Sequence.{joined}
-use Rattle.kernel_ir.specs.Tree.{Code}
-use Rattle.statement_code.specs.Values.{one}
+use Rattle.kernel_ir.specs.Tree.{call, Code}
+use Rattle.statement_code.specs.Values.{single, one, body_number, moves_code}
 use Rattle.lower.specs.declared.context.BodyContext.{BodyContext}
-use Rattle.lower.specs.Pieces.{part_slots, slots_of, located_for}
-use Rattle.lower.specs.Procedures.{back_for, backs_for, get_for, part_back_for, stored_for}
+use Rattle.lower.specs.Context.{parameters_for, site_for}
+use Rattle.lower.specs.Pieces.{part_slots, slots_of, actuals_for, call_for, located_for}
+use Rattle.lower.specs.Procedures.{back_for, backs_for, get_for, part_back_for, procedure_for, stored_for}
 use Rattle.lower.proofs.Pieces.{drop_one, false_is_not}
 
 module _ (c : BodyContext) where
@@ -68,3 +69,14 @@ module _ (c : BodyContext) where
 
       at_size : size ≡ words (next_parameter (drop i qs)).shape
       at_size = sized ∙ ap (λ ys. words (next_parameter (drop i ys)).shape) same
+
+  -- a call of the program's own, and what is copied back behind it
+  pub body_called : (k j m : ℕ) (actuals : tree.Actuals)
+      → joined (call_for c k (meaning.body_target j m) actuals) (backs_for c k 0 (parameters_for c (meaning.body_target j m)) actuals)
+      ≡ procedure_for c k (meaning.body_target j m) actuals
+  body_called k j m actuals =
+      let qs = parameters_for c (meaning.body_target j m) in
+      let a = actuals_for c k qs actuals in
+      let v = moves_code c.width k 0 actuals in
+      let b = single (call (body_number (site_for c) (meaning.body_target j m))) in
+      joined_assoc a (joined v b) (backs_for c k 0 qs actuals) ∙ ap (joined a) (joined_assoc v b (backs_for c k 0 qs actuals))

@@ -1,5 +1,5 @@
 -- The pieces that the code of procedure calls is put together of, by what the code of a body is made by.
-use Rattle.std.specs.Prelude.{ℕ, List, [], ◌∷◌}
+use Rattle.std.specs.Prelude.{ℕ, List, [], ◌∷◌, Option, Some, None}
 use Rattle.ada_meaning.specs.Program.{Mode, Target}
 use Rattle.ada_meaning.specs.Resolved.{ResolvedParameter}
 use Rattle.ada_meaning.specs.Tree as tree
@@ -9,12 +9,13 @@ use Rattle.ada_tree.specs.declared.expr.Actual.TheVariants as actual
 use Rattle.ada_tree.specs.declared.expr.Object.{Object}
 use Rattle.ada_tree.specs.declared.expr.Selector.{Selector}
 use Rattle.ada_tree.specs.declared.types.ScalarRange.{ScalarRange}
-use Rattle.ada_tree.specs.View.{object_of, scalar_range_of}
+use Rattle.ada_tree.specs.View.{object_of, parts_of, scalar_range_of}
 use Rattle.kernel_ir.specs.declared.simple.Simple.TheVariants as op
 use Rattle.kernel_ir.specs.Tree.{simple, Code, no_op, and_op}
 use Rattle.statement_code.specs.Statements.{keep_on, copied_back, backs_code, get_code, put_code, call_code}
 use Rattle.statement_code.specs.Values.{one, within}
 use Rattle.lower.specs.declared.context.BodyContext.{BodyContext}
+use Rattle.lower.specs.declared.procedures.Gotten.{Gotten}
 use Rattle.lower.specs.Context.{names_for, shape_for, home_for, site_for}
 
 module _ (c : BodyContext) where
@@ -50,3 +51,12 @@ module _ (c : BodyContext) where
   back_for k from m size (actual.Variable o r) = kept_for from o r
   back_for k from m size (actual.Part o ss r) = part_back_for k from o ss.items r
   back_for k from m size (actual.Composite o ss) = copied_back m (one (op.Copy k from size))
+
+  -- Put of an expression, and Get of a variable; a call without one does nothing
+  abbrev pub output_for : (k : ℕ) → Option tree.Expr → Code
+  output_for k None = no_op
+  output_for k (Some e) = put_for k e
+
+  abbrev pub input_for : (k : ℕ) → Option Gotten → Code
+  input_for k None = no_op
+  input_for k (Some v) = get_for k (object_of v.object) (parts_of v.selectors.now) (scalar_range_of v.range)

@@ -1,6 +1,9 @@
 //! Code of procedure calls (Ada RM 2012, 6.4, 6.4.1).
 
-ghost use Rattle.std.specs.Prelude.{◌≡◌, drop, OnOk};
+ghost use Rattle.std.specs.Prelude.{◌≡◌, ℕ, drop, OnOk};
+ghost use Rattle.std.specs.Option.{option_copied};
+ghost use Rattle.ada_meaning.specs.Program.{get_target, put_target};
+ghost use Rattle.lower.specs.declared.context.BodyContext.{BodyContext};
 ghost use Rattle.ada_meaning.specs.Calls.{next_parameter};
 ghost use Rattle.ada_resolved.specs.Sizes.{words as words_of};
 ghost use Rattle.ada_tree.specs.Programs.{mode_of, target_of};
@@ -10,9 +13,9 @@ ghost use Rattle.kernel_ir.specs.declared.simple.Simple.TheVariants as op;
 ghost use Rattle.statement_code.specs.Statements.{copied_back};
 ghost use Rattle.statement_code.specs.Values.{one};
 ghost use Rattle.lower.specs.Context.{parameters_for, signature_for};
-ghost use Rattle.lower.specs.Procedures.{back_for, backs_for, get_for, kept_for, put_for, stored_for};
+ghost use Rattle.lower.specs.Procedures.{back_for, backs_for, get_for, input_for, kept_for, output_for, procedure_for, put_for, stored_for};
 
-use crate::calls::{parameter_at, slots_behind, slots_of};
+use crate::calls::{parameter_at, put_call, slots_behind, slots_of};
 use crate::context::{BASE, BodyContext, Signature};
 use crate::expressions::{slot_behind, within};
 use crate::parts::{has_parts, put_located};
@@ -26,6 +29,14 @@ use std::alloc::{AllocError, Global};
 pub(crate) struct Returned {
     pub mode: Mode,
     pub words: u32,
+}
+
+/// A variable, or a part of one, that gets a word of the input, with its subtype.
+#[derive(Clone, Copy)]
+pub(crate) struct Gotten<'a> {
+    pub object: Object,
+    pub selectors: &'a [Selector],
+    pub range: ScalarRange,
 }
 
 impl BodyContext<'_> {
@@ -173,19 +184,85 @@ fn put_input(
     context: &BodyContext,
     code: &mut Code,
     slot: Slot,
-    object: Object,
-    selectors: &[Selector],
-    range: ScalarRange,
+    variable: Gotten,
 ) -> Result<(), AllocError>
     ensures { OnOk result (code.new ≡ joined code.old
-        (get_for context.now slot (object_of object) (parts_of selectors.now) (scalar_range_of range))) }
+        (get_for context.now slot (object_of variable.entry.object) (parts_of variable.entry.selectors.now)
+        (scalar_range_of variable.entry.range))) }
 {
-    if !has_parts(selectors) {
+    if !has_parts(variable.selectors) {
         code.push_simple(Simple::Get { to: slot })?;
-        return put_kept_from(context, code, slot, object, range);
+        return put_kept_from(context, code, slot, variable.object, variable.range);
     }
-    put_located(alloc, context, code, slot, object, selectors)?;
+    put_located(
+        alloc,
+        context,
+        code,
+        slot,
+        variable.object,
+        variable.selectors,
+    )?;
     let from = slot_behind(slot)?;
     code.push_simple(Simple::Get { to: from })?;
-    put_stored(context, code, slot, from, range)
+    put_stored(context, code, slot, from, variable.range)
+}
+
+/// The expression that is put; none, where a call has none.
+fn expression_in(actuals: &[Actual]) -> Option<&Expr>
+    ensures { (c : BodyContext) (k : ℕ) → output_for c k (option_copied result)
+        ≡ procedure_for c k put_target (actuals_of actuals.now) }
+{
+    let (first, _) = actuals.split_first()?;
+    match first {
+        Actual::Expression(expr) => Some(expr),
+        _ => None,
+    }
+}
+
+/// The variable that is gotten; none, where a call has none.
+fn variable_in(actuals: &[Actual]) -> Option<Gotten<'_>>
+    ensures { (c : BodyContext) (k : ℕ) → input_for c k result ≡ procedure_for c k get_target (actuals_of actuals.now) }
+{
+    let (first, _) = actuals.split_first()?;
+    match first {
+        Actual::Variable(object, range) => Some(Gotten {
+            object: *object,
+            selectors: &[],
+            range: *range,
+        }),
+        Actual::Part(object, selectors, range) => Some(Gotten {
+            object: *object,
+            selectors,
+            range: *range,
+        }),
+        _ => None,
+    }
+}
+
+/// Puts what a call of a procedure does behind code; the slots from one on are free for that.
+pub(crate) fn put_procedure(
+    alloc: Global,
+    context: &BodyContext,
+    code: &mut Code,
+    slot: Slot,
+    target: Target,
+    actuals: &[Actual],
+) -> Result<(), AllocError>
+    ensures { OnOk result (code.new
+        ≡ joined code.old (procedure_for context.now slot (target_of target) (actuals_of actuals.now))) }
+{
+    match target {
+        Target::TestPut => match expression_in(actuals) {
+            Some(expr) => put_output(alloc, context, code, slot, expr),
+            None => Ok(()),
+        },
+        Target::TestGet => match variable_in(actuals) {
+            Some(variable) => put_input(alloc, context, code, slot, variable),
+            None => Ok(()),
+        },
+        Target::Body(..) => {
+            put_call(alloc, context, code, slot, target, actuals)?;
+            put_backs(context, code, slot, target, actuals)
+        }
+    }
 }
