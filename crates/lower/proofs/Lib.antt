@@ -16,3 +16,4 @@ pub mod Examples
 pub mod Pieces
 pub mod Settings
 pub mod Returned
+pub mod Stated

@@ -12,3 +12,4 @@ pub mod Pieces
 pub mod Settings
 pub mod Choosing
 pub mod Procedures
+pub mod Stated

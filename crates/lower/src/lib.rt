@@ -12,6 +12,7 @@
 
 mod calls;
 mod choosing;
+mod compound;
 mod context;
 mod decisions;
 mod edges;
@@ -22,6 +23,7 @@ mod nodes;
 mod parts;
 mod procedures;
 mod sets;
+mod simple;
 mod statements;
 mod statics;
 mod value;
