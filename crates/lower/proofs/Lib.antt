@@ -17,3 +17,4 @@ pub mod Pieces
 pub mod Settings
 pub mod Returned
 pub mod Stated
+pub mod Entered

@@ -13,3 +13,4 @@ pub mod Settings
 pub mod Choosing
 pub mod Procedures
 pub mod Stated
+pub mod Entered
