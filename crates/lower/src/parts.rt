@@ -63,8 +63,9 @@ fn further(slot: Slot, words: u32) -> Simple
 
 /// The type of a component of a record.
 fn component(fields: RecordForm, place: u32) -> TypeIn
-    ensures { shape_of fields.entry.sizes.now.program.now result ≡ component_of
-        (shapes_of fields.entry.sizes.now.program.now fields.entry.instance fields.entry.below fields.entry.components.now) place }
+    ensures { shape_of fields.entry.sizes.now.program.now result
+        ≡ component_of (shapes_of fields.entry.sizes.now.program.now fields.entry.instance fields.entry.below
+        fields.entry.components.now) place }
 {
     fields.component(place).unwrap_or(NOTHING)
 }
@@ -83,7 +84,8 @@ fn put_selector(
 ) -> Result<Option<TypeIn>, AllocError>
     ensures { IfOk result (λ part. (rest : tree.Parts)
         → joined code.new (parts_for context.now to (shape_named (text context.now) part) rest)
-        ≡ joined code.old (parts_for context.now to (shape_named (text context.now) of) (with_selector selector.now rest))) }
+        ≡ joined code.old (parts_for context.now to (shape_named (text context.now) of)
+        (with_selector selector.now rest))) }
 {
     let Some(of) = of else {
         return Ok(None);

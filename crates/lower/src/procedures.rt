@@ -42,7 +42,8 @@ pub(crate) struct Gotten<'a> {
 impl BodyContext<'_> {
     /// What is copied back of the parameter with this place.
     fn returned(&self, signature: Signature, place: usize) -> Returned
-        ensures mode { mode_of result.mode ≡ (next_parameter (drop place (signature_for self.now signature.entry))).mode }
+        ensures mode { mode_of result.mode
+            ≡ (next_parameter (drop place (signature_for self.now signature.entry))).mode }
         ensures words { result.words
             ≡ words_of (next_parameter (drop place (signature_for self.now signature.entry))).shape }
     {
