@@ -15,3 +15,6 @@ pub mod AllFuels
 pub mod Examples
 pub mod Pieces
 pub mod Settings
+pub mod Returned
+pub mod Stated
+pub mod Entered

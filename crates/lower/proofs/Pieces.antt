@@ -48,7 +48,7 @@ pub false_is_not : false ≡ true → ⊥
 false_is_not e = grind arith
 
 -- without one more of the first ones
-drop_one : {X : Type 0} (i : ℕ) (xs : List X) → drop (suc i) xs ≡ drop 1 (drop i xs)
+pub drop_one : {X : Type 0} (i : ℕ) (xs : List X) → drop (suc i) xs ≡ drop 1 (drop i xs)
 drop_one zero [] = refl
 drop_one zero (x ∷ xs) = refl
 drop_one (suc i) [] = refl

@@ -10,7 +10,10 @@ use Rattle.ada_meaning.specs.Tree as tree
 use Rattle.ada_tree.specs.declared.program.Parameter.{Parameter}
 use Rattle.ada_tree.specs.declared.program.Program.{Program}
 use Rattle.ada_tree.specs.declared.program.Subprogram.{Subprogram}
+use Rattle.ada_tree.specs.declared.types.Subtype.{Subtype}
+use Rattle.ada_tree.specs.declared.types.Subtype.TheVariants as subtype
 use Rattle.ada_tree.specs.Programs.{mode_of, program_of}
+use Rattle.ada_tree.specs.View.{owner_of}
 use Rattle.ada_resolved.specs.declared.forms.TypeIn.{TypeIn}
 use Rattle.ada_resolved.specs.Forms.{named_type, shape_of}
 use Rattle.generic_expand.specs.declared.copies.BodyCopy.{BodyCopy}
@@ -19,7 +22,9 @@ use Rattle.statement_code.specs.Values.{Home, in_frame, in_library, Site}
 use Rattle.lower.specs.declared.context.BodyContext.{BodyContext}
 use Rattle.lower.specs.declared.context.Home.{Home as Place}
 use Rattle.lower.specs.declared.context.Home.TheVariants as place
+use Rattle.lower.specs.declared.context.LaidType.{LaidType}
 use Rattle.lower.specs.declared.context.LibraryPlace.{LibraryPlace}
+use Rattle.lower.specs.declared.context.LocalObject.{LocalObject}
 use Rattle.lower.specs.declared.context.Signature.{Signature}
 
 -- where an object stands
@@ -41,6 +46,11 @@ place_among d (x ∷ xs) = if nat_eq x.declaration d then Some x else place_amon
 abbrev pub bodies_before : (inst subprogram : ℕ) → List BodyCopy → ℕ
 bodies_before i n [] = zero
 bodies_before i n (b ∷ bs) = if nat_eq b.instance.0 i && nat_eq b.subprogram n then zero else suc (bodies_before i n bs)
+
+-- how many layouts stand before that of a type in an instance
+abbrev pub layouts_before : (inst number : ℕ) → List LaidType → ℕ
+layouts_before i n [] = zero
+layouts_before i n (t ∷ ts) = if nat_eq t.instance i && nat_eq t.number n then zero else suc (layouts_before i n ts)
 
 abbrev pub parameters_at : Option Subprogram → List Parameter
 parameters_at None = []
@@ -67,6 +77,18 @@ module _ (c : BodyContext) where
   abbrev pub home_for : tree.Object → Home
   home_for (tree.local_object d) = in_frame (unwrap_or (option_map (λ o. o.slot) (slice_get c.locals.now d)) 0)
   home_for (tree.library_object o d) = in_library (unwrap_or (option_map (λ x. x.word) (place_at (owner_in c.instance o) d)) 0)
+
+  -- the number of the layout of a type, and of that of an object of the subprogram
+  abbrev pub layout_by : Subtype → ℕ
+  layout_by (subtype.Scalar r) = 0
+  layout_by (subtype.Composite o n) = layouts_before (owner_in c.instance (owner_of o)) n c.layouts.now
+
+  abbrev pub layout_at : Option LocalObject → ℕ
+  layout_at None = 0
+  layout_at (Some o) = layout_by o.subtype
+
+  abbrev pub layout_for : (declaration : ℕ) → ℕ
+  layout_for d = layout_at (slice_get c.locals.now d)
 
   abbrev pub site_for : Site
   site_for = record { width = c.width; body = λ i n. bodies_before i n c.bodies.now }

@@ -11,3 +11,6 @@ pub mod Context
 pub mod Pieces
 pub mod Settings
 pub mod Choosing
+pub mod Procedures
+pub mod Stated
+pub mod Entered

@@ -28,7 +28,7 @@ pub(crate) struct Taken {
 }
 
 /// The parameter with this place, if there is one.
-fn parameter_at(parameters: &[Parameter], place: usize) -> Option<Parameter>
+pub(crate) fn parameter_at(parameters: &[Parameter], place: usize) -> Option<Parameter>
     ensures { result ≡ slice_get parameters.now place }
 {
     parameters.get(place).copied()
@@ -47,7 +47,8 @@ fn scalar_range(form: TypeForm) -> Range
 impl BodyContext<'_> {
     /// What the parameter with this place takes: any value, where there is no such scalar parameter.
     fn taken(&self, signature: Signature, place: usize) -> Taken
-        ensures mode { mode_of result.mode ≡ (next_parameter (drop place (signature_for self.now signature.entry))).mode }
+        ensures mode { mode_of result.mode
+            ≡ (next_parameter (drop place (signature_for self.now signature.entry))).mode }
         ensures bounds { bounds_of result.bounds
             ≡ word_bounds (next_parameter (drop place (signature_for self.now signature.entry))).shape }
     {

@@ -42,7 +42,7 @@ pub(crate) fn put_decided(
 }
 
 /// Puts a comparison of two slots behind code, into a third.
-fn put_compared(
+pub(crate) fn put_compared(
     code: &mut Code,
     to: Slot,
     relation: Relation,
@@ -189,7 +189,7 @@ pub(crate) fn put_exception_choices(
 }
 
 /// The first value of a range, into a slot.
-fn first_number(to: Slot, range: Range) -> Simple
+pub(crate) fn first_number(to: Slot, range: Range) -> Simple
     ensures { result ≡ op.Number to (bounds_of range).low }
 {
     Simple::Number {

@@ -51,6 +51,14 @@ pub(crate) struct LibraryPlace {
     pub word: u32,
 }
 
+/// A type as it is laid out in an instance.
+#[derive(Clone, Copy)]
+pub(crate) struct LaidType {
+    pub instance: u32,
+    /// The number of the type in the table of types.
+    pub number: u32,
+}
+
 /// Where an object stands: its first word, in the frame or at the library level.
 #[derive(Clone, Copy)]
 pub(crate) enum Home {
@@ -80,6 +88,8 @@ pub(crate) struct BodyContext<'a> {
     pub library: &'a [Seq<LibraryPlace>],
     /// The bodies of the kernel, by number.
     pub bodies: &'a [BodyCopy],
+    /// The layouts of the kernel, by number.
+    pub layouts: &'a [LaidType],
 }
 
 /// The object of a subprogram with this number.
@@ -133,6 +143,21 @@ fn bodies_before(bodies: &[BodyCopy], instance: u32, subprogram: u32) -> Result<
     Ok(before)
 }
 
+/// How many layouts stand before that of a type in an instance. A list of 2 ^ 32 layouts is too large for
+/// memory.
+fn layouts_before(layouts: &[LaidType], instance: u32, number: u32) -> Result<u32, AllocError>
+    ensures { IfOk result (λ n. n ≡ spec.layouts_before instance number layouts.now) }
+{
+    let mut before: u32 = 0;
+    for layout in layouts {
+        if layout.instance == instance && layout.number == number {
+            return Ok(before);
+        }
+        before = before.checked_add(1).ok_or(AllocError)?;
+    }
+    Ok(before)
+}
+
 impl Home {
     ghost use Rattle.lower.specs.Context.{home_of};
     ghost use Rattle.statement_code.specs.Statements.{keep_on};
@@ -170,7 +195,7 @@ impl Home {
 }
 
 impl<'a> BodyContext<'a> {
-    ghost use Rattle.lower.specs.Context.{home_for, home_of, names_for, signature_for, site_for, type_for};
+    ghost use Rattle.lower.specs.Context.{home_for, home_of, layout_by, layout_for, names_for, signature_for, site_for, type_for};
 
     /// The value of a static expression; 0 for one without a value, which no legal program has.
     pub fn number(&self, value: Static) -> i32
@@ -261,5 +286,27 @@ impl<'a> BodyContext<'a> {
         ensures { IfOk result (λ n. n ≡ (site_for self.now).body instance subprogram) }
     {
         bodies_before(self.bodies, instance, subprogram)
+    }
+
+    /// The number of the layout of a type; 0 for a scalar one, which has none.
+    fn layout_of(&self, subtype: Subtype) -> Result<u32, AllocError>
+        ensures { IfOk result (λ n. n ≡ layout_by self.now subtype) }
+    {
+        match subtype {
+            Subtype::Scalar(_) => Ok(0),
+            Subtype::Composite(owner, number) => {
+                layouts_before(self.layouts, owner_in(self.instance, owner), number)
+            }
+        }
+    }
+
+    /// The number of the layout of an object of the subprogram.
+    pub fn layout(&self, number: u32) -> Result<u32, AllocError>
+        ensures { IfOk result (λ n. n ≡ layout_for self.now number) }
+    {
+        match local_at(self.locals, number) {
+            Some(local) => self.layout_of(local.subtype),
+            None => Ok(0),
+        }
     }
 }

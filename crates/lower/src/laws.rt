@@ -26,8 +26,8 @@ ghost use Rattle.lower.specs.Structured.{IsStructured};
 /// too deep where the source is cut off before it looks.
 #[tactic(auto, using(crate::proofs::Follows::same_law))]
 pub fn kernels_do_what_their_programs_do()
-    ensures { (p : Program) → IsStructured p → IsWithin (kernel_of p) → (fuel : ℕ) (input : List ℤ) → fuel ≢ source.deepest
-        → Same (source.exec p fuel input) (code.exec (kernel_of p) fuel input) }
+    ensures { (p : Program) → IsStructured p → IsWithin (kernel_of p) → (fuel : ℕ) (input : List ℤ)
+        → fuel ≢ source.deepest → Same (source.exec p fuel input) (code.exec (kernel_of p) fuel input) }
 {}
 
 /// On every input the kernel of a structured program ends exactly where the program's execution does, with
@@ -35,7 +35,8 @@ pub fn kernels_do_what_their_programs_do()
 /// fuel its events and its output begin those of the program under some fuel.
 #[tactic(auto, using(crate::proofs::AllFuels::follows_law))]
 pub fn kernels_end_where_their_programs_end()
-    ensures { (p : Program) → IsStructured p → IsWithin (kernel_of p) → (input : List ℤ) → Follows p (kernel_of p) input }
+    ensures { (p : Program) → IsStructured p → IsWithin (kernel_of p) → (input : List ℤ)
+        → Follows p (kernel_of p) input }
 {}
 
 /// The kernel of a structured program is well-formed, where decisions have the graphs of their
@@ -45,7 +46,8 @@ pub fn kernels_end_where_their_programs_end()
 /// it.
 pub fn kernels_hold_the_obligations()
     ensures well_formed { (p : Program) → IsStructured p → (graph : DecId → List Edges)
-        → Everywhere (λ h. graph (record { 0 = h.label.number }) ≡ logic.graph (shape_of h.test)) (decisions_of p.subprograms)
+        → Everywhere (λ h. graph (record { 0 = h.label.number }) ≡ logic.graph (shape_of h.test))
+        (decisions_of p.subprograms)
         → map (λ h. h.label.number) (decisions_of p.subprograms) ≡ numbers 0 (length (decisions_of p.subprograms))
         → Everywhere (λ h. conditions_of h.test ≤ 32) (decisions_of p.subprograms)
         → IsWellFormed graph (kernel_of p) }

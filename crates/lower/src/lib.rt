@@ -4,14 +4,17 @@
 //! [`kernels_do_what_their_programs_do`] says of it that it has the program's events, output and
 //! ending on every input, at no more than three times the cost.
 //!
-//! Beside them stands the code of the whole language, so far of expressions, names with parts, calls and
-//! assignments (`value`, `parts`, `calls`, `nodes`, `sets`), by what names of a text come to (`context`): each
-//! function there puts exactly the code of which `statement_code` proves what it does. `lower` does not
-//! stand on it yet.
+//! Beside them stands the code of the whole language, from expressions to bodies, by what the names of a
+//! text come to in an instance (`context`): `value`, `parts`, `calls` and `nodes` for expressions; `sets`,
+//! `procedures` and `simple` for simple statements and declarations; `choosing` and `compound` for those that
+//! hold others; `bodies`. Each function there puts exactly the code of which `statement_code` proves what it
+//! does. `lower` does not stand on it yet: how wide frames are, and where objects stand, is not worked out.
 #![tactic(auto)]
 
+mod bodies;
 mod calls;
 mod choosing;
+mod compound;
 mod context;
 mod decisions;
 mod edges;
@@ -20,7 +23,9 @@ mod laws;
 mod lowering;
 mod nodes;
 mod parts;
+mod procedures;
 mod sets;
+mod simple;
 mod statements;
 mod statics;
 mod value;

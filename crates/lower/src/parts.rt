@@ -62,11 +62,12 @@ fn further(slot: Slot, words: u32) -> Simple
 }
 
 /// The type of a component of a record.
-fn component(record: RecordForm, place: u32) -> TypeIn
-    ensures { shape_of record.entry.sizes.now.program.now result ≡ component_of
-        (shapes_of record.entry.sizes.now.program.now record.entry.instance record.entry.below record.entry.components.now) place }
+fn component(fields: RecordForm, place: u32) -> TypeIn
+    ensures { shape_of fields.entry.sizes.now.program.now result
+        ≡ component_of (shapes_of fields.entry.sizes.now.program.now fields.entry.instance fields.entry.below
+        fields.entry.components.now) place }
 {
-    record.component(place).unwrap_or(NOTHING)
+    fields.component(place).unwrap_or(NOTHING)
 }
 
 /// Puts a selector behind code, where a slot holds the address of an object of a type: the slot gets that
@@ -83,7 +84,8 @@ fn put_selector(
 ) -> Result<Option<TypeIn>, AllocError>
     ensures { IfOk result (λ part. (rest : tree.Parts)
         → joined code.new (parts_for context.now to (shape_named (text context.now) part) rest)
-        ≡ joined code.old (parts_for context.now to (shape_named (text context.now) of) (with_selector selector.now rest))) }
+        ≡ joined code.old (parts_for context.now to (shape_named (text context.now) of)
+        (with_selector selector.now rest))) }
 {
     let Some(of) = of else {
         return Ok(None);
