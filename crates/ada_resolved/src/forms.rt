@@ -60,8 +60,15 @@ fn declaration_at(types: &[TypeDeclaration], number: u32) -> Option<&TypeDeclara
 }
 
 impl RecordForm<'_> {
-    /// The type of a component that a record has in an instance.
-    fn component_type(&self, subtype: Subtype) -> TypeIn
+    /// The types of the components, in order, as the record's declaration has them.
+    pub fn subtypes(&self) -> &[Subtype]
+        ensures { result.now ≡ self.now.components.now }
+    {
+        self.components
+    }
+
+    /// The type that a component of the record has in its instance.
+    pub fn component_type(&self, subtype: Subtype) -> TypeIn
         ensures { result ≡ record { instance = self.now.instance; subtype = subtype; below = self.now.below } }
     {
         TypeIn {

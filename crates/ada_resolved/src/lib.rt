@@ -17,9 +17,10 @@ mod names;
 mod sizes;
 mod values;
 
+pub use arithmetic::values_in;
 pub use constants::constants_in;
 pub use forms::{RecordForm, TypeForm, TypeIn};
 pub use known::owner_in;
 pub use names::{exception_in, target_in};
-pub use sizes::{TypeSizes, sizes_are_exact};
+pub use sizes::{TypeSizes, instance_count, sizes_are_exact, stands_in};
 pub use values::{bounds_in, number_in};

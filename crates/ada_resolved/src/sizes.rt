@@ -136,7 +136,7 @@ fn composite_size(
 }
 
 /// How many instances there are. A list of 2 ^ 32 items is too large for memory.
-fn instance_count(instances: &[Instance]) -> Result<u32, AllocError>
+pub fn instance_count(instances: &[Instance]) -> Result<u32, AllocError>
     ensures { IfOk result (λ n. n ≡ length instances.now) }
 {
     u32::try_from(instances.len()).map_err(|_| AllocError)
@@ -172,7 +172,7 @@ fn table_of(alloc: Global, program: &Program) -> Result<Vec<Seq<Option<u32>>>, A
 }
 
 /// Whether what stands in a generic's text, or in none, stands in the instance with this number.
-fn stands_in(instances: &[Instance], generic: Option<u32>, instance: u32) -> bool
+pub fn stands_in(instances: &[Instance], generic: Option<u32>, instance: u32) -> bool
     ensures { result ≡ stands_in (map instance_of instances.now) generic instance }
 {
     let Some(generic) = generic else {

@@ -1,0 +1,3 @@
+pub mod Sizes
+pub mod Repeated
+pub mod Instances

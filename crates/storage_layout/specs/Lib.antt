@@ -1,0 +1,4 @@
+pub mod Frames
+pub mod Initial
+pub mod Layouts
+pub mod Library
