@@ -37,10 +37,11 @@ use Rattle.kernel_ir.specs.Sequence.{joined}
 use Rattle.kernel_ir.specs.Tree.{simple, call, Code, no_op, and_op, Nodes}
 use Rattle.statement_code.specs.Objects.{component_of, words_before}
 use Rattle.statement_code.specs.Values.{single, one, within, unless_out, body_number, moves_code}
+use Rattle.frame_widths.specs.Chains.{part_slots, slots_of}
 use Rattle.lower.specs.declared.context.BodyContext.{BodyContext}
 use Rattle.lower.specs.Context.{names_for, parameters_for, site_for, text}
 use Rattle.lower.specs.Forms.{with_nodes, true_before, false_before}
-use Rattle.lower.specs.Pieces.{part_slots, slots_of, part_for, loaded_on, expr_for, parts_for, actuals_for, nodes_for, located_for, operand_for, operands_for, operand_nodes_for, actual_for, call_for}
+use Rattle.lower.specs.Pieces.{part_for, loaded_on, expr_for, parts_for, actuals_for, nodes_for, located_for, operand_for, operands_for, operand_nodes_for, actual_for, call_for}
 use Rattle.lower.proofs.Building.{two_put, three_put}
 use Rattle.lower.proofs.Forms.{past_twice}
 

@@ -18,9 +18,10 @@ use Rattle.kernel_ir.specs.declared.simple.Simple.TheVariants as op
 use Rattle.kernel_ir.specs.Sequence.{joined}
 use Rattle.kernel_ir.specs.Tree.{call, Code}
 use Rattle.statement_code.specs.Values.{single, one, body_number, moves_code}
+use Rattle.frame_widths.specs.Chains.{part_slots, slots_of}
 use Rattle.lower.specs.declared.context.BodyContext.{BodyContext}
 use Rattle.lower.specs.Context.{parameters_for, site_for}
-use Rattle.lower.specs.Pieces.{part_slots, slots_of, actuals_for, call_for, located_for}
+use Rattle.lower.specs.Pieces.{actuals_for, call_for, located_for}
 use Rattle.lower.specs.Procedures.{back_for, backs_for, get_for, part_back_for, procedure_for, stored_for}
 use Rattle.lower.proofs.Pieces.{drop_one, false_is_not}
 

@@ -20,17 +20,6 @@ use Rattle.lower.specs.declared.context.BodyContext.{BodyContext}
 use Rattle.lower.specs.Context.{names_for, parameters_for, shape_for, home_for, site_for}
 use Rattle.lower.specs.Forms.{true_before, false_before}
 
--- how many slots an actual takes: one, and one more for the address of a part of a variable
-abbrev pub part_slots : List Selector → ℕ
-part_slots [] = 1
-part_slots (s ∷ ss) = 2
-
-abbrev pub slots_of : Actual → ℕ
-slots_of (actual.Expression e) = 1
-slots_of (actual.Variable o r) = 1
-slots_of (actual.Part o ss r) = part_slots ss.items
-slots_of (actual.Composite o ss) = 1
-
 -- the value of a part whose address stands in the slot k, into the slot behind it, for a scalar parameter of a mode
 abbrev pub loaded_on : (k : ℕ) → Mode → Bounds → Code
 loaded_on k m b = unless_out m (and_op (simple (op.Load (k + 1) k)) (one (within (k + 1) b)))

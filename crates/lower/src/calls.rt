@@ -9,7 +9,7 @@ ghost use Rattle.ada_tree.specs.View.{actuals_of, object_of};
 ghost use Rattle.kernel_ir.specs.Sequence.{joined};
 ghost use Rattle.statement_code.specs.Values.{body_number, moves_code};
 ghost use Rattle.lower.specs.Context.{signature_for, site_for};
-ghost use Rattle.lower.specs.Pieces.{actual_for, call_for, loaded_on, slots_of, variable_for};
+ghost use Rattle.lower.specs.Pieces.{actual_for, call_for, loaded_on, variable_for};
 
 use crate::context::{BASE, BodyContext, Signature};
 use crate::expressions::{slot_behind, within};
@@ -17,6 +17,7 @@ use crate::parts::{has_parts, put_located};
 use crate::value::put_value;
 use ada_resolved::TypeForm;
 use ada_tree::{Actual, Mode, Object, Parameter, Range, Target};
+use frame_widths::slots_of;
 use kernel_ir::{Code, Op, Simple, Slot};
 use std::alloc::{AllocError, Global};
 
@@ -81,16 +82,6 @@ pub(crate) fn slots_behind(slot: Slot, count: u32) -> Result<Slot, AllocError>
     ensures { IfOk result (λ end. end ≡ slot + count) }
 {
     slot.checked_add(count).ok_or(AllocError)
-}
-
-/// How many slots an actual takes: its value or address, and one more for a part of a variable.
-pub(crate) fn slots_of(actual: &Actual) -> u32
-    ensures { result ≡ slots_of actual.now }
-{
-    match actual {
-        Actual::Part(_, selectors, _) => 1 + u32::from(has_parts(selectors)),
-        Actual::Expression(_) | Actual::Variable(..) | Actual::Composite(..) => 1,
-    }
 }
 
 /// Puts the value of a variable behind code, for a scalar parameter: none for one of mode out.

@@ -15,12 +15,13 @@ ghost use Rattle.statement_code.specs.Values.{one};
 ghost use Rattle.lower.specs.Context.{parameters_for, signature_for};
 ghost use Rattle.lower.specs.Procedures.{back_for, backs_for, get_for, input_for, kept_for, output_for, procedure_for, put_for, stored_for};
 
-use crate::calls::{parameter_at, put_call, slots_behind, slots_of};
+use crate::calls::{parameter_at, put_call, slots_behind};
 use crate::context::{BASE, BodyContext, Signature};
 use crate::expressions::{slot_behind, within};
 use crate::parts::{has_parts, put_located};
 use crate::value::put_value;
 use ada_tree::{Actual, Expr, Mode, Object, ScalarRange, Selector, Target};
+use frame_widths::slots_of;
 use kernel_ir::{Code, Simple, Slot};
 use std::alloc::{AllocError, Global};
 

@@ -22,15 +22,17 @@ use Rattle.kernel_ir.specs.Simple.{does_simple, if_valid}
 use Rattle.kernel_ir.specs.Tree.{simple, call, Code, no_op, and_op}
 use Rattle.kernel_ir.specs.World.{Memory, Ended, Ends, Cut, in_area, data_word, area_end, slot_word, slot_in, with_slot, paid, noted}
 use Rattle.kernel_ir.specs.World as kernel
+use Rattle.frame_widths.specs.Ends.{end_of_actuals}
+use Rattle.frame_widths.proofs.Above.{end_is_above, actuals_are_above, parts_are_above}
 use Rattle.statement_code.specs.Names.{names_in}
 use Rattle.statement_code.proofs.Cells.{lies_more}
 use Rattle.statement_code.specs.Cells.{Agree, Cells, Within}
 use Rattle.statement_code.specs.Calls.{IsFor, AreFor, MayCall, Outside, ArgumentsStand, Called}
 use Rattle.statement_code.specs.Frames.{Frame, IsFrame, Inside, Failed, Runs}
-use Rattle.statement_code.specs.Values.{one, within, Home, in_frame, in_library, address_at, address_on, fetch_on, end_of_actuals, part_shape, IsWord, Stands, expr_code, parts_code, SeesIn, Site, count_of, IsGivenBack, unless_out, arguments, moves_code, IsBody, body_number, actuals_code, IsComposite}
+use Rattle.statement_code.specs.Values.{one, within, Home, in_frame, in_library, address_at, address_on, fetch_on, part_shape, IsWord, Stands, expr_code, parts_code, SeesIn, Site, count_of, IsGivenBack, unless_out, arguments, moves_code, IsBody, body_number, actuals_code, IsComposite}
 use Rattle.statement_code.proofs.Flows.{goes_to_twice}
 use Rattle.statement_code.proofs.Frames.{runs_are, ticked, observed_less, inside_paid, inside_less, runs_stop, runs_then, worked_at}
-use Rattle.statement_code.proofs.Operands.{in_area_is, word_cell, word_ends, end_is_above, actuals_are_above, parts_are_above, Held, Located, fails_there, held_set, addressed_is, stands_now, located_less}
+use Rattle.statement_code.proofs.Operands.{in_area_is, word_cell, word_ends, Held, Located, fails_there, held_set, addressed_is, stands_now, located_less}
 
 module _ (p : Program) (calls : Calls) (inst : ℕ) (K : Kernel) (kcalls : code.Calls) (fuel : ℕ) (Cell : Cells) (Keep : ℕ → Type 0) (fr : Frame)
     (frame : IsFrame Cell Keep fr) (Set : ℕ → Type 0) (shape_of : tree.Object → Shape) (home_of : tree.Object → Home) (site : Site) (Bodies : Bool → ℕ → ℕ → Type 0) (Library : Cells)

@@ -23,18 +23,20 @@ use Rattle.kernel_ir.specs.Simple.{if_valid, filled}
 use Rattle.kernel_ir.specs.Tree.{simple, Code, and_op}
 use Rattle.kernel_ir.specs.World.{Memory, Ended, Ends, in_area, data_word, area_end, slot_word, slot_in, with_slot, with_word, with_memory, paid}
 use Rattle.kernel_ir.specs.World as kernel
+use Rattle.frame_widths.specs.Ends.{end_of, end_of_parts, end_of_value, end_of_assignment}
+use Rattle.frame_widths.proofs.Above.{parts_are_above}
 use Rattle.statement_code.specs.Names.{names_in}
 use Rattle.statement_code.specs.Calls.{MayCall}
 use Rattle.statement_code.specs.Cells.{Cells, Within, With}
 use Rattle.statement_code.specs.Frames.{rate, Frame, IsFrame, Inside, Failed, Runs}
-use Rattle.statement_code.specs.Sets.{end_of_value, left_at, set_code, IsPlainValue}
-use Rattle.statement_code.specs.Statements.{keep_on, end_of_assignment, assign_at, assign_code, first_code, HasLayout}
+use Rattle.statement_code.specs.Sets.{left_at, set_code, IsPlainValue}
+use Rattle.statement_code.specs.Statements.{keep_on, assign_at, assign_code, first_code, HasLayout}
 use Rattle.statement_code.specs.Stores.{first_store, first_stores, first_content, HasWords, after}
-use Rattle.statement_code.specs.Values.{one, within, Home, in_frame, in_library, address_at, address_on, end_of, end_of_parts, part_shape, Stands, expr_code, parts_code, IsPlainExpr, ArePlainParts, SeesIn, Site}
+use Rattle.statement_code.specs.Values.{one, within, Home, in_frame, in_library, address_at, address_on, part_shape, Stands, expr_code, parts_code, IsPlainExpr, ArePlainParts, SeesIn, Site}
 use Rattle.statement_code.proofs.Frames.{ticked, observed, inside_ticked, inside_paid, inside_less, inside_fewer, worked, stored, runs_stop, runs_are, runs_then}
 use Rattle.statement_code.proofs.Sets.{SetTo, set_does, stands_more, apart_from, not_below, set_keeps, each_store_keeps}
 use Rattle.statement_code.proofs.Stores.{first_agrees, first_size, set_first_does}
-use Rattle.statement_code.proofs.Operands.{end_is_above, parts_are_above, in_area_is, word_cell, word_ends, Held, Located}
+use Rattle.statement_code.proofs.Operands.{in_area_is, word_cell, word_ends, Held, Located}
 use Rattle.statement_code.proofs.Values.{value_does, place_does}
 use Rattle.statement_code.proofs.Operands as operands
 

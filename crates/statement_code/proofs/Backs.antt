@@ -21,18 +21,20 @@ use Rattle.kernel_ir.specs.Simple.{if_valid}
 use Rattle.kernel_ir.specs.Tree.{simple, Code, and_op}
 use Rattle.kernel_ir.specs.World.{Memory, Ended, Ends, data_word, area_end, slot_word, slot_in, with_word, with_memory, paid}
 use Rattle.kernel_ir.specs.World as kernel
+use Rattle.frame_widths.specs.Ends.{end_of_actuals}
+use Rattle.frame_widths.proofs.Above.{end_is_above, actuals_are_above, parts_are_above}
 use Rattle.statement_code.specs.Names.{names_in}
 use Rattle.statement_code.specs.Calls.{MayCall, Inner, Returned, IsBack, Results}
 use Rattle.statement_code.specs.Cells.{Cells, Lies, Within, With}
 use Rattle.statement_code.specs.Frames.{rate, Frame, IsFrame, Inside, Failed, Runs}
 use Rattle.statement_code.specs.Statements.{backs_code, copied_back, keep_on}
-use Rattle.statement_code.specs.Values.{one, within, Home, in_frame, in_library, address_at, end_of_actuals, part_shape, Site, arguments, IsWord, Stands, SeesIn, ArePlainActuals}
+use Rattle.statement_code.specs.Values.{one, within, Home, in_frame, in_library, address_at, part_shape, Site, arguments, IsWord, Stands, SeesIn, ArePlainActuals}
 use Rattle.statement_code.proofs.Across.{IsReadable, copy_across}
 use Rattle.statement_code.proofs.Cells.{lies_more}
 use Rattle.statement_code.proofs.Frames.{ticked, inside_ticked, inside_paid, inside_less, inside_fewer, stored, other_frame, runs_stop, runs_then}
 use Rattle.statement_code.proofs.Sets.{stands_more, apart_from, not_below, copied_keeps, set_keeps, words_cost, costs_one}
 use Rattle.statement_code.proofs.Stores.{copy_parts_do}
-use Rattle.statement_code.proofs.Operands.{in_area_is, end_is_above, actuals_are_above, parts_are_above, word_cell, word_ends}
+use Rattle.statement_code.proofs.Operands.{in_area_is, word_cell, word_ends}
 use Rattle.statement_code.proofs.Arguments.{PartAt, Temporaries}
 use Rattle.statement_code.proofs.Arguments as arguments
 

@@ -16,16 +16,17 @@ use Rattle.kernel_ir.specs.declared.simple.Simple.TheVariants as op
 use Rattle.kernel_ir.specs.Layouts.{Content}
 use Rattle.kernel_ir.specs.Limits.{IsWord, most_arguments}
 use Rattle.kernel_ir.specs.Tree.{Code, no_node}
+use Rattle.frame_widths.specs.Ends.{end_of_test, end_of_declarations, end_of_range, end_of_statement, end_of_statements, end_of_branches, end_of_alternatives, end_of_block, end_of_handlers}
+use Rattle.frame_widths.proofs.Above.{end_is_above, test_is_above}
 use Rattle.statement_code.specs.Names.{names_in}
 use Rattle.statement_code.specs.Flows.{counted_code, range_code, decided_code, choice_code, choices_code}
 use Rattle.statement_code.specs.Numbers.{ShapeFits, HomeFits, BodiesFit, ObjectsFit, TestFits, RangeFits, ChoiceFits, ExceptionChoiceFits, DeclarationFits, StatementFits, StatementsFit, BranchesFit, AlternativesFit, HandlersFit, BlockFits}
 use Rattle.statement_code.specs.Sizes.{expr_nodes, test_nodes, value_nodes, range_nodes, declarations_nodes, statement_nodes, statements_nodes, branches_nodes, alternatives_nodes, handlers_nodes, block_nodes, node_instructions}
-use Rattle.statement_code.specs.Statements.{slot_of, end_of_declarations, end_of_range, end_of_statement, end_of_statements, end_of_branches, end_of_alternatives, end_of_block, end_of_handlers, guarded_code, exception_choice_code, exception_choices_code, bounds_code, declarations_code, statement_code, statements_code, branches_code, alternatives_code, block_code, handlers_code, IsInFrame, behind, declared_in, behind_all, ArePlainDeclarations, IsPlainRange, IsPlainStatement, ArePlainStatements, ArePlainBranches, ArePlainAlternatives, IsPlainBlock, ArePlainHandlers}
-use Rattle.statement_code.specs.Values.{Home, in_frame, in_library, end_of_test, Site, IsPlainTest}
+use Rattle.statement_code.specs.Statements.{slot_of, guarded_code, exception_choice_code, exception_choices_code, bounds_code, declarations_code, statement_code, statements_code, branches_code, alternatives_code, block_code, handlers_code, IsInFrame, behind, declared_in, behind_all, ArePlainDeclarations, IsPlainRange, IsPlainStatement, ArePlainStatements, ArePlainBranches, ArePlainAlternatives, IsPlainBlock, ArePlainHandlers}
+use Rattle.statement_code.specs.Values.{Home, in_frame, in_library, Site, IsPlainTest}
 use Rattle.statement_code.proofs.Expressions as expression
 use Rattle.statement_code.proofs.Numbers as number
 use Rattle.statement_code.proofs.Numbers.{word_is}
-use Rattle.statement_code.proofs.Operands.{end_is_above, test_is_above}
 use Rattle.statement_code.proofs.Fragments.{Is, shorter, listed, nothing, both, before, last, started, chosen, caught, looped, counted, left, returned}
 use Rattle.statement_code.proofs.Storing as storing
 

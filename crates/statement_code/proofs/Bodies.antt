@@ -20,13 +20,14 @@ use Rattle.kernel_ir.specs.Sequence.{joined}
 use Rattle.kernel_ir.specs.Tree.{Code}
 use Rattle.kernel_ir.specs.World.{Memory, Ended, Ends, slot_word, slot_in, with_slot, paid}
 use Rattle.kernel_ir.specs.World as kernel
+use Rattle.frame_widths.specs.Ends.{end_of_block}
 use Rattle.statement_code.specs.Names.{names_in}
 use Rattle.statement_code.specs.Bodies.{parameters_code, ending_code, body_code, ParameterStands, ParametersStand, HandedSlots, SetBy, Addresses, IsParameterOf, IsStage}
 use Rattle.statement_code.specs.Calls.{ArgumentsStand, AreFor, FunctionsDo, ProceduresDo, Called, Inner, Returned, IsBack, Results}
 use Rattle.statement_code.specs.Cells.{Cells, Agree, Within, With}
 use Rattle.statement_code.specs.Frames.{Observed, Frame, IsFrame, Inside, Failed, Runs}
 use Rattle.statement_code.specs.Objects.{Among}
-use Rattle.statement_code.specs.Statements.{end_of_block, block_code, IsPlainBlock}
+use Rattle.statement_code.specs.Statements.{block_code, IsPlainBlock}
 use Rattle.statement_code.specs.Steps.{Step}
 use Rattle.statement_code.specs.Values.{Home, address_at, arguments, IsWord, Stands, SeesIn, Site}
 use Rattle.statement_code.proofs.Across.{among_lies}

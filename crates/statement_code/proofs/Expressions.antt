@@ -18,15 +18,16 @@ use Rattle.kernel_ir.specs.declared.simple.Simple.TheVariants as op
 use Rattle.kernel_ir.specs.Limits.{most_arguments}
 use Rattle.kernel_ir.specs.Sequence.{joined}
 use Rattle.kernel_ir.specs.Tree.{simple, decide, Code, and_op, Nodes, no_node}
+use Rattle.frame_widths.specs.Ends.{end_of, end_of_actuals, end_of_parts, end_of_test}
+use Rattle.frame_widths.proofs.Above.{end_is_above, actuals_are_above, parts_are_above, test_is_above}
 use Rattle.statement_code.specs.Names.{names_in}
 use Rattle.statement_code.specs.Numbers.{ShapeFits, ParametersFit, BodiesFit, ObjectsFit, ExprFits, PartsFit, ActualsFit, TestFits}
 use Rattle.statement_code.specs.Objects.{component_of, words_before}
 use Rattle.statement_code.specs.Sizes.{expr_nodes, parts_nodes, actuals_nodes, test_nodes, node_instructions, expr_margin, parts_margin, actuals_margin}
-use Rattle.statement_code.specs.Values.{single, one, within, address_on, Home, operator_on, relation_on, complement_on, past, end_of, end_of_actuals, end_of_parts, end_of_test, IsBody, count_of, arguments, Site, unless_out, moves_code, body_number, expr_code, actuals_code, parts_code, nodes_code, IsPlainExpr, ArePlainParts, ArePlainActuals, IsPlainTest}
+use Rattle.statement_code.specs.Values.{single, one, within, address_on, Home, operator_on, relation_on, complement_on, past, IsBody, count_of, arguments, Site, unless_out, moves_code, body_number, expr_code, actuals_code, parts_code, nodes_code, IsPlainExpr, ArePlainParts, ArePlainActuals, IsPlainTest}
 use Rattle.statement_code.proofs.Graphs.{has_condition, edges_are, count_is, past_fits, next_fits}
 use Rattle.statement_code.proofs.Numbers as number
 use Rattle.statement_code.proofs.Numbers.{word_is, size_is, words_few, before_few, component_fits, bounds_fit, others_fit}
-use Rattle.statement_code.proofs.Operands.{end_is_above, actuals_are_above, parts_are_above, test_is_above}
 use Rattle.statement_code.proofs.Fragments.{Is, Held, shorter, nothing, both, before, last, behind, calling, decided, held_condition, held_twice}
 
 -- each actual is moved, and there are no more than so many instructions for that

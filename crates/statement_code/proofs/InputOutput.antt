@@ -24,18 +24,19 @@ use Rattle.kernel_ir.specs.Simple.{if_valid, takes}
 use Rattle.kernel_ir.specs.Tree.{simple, Code, and_op}
 use Rattle.kernel_ir.specs.World.{Ended, Ends, slot_in, with_slot, paid}
 use Rattle.kernel_ir.specs.World as kernel
+use Rattle.frame_widths.specs.Ends.{end_of_parts, end_of_call}
 use Rattle.statement_code.specs.Names.{names_in}
 use Rattle.statement_code.specs.Calls.{MayCall}
 use Rattle.statement_code.specs.Cells.{Cells, Within, With}
 use Rattle.statement_code.specs.Frames.{rate, Frame, IsFrame, Inside, Failed, Runs}
-use Rattle.statement_code.specs.Statements.{keep_on, get_at, get_code, call_code, end_of_call, IsPlainCall}
+use Rattle.statement_code.specs.Statements.{keep_on, get_at, get_code, call_code, IsPlainCall}
 use Rattle.statement_code.specs.Steps.{Step}
-use Rattle.statement_code.specs.Values.{one, within, Home, address_at, end_of_parts, part_shape, IsWord, expr_code, parts_code, ArePlainParts, SeesIn, Site}
+use Rattle.statement_code.specs.Values.{one, within, Home, address_at, part_shape, IsWord, expr_code, parts_code, ArePlainParts, SeesIn, Site}
 use Rattle.statement_code.proofs.Assignments.{scalar_does}
 use Rattle.statement_code.proofs.Flows.{step_stops, run_step, goes_to_twice}
 use Rattle.statement_code.proofs.Frames.{ticked, observed, inside_ticked, inside_paid, inside_less, inside_fewer, worked, AtStops, runs_stop, runs_are, runs_then}
 use Rattle.statement_code.proofs.Sets.{SetTo, stores, stands_more}
-use Rattle.statement_code.proofs.Operands.{end_is_above, parts_are_above, word_cell, word_ends, Held, Located}
+use Rattle.statement_code.proofs.Operands.{word_cell, word_ends, Held, Located}
 use Rattle.statement_code.proofs.Values.{value_does, place_does}
 use Rattle.statement_code.proofs.Operands as operands
 

@@ -2,11 +2,9 @@
 use Rattle.std.proofs.Common.{ℕ, ◌+◌, ◌≤◌, List, [], ◌∷◌, arith}
 use Rattle.ada_meaning.specs.Tree as tree
 use Rattle.kernel_ir.specs.Limits.{most_arguments, widest}
-use Rattle.statement_code.specs.Sets.{end_of_value}
+use Rattle.frame_widths.specs.Ends.{end_of, end_of_actuals, end_of_parts, end_of_test, end_of_value, end_of_assignment, end_of_call, end_of_declarations, end_of_range, end_of_statement, end_of_statements, end_of_branches, end_of_alternatives, end_of_block, end_of_handlers}
+use Rattle.frame_widths.proofs.Above.{end_is_above}
 use Rattle.statement_code.specs.Sizes.{expr_nodes, parts_nodes, actuals_nodes, test_nodes, value_nodes, range_nodes, declarations_nodes, statement_nodes, statements_nodes, branches_nodes, alternatives_nodes, handlers_nodes, block_nodes}
-use Rattle.statement_code.specs.Statements.{end_of_assignment, end_of_call, end_of_declarations, end_of_range, end_of_statement, end_of_statements, end_of_branches, end_of_alternatives, end_of_block, end_of_handlers}
-use Rattle.statement_code.specs.Values.{end_of, end_of_actuals, end_of_parts, end_of_test}
-use Rattle.statement_code.proofs.Operands.{end_is_above}
 
 mutual
   pub expr_narrow : (k : ℕ) (e : tree.Expr) → end_of k e ≤ k + expr_nodes e

@@ -35,7 +35,7 @@ use Rattle.statement_code.specs.Cells.{Cells, Lies, Within}
 use Rattle.statement_code.specs.Objects.{component_of, words_before, HasComponent, IsPlaced}
 use Rattle.statement_code.specs.Calls.{MayCall}
 use Rattle.statement_code.specs.Frames.{rate, Observed, Frame, IsFrame, Inside, Failed, Runs}
-use Rattle.statement_code.specs.Values.{one, Home, in_frame, in_library, address_at, address_on, fetch_on, sign_on, operator_for, operator_on, relation_for, relation_on, complement_on, past, end_of, end_of_actuals, end_of_parts, end_of_test, part_shape, IsWord, Stands, expr_code, parts_code, nodes_code, SeesIn, Site}
+use Rattle.statement_code.specs.Values.{one, Home, in_frame, in_library, address_at, address_on, fetch_on, sign_on, operator_for, operator_on, relation_for, relation_on, complement_on, past, part_shape, IsWord, Stands, expr_code, parts_code, nodes_code, SeesIn, Site}
 use Rattle.statement_code.proofs.Objects.{element_lies, component_lies, placed}
 use Rattle.statement_code.proofs.Frames.{ticked, observed, inside_ticked, inside_paid, inside_less, worked, AtStops, runs_stop, runs_then}
 
@@ -54,39 +54,6 @@ same_relation type.less = refl
 same_relation type.at_most = refl
 same_relation type.greater = refl
 same_relation type.at_least = refl
-
--- a value takes a slot at least
-mutual
-  pub end_is_above : (k : ℕ) (e : tree.Expr) → k < end_of k e
-  end_is_above k (tree.literal x) = omega arith
-  end_is_above k (tree.constant e) = omega arith
-  end_is_above k (tree.attribute o parts e) = parts_are_above k parts
-  end_is_above k (tree.read o parts) = parts_are_above k parts
-  end_is_above k (tree.signed s e) = end_is_above k e
-  end_is_above k (tree.operation o e f) = omega (arith, end_is_above k e)
-  end_is_above k (tree.relation r e f) = omega (arith, end_is_above k e)
-  end_is_above k (tree.complement e) = end_is_above k e
-  end_is_above k (tree.conversion r e) = end_is_above k e
-  end_is_above k (tree.call c actuals) = actuals_are_above k actuals
-  end_is_above k (tree.decision d t) = test_is_above k t
-
-  pub actuals_are_above : (k : ℕ) (actuals : tree.Actuals) → k < end_of_actuals k actuals
-  actuals_are_above k tree.no_actual = omega arith
-  actuals_are_above k (tree.by_expression e rest) = omega (arith, end_is_above k e)
-  actuals_are_above k (tree.by_variable o tree.whole r rest) = omega (arith, actuals_are_above (k + 1) rest)
-  actuals_are_above k (tree.by_variable o (tree.component n parts) r rest) = omega (arith, actuals_are_above (k + 2) rest)
-  actuals_are_above k (tree.by_variable o (tree.element q e parts) r rest) = omega (arith, actuals_are_above (k + 2) rest)
-  actuals_are_above k (tree.by_composite o parts rest) = omega (arith, actuals_are_above (k + 1) rest)
-
-  pub parts_are_above : (k : ℕ) (parts : tree.Parts) → k < end_of_parts k parts
-  parts_are_above k tree.whole = omega arith
-  parts_are_above k (tree.component n parts) = parts_are_above k parts
-  parts_are_above k (tree.element r e parts) = omega (arith, parts_are_above k parts)
-
-  pub test_is_above : (k : ℕ) (t : tree.Test) → k < end_of_test k t
-  test_is_above k (tree.condition at e) = end_is_above k e
-  test_is_above k (tree.negation t) = test_is_above k t
-  test_is_above k (tree.operator neutral t u) = omega (arith, test_is_above k t)
 
 -- a decision's evaluation is noted
 abbrev pub evaluated : ℕ → tree.Label → List Step → World → World

@@ -17,13 +17,14 @@ use Rattle.kernel_ir.specs.Meaning as code
 use Rattle.kernel_ir.specs.Tree.{Code, no_node, choose, exit}
 use Rattle.kernel_ir.specs.World.{Ended, slot_in, with_slot, paid}
 use Rattle.kernel_ir.specs.World as kernel
+use Rattle.frame_widths.specs.Ends.{end_of_test}
 use Rattle.statement_code.specs.Names.{names_in}
 use Rattle.statement_code.specs.Calls.{MayCall}
 use Rattle.statement_code.specs.Cells.{Cells, Within}
 use Rattle.statement_code.specs.Flows.{decide_on, decided_code}
 use Rattle.statement_code.specs.Frames.{rate, Frame, IsFrame, Inside, Failed}
 use Rattle.statement_code.specs.Steps.{Step}
-use Rattle.statement_code.specs.Values.{single, Home, end_of_test, IsPlainTest, SeesIn, Site}
+use Rattle.statement_code.specs.Values.{single, Home, IsPlainTest, SeesIn, Site}
 use Rattle.statement_code.proofs.Flows.{turn_step, goes_to_twice, seen_of}
 use Rattle.statement_code.proofs.Frames.{ticked, inside_ticked, inside_paid, inside_less, AtStops}
 use Rattle.statement_code.proofs.Operands.{evaluated, code_evaluated, by_outcome, ending_of, completed_in, tested_then}

@@ -15,17 +15,18 @@ use Rattle.kernel_ir.specs.Sequence.{joined}
 use Rattle.kernel_ir.specs.Tree.{call, Code, and_op}
 use Rattle.kernel_ir.specs.World.{Ended, Ends, slot_word, slot_in}
 use Rattle.kernel_ir.specs.World as kernel
+use Rattle.frame_widths.specs.Ends.{end_of_actuals}
+use Rattle.frame_widths.proofs.Above.{actuals_are_above}
 use Rattle.statement_code.specs.Names.{names_in}
 use Rattle.statement_code.specs.Calls.{MayCall, ArgumentsStand, Called, Results, ProcedureDoes}
 use Rattle.statement_code.specs.Cells.{Cells, Within}
 use Rattle.statement_code.specs.Frames.{Frame, IsFrame, Inside, Failed}
 use Rattle.statement_code.specs.Statements.{backs_code, call_code}
 use Rattle.statement_code.specs.Steps.{Step}
-use Rattle.statement_code.specs.Values.{Home, Site, arguments, count_of, end_of_actuals, actuals_code, moves_code, ArePlainActuals, SeesIn}
+use Rattle.statement_code.specs.Values.{Home, Site, arguments, count_of, actuals_code, moves_code, ArePlainActuals, SeesIn}
 use Rattle.statement_code.proofs.Backs.{backs_do, temporaries_stay}
 use Rattle.statement_code.proofs.Flows.{step_stops, run_step, goes_to_twice}
 use Rattle.statement_code.proofs.Frames.{observed_less, inside_less, runs_then}
-use Rattle.statement_code.proofs.Operands.{actuals_are_above}
 use Rattle.statement_code.proofs.Arguments.{Given, Moved, moves_do, arguments_stand, after_call, library_agrees}
 use Rattle.statement_code.proofs.Values.{given_do}
 

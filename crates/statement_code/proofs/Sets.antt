@@ -25,17 +25,19 @@ use Rattle.kernel_ir.specs.Simple.{does_simple, if_valid, copied}
 use Rattle.kernel_ir.specs.Tree.{simple, choose, for_loop, exit, Code, and_op}
 use Rattle.kernel_ir.specs.World.{Memory, Ended, Ends, Exits, in_area, data_word, area_end, slot_word, slot_in, with_slot, with_word, with_memory, paid}
 use Rattle.kernel_ir.specs.World as kernel
+use Rattle.frame_widths.specs.Ends.{end_of_value}
+use Rattle.frame_widths.proofs.Above.{end_is_above, parts_are_above}
 use Rattle.statement_code.specs.Names.{names_in}
 use Rattle.statement_code.specs.Calls.{MayCall}
 use Rattle.statement_code.specs.Cells.{Cells, Each, Lies, AllLie, Within, With}
 use Rattle.statement_code.specs.Frames.{rate, Frame, IsFrame, Inside, Failed, Runs}
-use Rattle.statement_code.specs.Sets.{end_of_value, turn_code, next_code, left_at, set_code, IsPlainValue}
+use Rattle.statement_code.specs.Sets.{turn_code, next_code, left_at, set_code, IsPlainValue}
 use Rattle.statement_code.specs.Stores.{each_store, copied_store, copied_stores, first_content, first_contents, after}
 use Rattle.statement_code.specs.Values.{single, one, within, Home, address_at, part_shape, Stands, expr_code, parts_code, SeesIn, Site}
 use Rattle.statement_code.proofs.Cells.{lies_more, set_more}
 use Rattle.statement_code.proofs.Frames.{ticked, observed, inside_ticked, inside_paid, inside_less, inside_fewer, worked, stored, other_frame, AtStops, runs_stop, runs_are, runs_then}
 use Rattle.statement_code.proofs.Stores.{copy_agrees, copy_parts_do, repeated_cost, in_parts}
-use Rattle.statement_code.proofs.Operands.{end_is_above, parts_are_above, in_area_is, wraps_sum, word_cell, word_ends, Held, Located}
+use Rattle.statement_code.proofs.Operands.{in_area_is, wraps_sum, word_cell, word_ends, Held, Located}
 use Rattle.statement_code.proofs.Values.{value_does, place_does}
 use Rattle.statement_code.proofs.Operands as operands
 

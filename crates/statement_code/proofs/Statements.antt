@@ -28,14 +28,15 @@ use Rattle.kernel_ir.specs.Tree.{simple, choose, forever, exit, catch, Code, no_
 use Rattle.kernel_ir.specs.Tree as kernel_tree
 use Rattle.kernel_ir.specs.World.{Memory, Ended, Ends, slot_word, slot_in, with_slot, paid, noted}
 use Rattle.kernel_ir.specs.World as kernel
+use Rattle.frame_widths.specs.Ends.{end_of_actuals, end_of_call, end_of_declaration, end_of_declarations, end_of_range, end_of_statement, end_of_statements, end_of_branches, end_of_alternatives, end_of_block, end_of_handlers}
 use Rattle.statement_code.specs.Names.{names_in}
 use Rattle.statement_code.specs.Calls.{MayCall}
 use Rattle.statement_code.specs.Cells.{Cells, Within, With}
 use Rattle.statement_code.specs.Flows.{decided_code, choices_code, range_code}
 use Rattle.statement_code.specs.Frames.{rate, Frame, IsFrame, Inside, Failed, Runs, Kept}
-use Rattle.statement_code.specs.Statements.{end_of_statement, end_of_statements, end_of_branches, end_of_alternatives, end_of_block, end_of_handlers, end_of_declaration, end_of_declarations, end_of_range, slot_of, exception_choices_code, bounds_code, assign_code, declaration_code, declarations_code, statement_code, statements_code, branches_code, alternatives_code, block_code, handlers_code, IsInFrame, behind, behind_all, declared_in, IsPlainDeclaration, ArePlainDeclarations, IsPlainRange, IsPlainStatement, ArePlainStatements, ArePlainBranches, ArePlainAlternatives, IsPlainBlock, ArePlainHandlers, end_of_call, call_code, IsPlainCall}
+use Rattle.statement_code.specs.Statements.{slot_of, exception_choices_code, bounds_code, assign_code, declaration_code, declarations_code, statement_code, statements_code, branches_code, alternatives_code, block_code, handlers_code, IsInFrame, behind, behind_all, declared_in, IsPlainDeclaration, ArePlainDeclarations, IsPlainRange, IsPlainStatement, ArePlainStatements, ArePlainBranches, ArePlainAlternatives, IsPlainBlock, ArePlainHandlers, call_code, IsPlainCall}
 use Rattle.statement_code.specs.Steps.{Step}
-use Rattle.statement_code.specs.Values.{single, within, Home, in_frame, in_library, address_at, IsWord, Stands, expr_code, SeesIn, Site, arguments, end_of_actuals}
+use Rattle.statement_code.specs.Values.{single, within, Home, in_frame, in_library, address_at, IsWord, Stands, expr_code, SeesIn, Site, arguments}
 use Rattle.statement_code.proofs.Assignments.{declared_does, assigned_does, first_does}
 use Rattle.statement_code.proofs.Cells.{lies_set, set_more}
 use Rattle.statement_code.proofs.Choices.{Looked, choices_do, catches_do}

@@ -19,17 +19,18 @@ use Rattle.kernel_ir.specs.Layouts.{Content}
 use Rattle.kernel_ir.specs.Limits.{most_arguments}
 use Rattle.kernel_ir.specs.Sequence.{joined}
 use Rattle.kernel_ir.specs.Tree.{Code}
+use Rattle.frame_widths.specs.Ends.{end_of_actuals, end_of_parts, end_of_value, end_of_assignment, end_of_call}
+use Rattle.frame_widths.proofs.Above.{end_is_above, actuals_are_above, parts_are_above}
 use Rattle.statement_code.specs.Names.{names_in}
 use Rattle.statement_code.specs.Numbers.{AreWords, ShapeFits, HomeFits, ParametersFit, BodiesFit, ObjectsFit, PartsFit, ActualsFit, ValueFits}
 use Rattle.statement_code.specs.Objects.{component_of}
-use Rattle.statement_code.specs.Sets.{end_of_value, next_code, set_code, IsPlainValue}
+use Rattle.statement_code.specs.Sets.{next_code, set_code, IsPlainValue}
 use Rattle.statement_code.specs.Sizes.{expr_nodes, parts_nodes, actuals_nodes, value_nodes, node_instructions, actuals_margin}
-use Rattle.statement_code.specs.Statements.{copied_back, end_of_assignment, end_of_call, assign_at, assign_code, get_at, get_code, backs_code, call_code, first_code, IsPlainCall}
-use Rattle.statement_code.specs.Values.{Home, end_of_actuals, end_of_parts, part_shape, IsComposite, count_of, arguments, Site, ArePlainParts, ArePlainActuals}
+use Rattle.statement_code.specs.Statements.{copied_back, assign_at, assign_code, get_at, get_code, backs_code, call_code, first_code, IsPlainCall}
+use Rattle.statement_code.specs.Values.{Home, part_shape, IsComposite, count_of, arguments, Site, ArePlainParts, ArePlainActuals}
 use Rattle.statement_code.proofs.Expressions as expression
 use Rattle.statement_code.proofs.Numbers as number
 use Rattle.statement_code.proofs.Numbers.{word_is, size_is, words_few, component_fits, base_words, others_fit}
-use Rattle.statement_code.proofs.Operands.{end_is_above, actuals_are_above, parts_are_above}
 use Rattle.statement_code.proofs.Fragments.{Is, shorter, listed, nothing, both, before, last, behind, calling, chosen, counted, left}
 
 -- what is copied back takes so many instructions

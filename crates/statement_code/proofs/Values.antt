@@ -23,14 +23,16 @@ use Rattle.kernel_ir.specs.Simple.{does_simple}
 use Rattle.kernel_ir.specs.Tree.{simple, decide, Code, and_op, Nodes, no_node}
 use Rattle.kernel_ir.specs.World.{Memory, Ended, Ends, Cut, in_area, data_word, area_end, slot_word, slot_in, with_slot, paid, noted}
 use Rattle.kernel_ir.specs.World as kernel
+use Rattle.frame_widths.specs.Ends.{end_of, end_of_actuals, end_of_parts, end_of_test}
+use Rattle.frame_widths.proofs.Above.{end_is_above, actuals_are_above, parts_are_above, test_is_above}
 use Rattle.statement_code.specs.Names.{names_in}
 use Rattle.statement_code.specs.Cells.{Cells, Within}
 use Rattle.statement_code.specs.Objects.{component_of, words_before}
 use Rattle.statement_code.specs.Calls.{MayCall}
 use Rattle.statement_code.specs.Frames.{rate, Frame, IsFrame, Inside, Failed, Runs}
-use Rattle.statement_code.specs.Values.{one, within, Home, address_at, fetch_on, sign_on, operator_on, relation_on, complement_on, past, end_of, end_of_actuals, end_of_parts, end_of_test, part_shape, Stands, expr_code, parts_code, nodes_code, IsPlainExpr, ArePlainParts, IsPlainTest, SeesIn, Site, count_of, unless_out, actuals_code, ArePlainActuals}
+use Rattle.statement_code.specs.Values.{one, within, Home, address_at, fetch_on, sign_on, operator_on, relation_on, complement_on, past, part_shape, Stands, expr_code, parts_code, nodes_code, IsPlainExpr, ArePlainParts, IsPlainTest, SeesIn, Site, count_of, unless_out, actuals_code, ArePlainActuals}
 use Rattle.statement_code.proofs.Frames.{ticked, inside_ticked, inside_paid, inside_less, runs_stop, runs_then}
-use Rattle.statement_code.proofs.Operands.{by_outcome, fits_when, wraps_sum, component_stands, word_cell, end_is_above, actuals_are_above, parts_are_above, test_is_above, Held, Located, held_less, held_set, held_checked, signed_does, operation_does, relation_does, complement_does, fetch_does, located_set, one_operand, two_operands, past_ends, ending_of, exchanged, Tested, tested_stop, tested_then, tested_less, decision_held, stands_now, located_first, at_part, loaded, indexed_does, ticked_less, located_less}
+use Rattle.statement_code.proofs.Operands.{by_outcome, fits_when, wraps_sum, component_stands, word_cell, Held, Located, held_less, held_set, held_checked, signed_does, operation_does, relation_does, complement_does, fetch_does, located_set, one_operand, two_operands, past_ends, ending_of, exchanged, Tested, tested_stop, tested_then, tested_less, decision_held, stands_now, located_first, at_part, loaded, indexed_does, ticked_less, located_less}
 use Rattle.statement_code.proofs.Arguments.{Whole, Value, single_stays, whole_stays, part_of_stays, composite_stays, Given, whole_argument, function_called, came_then, checked_came, came_source, part_given, composite_given}
 
 module _ (p : Program) (calls : Calls) (inst : ℕ) (K : Kernel) (kcalls : code.Calls) (fuel : ℕ) (Cell : Cells) (Keep : ℕ → Type 0) (fr : Frame)

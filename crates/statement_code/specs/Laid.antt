@@ -15,13 +15,14 @@ use Rattle.kernel_ir.specs.Layouts.{content_in, contents_after}
 use Rattle.kernel_ir.specs.Limits.{LayoutsFit, most_words, widest}
 use Rattle.kernel_ir.specs.Meaning as code
 use Rattle.kernel_ir.specs.World.{data_word, area_end}
+use Rattle.frame_widths.specs.Ends.{end_of_block}
 use Rattle.statement_code.specs.Alike.{AreNamesIn}
 use Rattle.statement_code.specs.Bodies.{body_code}
 use Rattle.statement_code.specs.Initial.{AreAddressed, HasInitialWords, IsObjectOf}
 use Rattle.statement_code.specs.Kernels.{Scheme, place_of}
 use Rattle.statement_code.specs.Names.{Names}
 use Rattle.statement_code.specs.Programs.{Plan, slot_in_plan, size_in_plan, AreLaid, IsHome, IsLibrary}
-use Rattle.statement_code.specs.Statements.{end_of_block, IsInFrame, HasLayout}
+use Rattle.statement_code.specs.Statements.{IsInFrame, HasLayout}
 use Rattle.statement_code.specs.Values.{in_frame, arguments, IsWord, IsComposite}
 
 -- A parameter with this number, of so many: a scalar one stands in the slot of its number; a composite one behind the slots of all

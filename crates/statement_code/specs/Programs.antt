@@ -15,12 +15,13 @@ use Rattle.kernel_ir.specs.Limits.{widest}
 use Rattle.kernel_ir.specs.Meaning as code
 use Rattle.kernel_ir.specs.World.{Ended, Ends, Cut, data_word, area_end}
 use Rattle.kernel_ir.specs.World as kernel
+use Rattle.frame_widths.specs.Ends.{end_of_block}
 use Rattle.statement_code.specs.Names.{names_in}
 use Rattle.statement_code.specs.Bodies.{body_code, IsParameterOf}
 use Rattle.statement_code.specs.Cells.{Agree}
 use Rattle.statement_code.specs.Frames.{Observed}
 use Rattle.statement_code.specs.Objects.{Standing, CellsOf, AllApart}
-use Rattle.statement_code.specs.Statements.{end_of_block, slot_of, IsInFrame, HasLayout, IsPlainBlock}
+use Rattle.statement_code.specs.Statements.{slot_of, IsInFrame, HasLayout, IsPlainBlock}
 use Rattle.statement_code.specs.Stores.{HasWords}
 use Rattle.statement_code.specs.Values.{Home, in_frame, in_library, address_at, arguments, IsWord, IsComposite, Site}
 

@@ -1,5 +1,5 @@
 -- The code that sets objects, and parts of them.
-use Rattle.std.specs.Prelude.{◌≡◌, ℕ, ◌+◌, ◌≤◌, pos, max, Bool}
+use Rattle.std.specs.Prelude.{◌≡◌, ℕ, ◌+◌, ◌≤◌, pos, Bool}
 use Rattle.ada_meaning.specs.Program.{Program}
 use Rattle.ada_meaning.specs.Resolved.{bounds_in, shape_in}
 use Rattle.ada_meaning.specs.Shape.{Shape, row}
@@ -10,13 +10,7 @@ use Rattle.kernel_ir.specs.declared.simple.Simple.TheVariants as op
 use Rattle.kernel_ir.specs.Sequence.{joined}
 use Rattle.kernel_ir.specs.Tree.{simple, choose, for_loop, exit, Code, no_op, and_op}
 use Rattle.statement_code.specs.Names.{Names}
-use Rattle.statement_code.specs.Values.{single, one, within, Home, address_on, end_of, end_of_parts, part_shape, IsWord, expr_code, parts_code, IsPlainExpr, ArePlainParts, Site}
-
--- the first slot behind those that a value is worked out in, of which j is the first
-abbrev pub end_of_value : (j : ℕ) → tree.NewValue → ℕ
-end_of_value j (tree.scalar_value r e) = end_of j e
-end_of_value j (tree.composite_value t o parts) = end_of_parts j parts
-end_of_value j (tree.others_value r v) = max (j + 2) (end_of_value (j + 1) v)
+use Rattle.statement_code.specs.Values.{single, one, within, Home, address_on, part_shape, IsWord, expr_code, parts_code, IsPlainExpr, ArePlainParts, Site}
 
 -- Sets components one after another: the slot k holds the address of the next one, the slot j that of the word behind the last one. The code
 -- sets a component, and leaves the address of the next one.

@@ -1,5 +1,5 @@
 -- The code of declarations and statements.
-use Rattle.std.specs.Prelude.{◌≡◌, ℕ, ◌+◌, ◌≤◌, ◌⊎◌, pos, max, Bool, true, List, [], ◌∷◌, drop, false}
+use Rattle.std.specs.Prelude.{◌≡◌, ℕ, ◌+◌, ◌≤◌, ◌⊎◌, pos, Bool, true, List, [], ◌∷◌, drop, false}
 use Rattle.ada_meaning.specs.Arithmetic.{base_range, is_within}
 use Rattle.ada_meaning.specs.Calls.{next_parameter}
 use Rattle.ada_meaning.specs.Program.{Mode, in_mode, out_mode, in_out_mode, Target, get_target, put_target, body_target, Program}
@@ -17,8 +17,8 @@ use Rattle.kernel_ir.specs.Layouts.{Content}
 use Rattle.statement_code.specs.Stores.{first_content, HasWords}
 use Rattle.statement_code.specs.Names.{Names}
 use Rattle.statement_code.specs.Flows.{range_code, decided_code, choices_code}
-use Rattle.statement_code.specs.Sets.{end_of_value, set_code, IsPlainValue}
-use Rattle.statement_code.specs.Values.{single, one, within, Home, in_frame, in_library, address_on, end_of, end_of_parts, end_of_test, part_shape, IsWord, expr_code, parts_code, IsPlainExpr, ArePlainParts, IsPlainTest, Site, ArePlainActuals, actuals_code, moves_code, count_of, arguments, end_of_actuals}
+use Rattle.statement_code.specs.Sets.{set_code, IsPlainValue}
+use Rattle.statement_code.specs.Values.{single, one, within, Home, in_frame, in_library, address_on, part_shape, IsWord, expr_code, parts_code, IsPlainExpr, ArePlainParts, IsPlainTest, Site, ArePlainActuals, actuals_code, moves_code, count_of, arguments}
 
 -- an object of one word is set to the value of a slot
 abbrev pub keep_on : (slot : ℕ) → Home → Simple
@@ -30,68 +30,11 @@ abbrev pub slot_of : Home → ℕ
 slot_of (in_frame j) = j
 slot_of (in_library n) = n
 
--- the first slots behind those that are worked in, of which k is the first
-abbrev pub end_of_assignment : (k : ℕ) → tree.Parts → tree.NewValue → ℕ
-end_of_assignment k tree.whole (tree.scalar_value r e) = end_of k e
-end_of_assignment k parts v = max (end_of_parts k parts) (end_of_value (k + 1) v)
-
--- of a call: what Get works in, and what actuals take
-abbrev pub end_of_call : (k : ℕ) → tree.Actuals → ℕ
-end_of_call k (tree.by_variable o parts r rest) = max (max (k + 2) (end_of_parts k parts)) (end_of_actuals k (tree.by_variable o parts r rest))
-end_of_call k actuals = end_of_actuals k actuals
-
 -- what is copied back of a composite parameter
 abbrev pub copied_back : Mode → Code → Code
 copied_back in_mode a = no_op
 copied_back out_mode a = a
 copied_back in_out_mode a = a
-
-abbrev pub end_of_declaration : (k : ℕ) → tree.Declaration → ℕ
-end_of_declaration k (tree.initialized l d v) = end_of_assignment k tree.whole v
-end_of_declaration k (tree.without_value d t) = k + 1
-
-abbrev pub end_of_declarations : (k : ℕ) → List tree.Declaration → ℕ
-end_of_declarations k [] = k + 1
-end_of_declarations k (d ∷ ds) = max (end_of_declaration k d) (end_of_declarations k ds)
-
--- of the bounds of a loop, which stay in two slots
-abbrev pub end_of_range : (k : ℕ) → tree.LoopRange → ℕ
-end_of_range k (tree.over_subtype r) = k + 3
-end_of_range k (tree.over_bounds e f) = max (k + 3) (max (end_of k e) (end_of (k + 1) f))
-
-abbrev mutual
-  pub end_of_statement : (k : ℕ) → tree.Stmt → ℕ
-  end_of_statement k (tree.assignment l o parts v) = end_of_assignment k parts v
-  end_of_statement k (tree.procedure_call l c actuals) = end_of_call k actuals
-  end_of_statement k (tree.if_statement l bs) = end_of_branches k bs
-  end_of_statement k (tree.case_statement l e choices) = max (end_of k e) (max (k + 3) (end_of_alternatives k choices))
-  end_of_statement k (tree.bare_loop l ss) = end_of_statements k ss
-  end_of_statement k (tree.while_loop l d t ss) = max (end_of_test k t) (end_of_statements k ss)
-  end_of_statement k (tree.for_loop l d reversed ts ss) = max (end_of_range k ts) (end_of_statements (k + 2) ss)
-  end_of_statement k (tree.exit_when l d t) = end_of_test k t
-  end_of_statement k (tree.return_value l r e) = end_of k e
-  end_of_statement k (tree.block_statement b) = end_of_block k b
-  end_of_statement k s = k + 1
-
-  pub end_of_statements : (k : ℕ) → tree.Stmts → ℕ
-  end_of_statements k tree.no_statement = k + 1
-  end_of_statements k (tree.and_statement s ss) = max (end_of_statement k s) (end_of_statements k ss)
-
-  pub end_of_branches : (k : ℕ) → tree.Branches → ℕ
-  end_of_branches k (tree.else_part ss) = end_of_statements k ss
-  end_of_branches k (tree.branch d t ss bs) = max (max (end_of_test k t) (end_of_statements k ss)) (end_of_branches k bs)
-
-  pub end_of_alternatives : (k : ℕ) → tree.Alternatives → ℕ
-  end_of_alternatives k tree.no_alternative = k + 1
-  end_of_alternatives k (tree.alternative cs ss rest) = max (end_of_statements k ss) (end_of_alternatives k rest)
-
-  pub end_of_block : (k : ℕ) → tree.Block → ℕ
-  end_of_block k (tree.block ds ss hs) = max (end_of_declarations k ds) (max (end_of_statements k ss) (end_of_handlers k hs))
-
-  -- the slot k holds the number of the exception
-  pub end_of_handlers : (k : ℕ) → tree.Handlers → ℕ
-  end_of_handlers k tree.no_handler = k + 1
-  end_of_handlers k (tree.handler cs ss hs) = max (k + 3) (max (end_of_statements (k + 1) ss) (end_of_handlers k hs))
 
 -- a statement starts
 abbrev pub start_of : (inst : ℕ) → tree.Label → Simple

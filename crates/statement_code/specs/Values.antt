@@ -1,5 +1,5 @@
 -- The code of names and of values of expressions.
-use Rattle.std.specs.Prelude.{◌≡◌, ℕ, ◌+◌, ◌≤◌, pos, max, true, false, List, [], drop, length, suc, Bool}
+use Rattle.std.specs.Prelude.{◌≡◌, ℕ, ◌+◌, ◌≤◌, pos, true, false, List, [], drop, length, suc, Bool}
 use Rattle.ada_meaning.specs.Arithmetic.{base_range, is_within}
 use Rattle.ada_meaning.specs.Calls.{word_bounds, next_parameter}
 use Rattle.ada_meaning.specs.Program.{Bounds, Mode, in_mode, out_mode, in_out_mode, Target, get_target, put_target, body_target, Program}
@@ -95,42 +95,6 @@ complement_on k = op.Complement k k
 abbrev pub past : ℕ → Edge → Edge
 past n (edge.Leaf outcome) = edge.Leaf outcome
 past n (edge.NodeAfter skipped) = edge.NodeAfter (n + skipped)
-
-abbrev mutual
-  -- the first slot behind those that the value of an expression is worked out in, of which k is the first
-  pub end_of : (k : ℕ) → tree.Expr → ℕ
-  end_of k (tree.attribute o parts e) = end_of_parts k parts
-  end_of k (tree.read o parts) = end_of_parts k parts
-  end_of k (tree.signed s e) = end_of k e
-  end_of k (tree.operation o e f) = max (end_of k e) (end_of (k + 1) f)
-  end_of k (tree.relation r e f) = max (end_of k e) (end_of (k + 1) f)
-  end_of k (tree.complement e) = end_of k e
-  end_of k (tree.conversion r e) = end_of k e
-  end_of k (tree.call c actuals) = end_of_actuals k actuals
-  end_of k (tree.decision d t) = end_of_test k t
-  end_of k e = k + 1
-
-  -- of actuals: a slot for each, and one more for the address of a part of an object
-  pub end_of_actuals : (k : ℕ) → tree.Actuals → ℕ
-  end_of_actuals k tree.no_actual = k + 1
-  end_of_actuals k (tree.by_expression e rest) = max (end_of k e) (end_of_actuals (k + 1) rest)
-  end_of_actuals k (tree.by_variable o tree.whole r rest) = end_of_actuals (k + 1) rest
-  end_of_actuals k (tree.by_variable o (tree.component n parts) r rest) = max (end_of_parts k parts) (end_of_actuals (k + 2) rest)
-  end_of_actuals k (tree.by_variable o (tree.element r e parts) s rest) =
-      max (max (end_of (k + 1) e) (end_of_parts k parts)) (end_of_actuals (k + 2) rest)
-  end_of_actuals k (tree.by_composite o parts rest) = max (end_of_parts k parts) (end_of_actuals (k + 1) rest)
-
-  -- of the parts of a name, whose address stands in the slot k
-  pub end_of_parts : (k : ℕ) → tree.Parts → ℕ
-  end_of_parts k tree.whole = k + 1
-  end_of_parts k (tree.component n parts) = end_of_parts k parts
-  end_of_parts k (tree.element r e parts) = max (end_of (k + 1) e) (end_of_parts k parts)
-
-  -- of a decision, whose conditions are all worked out from the same slot on
-  pub end_of_test : (k : ℕ) → tree.Test → ℕ
-  end_of_test k (tree.condition at e) = end_of k e
-  end_of_test k (tree.negation t) = end_of_test k t
-  end_of_test k (tree.operator neutral t u) = max (end_of_test k t) (end_of_test k u)
 
 -- the shape of these parts of an object of a shape
 abbrev pub part_shape : Shape → tree.Parts → Shape

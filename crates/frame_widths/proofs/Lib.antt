@@ -1,0 +1,5 @@
+pub mod Above
+mod Counted
+mod Behind
+mod Chains
+mod Kept
