@@ -24,6 +24,7 @@ next_formed : IsSubprogram count 1 next_one
 next_formed = record {
   numbered = refl;
   types = tt;
+  profile = tt;
   few = leb-true 0 16 refl;
   given = λ h. tt;
   frame = search (leb-true, this_one, later_one) depth 20;
@@ -33,6 +34,7 @@ next_formed_again : IsSubprogram count 2 next_one
 next_formed_again = record {
   numbered = refl;
   types = tt;
+  profile = tt;
   few = leb-true 0 16 refl;
   given = λ h. tt;
   frame = search (leb-true, this_one, later_one) depth 20;
@@ -42,6 +44,7 @@ main_formed : IsSubprogram count 0 counting
 main_formed = record {
   numbered = refl;
   types = tt;
+  profile = tt;
   few = leb-true 0 16 refl;
   given = λ h. tt;
   frame = search (leb-true, of_first, of_second) depth 20;
