@@ -31,16 +31,15 @@ fact = body (record { declaration = 0; mode = in_mode; subtype = scalar natural 
 --    Test_IO.Put (Fact (2));
 --    Test_IO.Put (Fact (-1));
 -- end Factorial;
-abbrev pub factorial : Program
-factorial = plain
-    (fact
-    ∷ body [] []
+abbrev pub calling_fact : Subprogram
+calling_fact = body [] []
     (put (at 4 12 4) (calls 0 (by_expression (number 2) no_actual))
     next put (at 5 13 4) (calls 0 (by_expression (signed unary_minus (number 1)) no_actual))
     next ended_here)
     no_handler
-    ∷ [])
-    1
+
+abbrev pub factorial : Program
+factorial = plain (fact ∷ calling_fact ∷ []) 1
 
 -- each activation has a parameter and a variable of its own, and an actual is checked before the call
 abbrev pub OwnVariables : Type 0

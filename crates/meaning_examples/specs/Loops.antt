@@ -2,7 +2,7 @@
 use Rattle.std.specs.Prelude.{pos, true, false, [], ◌∷◌}
 use Rattle.ada_meaning.specs.Types.{Range, between, static_number, scalar, at_most}
 use Rattle.ada_meaning.specs.Tree.{relation, read, negation, operator, local_object, whole, element, assignment, scalar_value, others_value, initialized, case_statement, alternative, no_alternative, value_choice, null_statement, while_loop, for_loop, over_bounds, exit_when, no_handler}
-use Rattle.ada_meaning.specs.Program.{Program}
+use Rattle.ada_meaning.specs.Program.{Program, Subprogram}
 use Rattle.ada_meaning.specs.Execution.{by_return, by_exception}
 use Rattle.meaning_examples.specs.Writing.{at, integer, natural, number, var, plus, minus, is_equal, exceeds, asks, ◌next◌, ended_here, put, get_var, set_var, integer_is, some_integer, body, declaring, plain, T, F, N, starts, gives, Shows}
 
@@ -96,9 +96,8 @@ one_to_three = between (static_number (pos 1)) (static_number (pos 3))
 --       when Tue => Test_IO.Put (V (1));
 --    end case;
 -- end T;
-abbrev pub t : Program
-t = plain
-    (declaring (scalar integer ∷ []) (body []
+abbrev pub procedure_t : Subprogram
+procedure_t = declaring (scalar integer ∷ []) (body []
     (initialized (at 0 5 4) 0 (others_value one_to_three (scalar_value natural (number 2)))
     ∷ initialized (at 1 6 4) 1 (scalar_value day (number 1)) ∷ some_integer 2 ∷ [])
     (get_var (at 2 9 4) 2
@@ -113,8 +112,9 @@ t = plain
     no_alternative))
     next ended_here)
     no_handler)
-    ∷ [])
-    0
+
+abbrev pub t : Program
+t = plain (procedure_t ∷ []) 0
 
 abbrev pub ArrayAndCase : Type 0
 ArrayAndCase =
