@@ -160,7 +160,12 @@ module _ (p : Program) (inst : ℕ) where
 
   -- a subprogram, which then stands in no generic
   abbrev pub subprogram_copy : Subprogram → Subprogram
-  subprogram_copy s = record { generic = None; parameters = map parameter_copy s.parameters; body = block_copy s.body }
+  subprogram_copy s = record {
+    generic = None;
+    parameters = map parameter_copy s.parameters;
+    objects = map (subtype_copy p inst) s.objects;
+    body = block_copy s.body;
+  }
 
 -- calls that execute the copy of a subprogram for its instance
 abbrev pub copied_calls : Program → ℕ → Calls

@@ -21,10 +21,12 @@ pub record Parameter : Type 0 where
   pub mode : Mode
   pub subtype : Subtype
 
--- a subprogram with its body (RM 6.3); `generic` is the number of the generic whose text it stands in
+-- A subprogram with its body (RM 6.3); `generic` is the number of the generic whose text it stands in. `objects` has the subtypes of its
+-- objects by their numbers: those of its parameters, then of what its body declares, loop parameters among them, in the order of the text.
 pub record Subprogram : Type 0 where
   pub generic : Option ℕ
   pub parameters : List Parameter
+  pub objects : List Subtype
   pub body : Block
 
 -- the initial value of an object of the library level: none, a static expression, or (others => ..)

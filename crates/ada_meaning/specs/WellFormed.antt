@@ -117,6 +117,12 @@ module _ (p : Program) (inst : ℕ) (shape_of : tree.Object → Shape) where
   abbrev pub IsException : tree.ExceptionName → Type 0
   IsException x = (1 ≤ exception_in p inst x) × (exception_in p inst x ≤ 4 + length p.exceptions)
 
+  -- the shape of an object that is set to a value when it is declared (RM 3.3.1)
+  abbrev pub value_shape : tree.NewValue → Shape
+  value_shape (tree.scalar_value r e) = word (bounds_in p inst r)
+  value_shape (tree.composite_value t o parts) = shape_in p inst t
+  value_shape (tree.others_value r v) = row (bounds_in p inst r) (value_shape v)
+
   module _ (Sees : tree.Object → Type 0) where
     abbrev mutual
       -- an expression of a scalar type over the objects that are visible
@@ -179,9 +185,10 @@ module _ (p : Program) (inst : ℕ) (shape_of : tree.Object → Shape) where
     IsCall (body_target j m) actuals = IsCallable p false (body_target j m) × AreActuals (parameters_of p (body_target j m)) actuals
     IsCall t actuals = ⊥
 
-    -- a declaration, by the shape that its object has
+    -- a declaration: its object has the shape of what it is set to, or of its subtype (RM 3.3.1)
     abbrev pub IsDeclaration : tree.Declaration → Type 0
-    IsDeclaration (tree.initialized l d v) = IsValue (shape_of (tree.local_object d)) v
+    IsDeclaration (tree.initialized l d v) =
+        IsValue (shape_of (tree.local_object d)) v × (value_shape v ≡ shape_of (tree.local_object d))
     IsDeclaration (tree.without_value d t) = shape_in p inst t ≡ shape_of (tree.local_object d)
 
   -- declarations in order
@@ -251,11 +258,12 @@ abbrev pub StartSees : Program → (inst : ℕ) → Subprogram → tree.Object �
 StartSees p inst s (tree.library_object o d) = Somewhere (λ x. (x.declaration ≡ d) × StandsIn p x.generic (owner_in inst o)) p.objects
 StartSees p inst s (tree.local_object d) = Somewhere (λ q. q.declaration ≡ d) s.parameters
 
--- A subprogram in an instance. Its objects are numbered from 0 in the order of the text, parameters first. A function has parameters of mode in
--- alone (RM 6.1, 6.5).
+-- A subprogram in an instance. Its objects are numbered from 0 in the order of the text, parameters first, and each has a type: a parameter
+-- that of its subtype (RM 6.1). A function has parameters of mode in alone (RM 6.5).
 pub record IsSubprogram (p : Program) (inst : ℕ) (s : Subprogram) : Type 0 where
-  pub numbered : objects_of s ≡ numbers 0 (length (objects_of s))
+  pub numbered : objects_of s ≡ numbers 0 (length s.objects)
   pub types : Everywhere IsType (object_shapes p inst s)
+  pub profile : Everywhere (λ q. shape_in p inst q.subtype ≡ object_shape p inst s (tree.local_object q.declaration)) s.parameters
   pub few : length s.parameters ≤ most_parameters
   pub given : is_function s ≡ true → Everywhere (λ q. q.mode ≡ in_mode) s.parameters
   pub frame : IsFrame p inst (object_shape p inst s) (is_function s) (StartSees p inst s) false false s.body

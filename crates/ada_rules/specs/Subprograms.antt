@@ -1,5 +1,5 @@
 -- The cases of subprogram specifications and bodies (Ada RM 2012, 6.1, 6.3, 6.3.1, 6.5).
-use Rattle.std.specs.Prelude.{ℕ, nat_eq, ◌+◌, Bool, true, false, not, ◌&&◌, List, [], ◌∷◌, ◌++◌, reverse, Option, Some, None, option_map, unwrap_or, if◌then◌else◌}
+use Rattle.std.specs.Prelude.{ℕ, nat_eq, ◌+◌, Bool, true, false, not, ◌&&◌, List, [], ◌∷◌, ◌++◌, map, reverse, Option, Some, None, option_map, unwrap_or, if◌then◌else◌}
 use Rattle.std.specs.List.{list_all}
 use Rattle.cov_base.specs.declared.position.Pos.{Pos}
 use Rattle.ada_syntax.specs.Tree.{Name}
@@ -212,7 +212,12 @@ body_made env before q b s = record s {
   objects = before.objects;
   words = before.words;
   subprogram_words = record { generic = env.generic; words = reverse s.words } ∷ s.subprogram_words;
-  subprograms = record { generic = env.generic; parameters = typed_parameters 0 q.parameters; body = b } ∷ s.subprograms;
+  subprograms = record {
+    generic = env.generic;
+    parameters = typed_parameters 0 q.parameters;
+    objects = map (λ w. w.subtype) (reverse s.words);
+    body = b;
+  } ∷ s.subprograms;
 }
 
 -- where the declarations and the statements of a body stand, in the region of its parameters, whose subprogram is

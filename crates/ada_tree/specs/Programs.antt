@@ -108,6 +108,7 @@ abbrev pub subprogram_of : List Subtype → Subprogram → meaning.Subprogram
 subprogram_of types s = record {
   generic = s.generic;
   parameters = map (parameter_of types) s.parameters;
+  objects = map (λ t. unfolded types (view.subtype_of t)) s.objects;
   body = unfolded_block types s.body;
 }
 

@@ -280,7 +280,7 @@ is_reversed direction.Rising = false
 is_reversed direction.Falling = true
 
 abbrev pub declaration_of : Declaration → tree.Declaration
-declaration_of (declaration.Initialized l d t v) = tree.initialized (label_of l) d (value_of v)
+declaration_of (declaration.Initialized l d v) = tree.initialized (label_of l) d (value_of v)
 declaration_of (declaration.WithoutValue d s) = tree.without_value d (subtype_of s)
 
 abbrev pub statements_of : List tree.Stmt → tree.Stmts

@@ -1,6 +1,6 @@
 //! What the view of a program keeps of it.
 
-ghost use Rattle.std.specs.Prelude.{◌≡◌, ◌∷◌, [], ℕ, Bool, true, false, List, length};
+ghost use Rattle.std.specs.Prelude.{◌≡◌, ◌∷◌, [], ℕ, Bool, true, false, List, length, map};
 ghost use Rattle.ada_meaning.specs.Tree as tree;
 ghost use Rattle.ada_meaning.specs.Types as type;
 ghost use Rattle.ada_tree.specs.declared.expr.Actual.TheVariants as actual;
@@ -18,10 +18,10 @@ ghost use Rattle.ada_tree.specs.declared.types.Operator.TheVariants as operator;
 ghost use Rattle.ada_tree.specs.declared.types.Range.{Range};
 ghost use Rattle.ada_tree.specs.declared.types.ScalarRange.{ScalarRange};
 ghost use Rattle.ada_tree.specs.declared.types.ScalarRange.TheVariants as range;
-ghost use Rattle.ada_tree.specs.declared.types.Subtype.{Subtype};
+ghost use Rattle.ada_tree.specs.declared.program.Subprogram.{Subprogram};
 ghost use Rattle.ada_tree.specs.declared.types.Subtype.TheVariants as subtype;
-ghost use Rattle.ada_tree.specs.Programs.{program_of};
-ghost use Rattle.ada_tree.specs.View.{actuals_of, declaration_of, label_of, neutral_of, object_of, operator_of, range_of, scalar_range_of, statement_at, statements_of, value_of, with_operands, with_tests};
+ghost use Rattle.ada_tree.specs.Programs.{program_of, subprogram_of, unfolded};
+ghost use Rattle.ada_tree.specs.View.{actuals_of, declaration_of, label_of, neutral_of, object_of, operator_of, range_of, scalar_range_of, statement_at, statements_of, subtype_of, value_of, with_operands, with_tests};
 
 /// A program's view has as many subprograms and the same main procedure; a statement's label and the
 /// order of statements are kept.
@@ -36,12 +36,15 @@ pub fn views_keep_their_parts()
     ensures order { (s : tree.Stmt) (ss : List tree.Stmt) → statements_of (s ∷ ss) ≡ tree.and_statement s (statements_of ss) }
 {}
 
-/// A declaration's view has its object, its subtype and its initial value.
+/// A declaration's view has its object and its initial value, or the subtype of one without a value; a
+/// subprogram's view has the subtypes of its objects.
 pub fn declarations_keep_their_parts()
-    ensures initialized { (l : Label) (d : ℕ) (t : Subtype) (v : NewValue)
-        → declaration_of (declaration.Initialized l d t v) ≡ tree.initialized (label_of l) d (value_of v) }
+    ensures initialized { (l : Label) (d : ℕ) (v : NewValue)
+        → declaration_of (declaration.Initialized l d v) ≡ tree.initialized (label_of l) d (value_of v) }
     ensures without_value { (d : ℕ) (r : ScalarRange)
         → declaration_of (declaration.WithoutValue d (subtype.Scalar r)) ≡ tree.without_value d (type.scalar (scalar_range_of r)) }
+    ensures objects { (types : List type.Subtype) (s : Subprogram)
+        → (subprogram_of types s).objects ≡ map (λ t. unfolded types (subtype_of t)) s.objects }
     ensures value { (r : ScalarRange) (e : tree.Expr) → value_of (value.Scalar r e) ≡ tree.scalar_value (scalar_range_of r) e }
     ensures range { (r : Range) → scalar_range_of (range.Known r) ≡ type.between (type.static_number r.first) (type.static_number r.last) }
 {}

@@ -35,6 +35,9 @@ pub struct Subprogram {
     pub generic: Option<u32>,
     pub entry: BodyEntry,
     pub parameters: Seq<Parameter>,
+    /// The subtypes of its objects by their numbers: those of its parameters, then of what its body
+    /// declares, loop parameters among them, in the order of the text.
+    pub objects: Seq<Subtype>,
     pub body: Block,
 }
 

@@ -67,11 +67,12 @@ pub struct ForScheme {
     pub values: LoopRange,
 }
 
-/// A declaration of an object (RM 3.3.1), by its number among those of the subprogram, with its subtype.
+/// A declaration of an object (RM 3.3.1), by its number among those of the subprogram.
 #[derive(Drop)]
 pub enum Declaration {
     /// With an initial value, and so a statement obligation.
-    Initialized(Label, u32, Subtype, NewValue),
+    Initialized(Label, u32, NewValue),
+    /// Without one, by its subtype.
     WithoutValue(u32, Subtype),
 }
 

@@ -7,3 +7,4 @@ pub mod BodyLaws
 pub mod Programs
 pub mod Laws
 pub mod UnitLaws
+pub mod Listing

@@ -13,6 +13,7 @@ use Rattle.ada_syntax.specs.declared.unit.LibraryItem.{LibraryItem}
 use Rattle.ada_syntax.specs.declared.unit.Unit.{Unit as LibraryUnit}
 use Rattle.ada_meaning.specs.Tree as tree
 use Rattle.ada_meaning.specs.Program as meaning
+use Rattle.ada_meaning.specs.Types as type
 use Rattle.ada_tree.specs.declared.program.BodyEntry.{BodyEntry}
 use Rattle.ada_tree.specs.declared.program.Subprogram.{Subprogram}
 use Rattle.ada_names.specs.Names.{Region}
@@ -24,17 +25,22 @@ use Rattle.ada_expressions.specs.declared.fault.TypeFault.{TypeFault}
 use Rattle.ada_expressions.specs.declared.kind.DeclaredObject.{DeclaredObject}
 use Rattle.ada_expressions.specs.Answer.{mistyped}
 use Rattle.ada_tree.proofs.Unfolding.{block_stays}
-use Rattle.ada_tree.specs.Programs.{types_of, parameter_of, subprogram_of, library_object_of, constant_of, instance_of, exception_declaration_of, raisable_of}
+use Rattle.ada_tree.specs.Programs.{types_of, unfolded, parameter_of, subprogram_of, library_object_of, constant_of, instance_of, exception_declaration_of, raisable_of}
 use Rattle.ada_tree.specs.declared.program.ExceptionDeclaration.{ExceptionDeclaration}
 use Rattle.ada_tree.specs.declared.program.GenericConstant.{GenericConstant}
 use Rattle.ada_tree.specs.declared.program.Instance.{Instance}
 use Rattle.ada_tree.specs.declared.program.LibraryObject.{LibraryObject}
 use Rattle.ada_tree.specs.declared.program.Parameter.{Parameter}
 use Rattle.ada_tree.specs.declared.program.Raisable.{Raisable}
+use Rattle.ada_tree.specs.declared.types.Owner.TheVariants as owner
+use Rattle.ada_tree.specs.declared.types.Subtype.{Subtype}
+use Rattle.ada_tree.specs.declared.types.Subtype.TheVariants as subtype
 use Rattle.ada_tree.specs.declared.types.TypeDeclaration.{TypeDeclaration}
+use Rattle.ada_tree.specs.View.{subtype_of}
 use Rattle.ada_types.specs.Checked.{body_of, entries_of}
 use Rattle.ada_types.specs.Typing.{Context, Elaborated, outside_loops, context_of, block_of, typed_declarations, typed_statements, procedure_of, typed_body, is_plain_item, typed_unit, typed_units}
 use Rattle.ada_types.specs.Legal.{typed, program_with}
+use Rattle.ada_types.specs.Subtypes.{block_subtypes}
 use Rattle.ada_types.specs.declared.context.Declared.{Declared}
 use Rattle.ada_types.specs.TypingCode.{SomeRefused, TypesParts, ShowsBlock, typed_parts, plain_procedure, ShowsUnits, subprograms_view}
 use Rattle.ada_types.specs.Rules.{parts_of_block, unit, units_from, program}
@@ -45,16 +51,33 @@ use Rattle.ada_types.proofs.StatementLaws.{later}
 
 -- a subprogram with this body
 abbrev pub procedure_with : tree.Block → meaning.Subprogram
-procedure_with b = record { generic = None; parameters = []; body = b }
+procedure_with b = record { generic = None; parameters = []; objects = block_subtypes b; body = b }
 
 -- as a typed subprogram, whose types there are none to unfold
-procedure_made : (e : BodyEntry) (b : tree.Block) (qs : List Parameter) → qs ≡ []
-    → Some (procedure_with b) ≡ Some (subprogram_of [] (record { generic = None; entry = e; parameters = qs; body = b }))
-procedure_made e b qs none = λ i. Some (record { generic = None; parameters = map (parameter_of []) (sym none i); body = sym (block_stays b) i })
+subtype_stays : (t : Subtype) → unfolded [] (subtype_of t) ≡ subtype_of t
+subtype_stays (subtype.Scalar r) = refl
+subtype_stays (subtype.Composite owner.Here n) = refl
+subtype_stays (subtype.Composite (owner.Instance i) n) = refl
 
-pub plain_made : (item : LibraryItem) (e : BodyEntry) (b : tree.Block) (qs : List Parameter) → qs ≡ [] → is_plain_item item ≡ true →
-    Some (subprogram_of [] (record { generic = None; entry = e; parameters = qs; body = b })) ≡ plain_procedure item b
-plain_made item e b qs none plain = sym (procedure_made e b qs none) ∙ sym (ap (λ p. if p then Some (procedure_with b) else None) plain)
+subtypes_stay : (ts : List Subtype) → map (λ t. unfolded [] (subtype_of t)) ts ≡ map subtype_of ts
+subtypes_stay [] = refl
+subtypes_stay (t ∷ ts) = λ i. subtype_stays t i ∷ subtypes_stay ts i
+
+procedure_made : (e : BodyEntry) (b : tree.Block) (qs : List Parameter) (ts us : List Subtype) → qs ≡ [] → us ≡ ts
+    → Some (record { generic = None; parameters = []; objects = map subtype_of ts; body = b })
+    ≡ Some (subprogram_of [] (record { generic = None; entry = e; parameters = qs; objects = us; body = b }))
+procedure_made e b qs ts us none same = λ i. Some (record {
+  generic = None;
+  parameters = map (parameter_of []) (sym none i);
+  objects = sym (subtypes_stay us ∙ ap (map subtype_of) same) i;
+  body = sym (block_stays b) i;
+})
+
+pub plain_made : (item : LibraryItem) (e : BodyEntry) (b : tree.Block) (qs : List Parameter) (ts us : List Subtype) → qs ≡ [] → us ≡ ts → is_plain_item item ≡ true →
+    Some (subprogram_of [] (record { generic = None; entry = e; parameters = qs; objects = us; body = b })) ≡ plain_procedure item (map subtype_of ts) b
+plain_made item e b qs ts us none same plain =
+    sym (procedure_made e b qs ts us none same)
+    ∙ sym (ap (λ p. if p then Some (record { generic = None; parameters = []; objects = map subtype_of ts; body = b }) else None) plain)
 
 -- what the limits ask of a body stays where the subprogram is there
 pub entry_kept : (e : BodyEntry) (o : Option Subprogram) (f : Failure TypeFault) → IfSome o (λ s. s.entry ≡ e) → IfOk (ok_or o f) (λ s. s.entry ≡ e)
@@ -123,10 +146,10 @@ module _ (library : Region) (places : Places) (n : ℕ) (u : LibraryUnit) where
         by (Some x) e = inside x.declarations (typed_statements x.context (statements_of_item u.item)) e
 
     -- the answer where the unit's block is typed
-    pub unit_shown : (o : Option Subprogram) (f : Failure TypeFault) (r : Result Subprogram (Failure TypeFault)) → option_map (subprogram_of []) o ≡ plain_procedure u.item b →
-        f ≡ mistyped u.pos → r ≡ ok_or o f → Shows (subprogram_of []) (typed_unit library places n u) (unit library places n u) r
-    unit_shown o f r same at answer = shows_viewed (subprogram_of []) (unit library places n u) (typed_unit library places n u) o f r answer
-        (ap (λ x. if is_plain_item u.item then x else None) procedure_is ∙ sym same) at refl
+    pub unit_shown : (ts : List type.Subtype) (o : Option Subprogram) (f : Failure TypeFault) (r : Result Subprogram (Failure TypeFault)) →
+        ts ≡ block_subtypes b → option_map (subprogram_of []) o ≡ plain_procedure u.item ts b → f ≡ mistyped u.pos → r ≡ ok_or o f → Shows (subprogram_of []) (typed_unit library places n u) (unit library places n u) r
+    unit_shown ts o f r listed same at answer = shows_viewed (subprogram_of []) (unit library places n u) (typed_unit library places n u) o f r answer
+        (ap (λ x. if is_plain_item u.item then x else None) procedure_is ∙ sym (same ∙ ap (λ xs. plain_procedure u.item xs b) listed)) at refl
         (parts_there (context_of library places n u) (declarations_of_item u.item) (statements_of_item u.item) b body)
 
 -- several

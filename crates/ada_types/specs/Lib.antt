@@ -1,3 +1,4 @@
+pub mod Subtypes
 pub mod Typing
 pub mod Rules
 pub mod Answer

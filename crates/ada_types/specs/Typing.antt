@@ -38,6 +38,7 @@ use Rattle.ada_expressions.specs.declared.judged.Judged.{Judged}
 use Rattle.ada_expressions.specs.declared.kind.DeclaredObject.{DeclaredObject}
 use Rattle.ada_expressions.specs.declared.kind.ScalarSubtype.{ScalarSubtype}
 use Rattle.ada_types.specs.declared.statements.Target.{Target}
+use Rattle.ada_types.specs.Subtypes.{block_subtypes}
 use Rattle.ada_expressions.specs.Kinds.{subtype_of_entity, fits, is_variable, callee_of_entity, parameters_of_entity}
 use Rattle.ada_expressions.specs.Expressions.{denoted, judged, tested}
 
@@ -296,7 +297,8 @@ is_plain_item _ = false
 
 -- a subprogram without parameters, with these declarations and statements
 abbrev pub procedure_of : List tree.Declaration → List tree.Stmt → Subprogram
-procedure_of ds ss = record { generic = None; parameters = []; body = block_of ds ss }
+procedure_of ds ss =
+    record { generic = None; parameters = []; objects = block_subtypes (block_of ds ss); body = block_of ds ss }
 
 -- the context before the declarations of the unit with this number
 abbrev pub context_of : Region → Places → ℕ → LibraryUnit → Context

@@ -18,6 +18,7 @@ use Rattle.ada_syntax.specs.declared.unit.LibraryItem.{LibraryItem}
 use Rattle.ada_syntax.specs.declared.unit.Unit.{Unit as LibraryUnit}
 use Rattle.ada_meaning.specs.Tree as tree
 use Rattle.ada_meaning.specs.Program as meaning
+use Rattle.ada_meaning.specs.Types as type
 use Rattle.ada_tree.specs.declared.program.Subprogram.{Subprogram}
 use Rattle.ada_tree.specs.declared.statement.Branch.{Branch}
 use Rattle.ada_tree.specs.declared.statement.Decision.{Decision}
@@ -176,9 +177,10 @@ abbrev pub ShowsBlock : Region → Places → LibraryItem → Result tree.Block 
 ShowsBlock seen places item (Ok b) = typed_parts (unit_context seen places) (declarations_of_item item) (statements_of_item item) ≡ Some b
 ShowsBlock seen places item (Err f) = SomeRefused (parts_of_block (unit_context seen places) (declarations_of_item item) (statements_of_item item)) f
 
--- the subprogram of a unit with this block: a procedure without parameters and handlers
-abbrev pub plain_procedure : LibraryItem → tree.Block → Option meaning.Subprogram
-plain_procedure item b = if is_plain_item item then Some (record { generic = None; parameters = []; body = b }) else None
+-- the subprogram of a unit with these objects and this block: a procedure without parameters and handlers
+abbrev pub plain_procedure : LibraryItem → List type.Subtype → tree.Block → Option meaning.Subprogram
+plain_procedure item ts b =
+    if is_plain_item item then Some (record { generic = None; parameters = []; objects = ts; body = b }) else None
 
 -- a block as a statement at this place, or its refusal
 abbrev pub IsBlock : Pos → source_statement.Handled → tree.Block → Result tree.Stmt (Failure TypeFault) → Type 0

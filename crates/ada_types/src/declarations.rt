@@ -152,8 +152,7 @@ fn declared_set(
     ensures { IfOk result (λ o. set_to (label_of label) names.now object (value_of value) ≡ option_map declarations_view o) }
 {
     if names.len() == 1 {
-        let subtype = Subtype::Scalar(ScalarRange::Known(object.subtype.range));
-        let declaration = ada_tree::Declaration::Initialized(label, object.number, subtype, value);
+        let declaration = ada_tree::Declaration::Initialized(label, object.number, value);
         Ok(Some(vec![in alloc; declaration]?))
     } else {
         Ok(None)

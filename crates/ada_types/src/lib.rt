@@ -19,6 +19,7 @@ mod context;
 mod declarations;
 mod fault;
 mod statements;
+mod subtypes;
 mod units;
 
 pub use ada_expressions::TypeFault;

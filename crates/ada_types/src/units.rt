@@ -8,18 +8,20 @@ ghost use Rattle.ada_types.specs.Legal.{typed};
 ghost use Rattle.ada_types.specs.Typing as spec;
 ghost use Rattle.ada_types.specs.Rules as rules;
 ghost use Rattle.ada_types.specs.Answer.{Shows};
+ghost use Rattle.ada_types.specs.Subtypes.{subtypes_view};
 ghost use Rattle.ada_types.specs.Checked.{body_of, entries_of};
 ghost use Rattle.ada_types.specs.TypingCode.{ShowsBlock, ShowsUnits, plain_procedure, subprograms_view};
 
 use crate::bodies::{has_no_handlers, typed_body};
 use crate::context::{Around, Declared, Looping};
+use crate::subtypes::subtypes_of;
 use ada_expressions::{TypeFault, mistyped};
 use ada_names::{
     Library, Locals, Region, declarations_of, is_bare_procedure, numbered, seen, statements_of,
 };
 use ada_places::Places;
 use ada_syntax::{LibraryItem, Unit, item_node_count};
-use ada_tree::{Block, BodyEntry, Subprogram};
+use ada_tree::{Block, BodyEntry, Subprogram, Subtype};
 use cov_base::{Failure, Seq};
 use std::alloc::Global;
 
@@ -69,14 +71,15 @@ fn body_entry(unit: &Unit) -> BodyEntry
     }
 }
 
-/// The subprogram of a unit with this block, which is plain so far.
+/// The subprogram of a unit with these objects and this block, which is plain so far.
 fn plain_subprogram(
     alloc: Global,
     item: &LibraryItem,
     entry: BodyEntry,
+    objects: Vec<Subtype>,
     body: Block,
 ) -> Option<Subprogram>
-    ensures procedure { option_map (subprogram_of []) result ≡ plain_procedure item.now body }
+    ensures procedure { option_map (subprogram_of []) result ≡ plain_procedure item.now (subtypes_view objects) body }
     ensures entry { IfSome result (λ s. s.entry ≡ entry) }
 {
     if is_plain(item) {
@@ -84,6 +87,7 @@ fn plain_subprogram(
             generic: None,
             entry,
             parameters: Seq::from(Vec::new(alloc)),
+            objects: Seq::from(objects),
             body,
         })
     } else {
@@ -105,7 +109,8 @@ fn typed_unit(
 {
     let seen = seen(alloc, library, number, unit)?;
     let block = unit_block(alloc, &seen, places, &unit.item)?;
-    plain_subprogram(alloc, &unit.item, body_entry(unit), block).ok_or(mistyped(unit.pos))
+    let objects = subtypes_of(alloc, &block)?;
+    plain_subprogram(alloc, &unit.item, body_entry(unit), objects, block).ok_or(mistyped(unit.pos))
 }
 
 /// All units, of which all obligations stand at these places.

@@ -91,7 +91,7 @@ fn put_declaration(
         ≡ joined code.old (declaration_for context.now slot (declaration_of declaration.now))) }
 {
     match declaration {
-        Declaration::Initialized(label, number, _, value) => {
+        Declaration::Initialized(label, number, value) => {
             put_start(context, code, *label)?;
             put_assignment(
                 alloc,

@@ -216,7 +216,7 @@ fn put_declaration(
     ensures end { IfOk result (λ end. end ≡ end_of_declaration objects (declaration_of declaration.now)) }
 {
     match declaration {
-        Declaration::Initialized(obligation, object, _, value) => {
+        Declaration::Initialized(obligation, object, value) => {
             put_start(code, *obligation)?;
             put_value(alloc, statics, code, objects, Object::Local(*object), value)
         }

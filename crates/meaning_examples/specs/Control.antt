@@ -1,10 +1,10 @@
 -- Other statements: elsif and else, case with ranges and others, loops over a subtype and without an end, functions that reach their end.
 use Rattle.std.specs.Prelude.{◌≡◌, pos, false, [], ◌∷◌, None}
-use Rattle.ada_meaning.specs.Types.{Range, between, static_number, multiplication}
+use Rattle.ada_meaning.specs.Types.{Range, between, static_number, scalar, multiplication}
 use Rattle.ada_meaning.specs.Tree.{operation, no_actual, by_expression, if_statement, branch, else_part, case_statement, alternative, no_alternative, value_choice, range_choice, other_values, null_statement, bare_loop, for_loop, over_subtype, exit_statement, no_handler, conversion}
 use Rattle.ada_meaning.specs.Program.{Program, Subprogram}
 use Rattle.ada_meaning.specs.Execution.{by_return, by_exception, exec, ended, events_at, output_at}
-use Rattle.meaning_examples.specs.Writing.{at, natural, number, var, is_equal, is_less, exceeds, asks, ◌next◌, ended_here, put, get_var, set_var, if_only, return_truth, true_value, calls, integer_in, integer_is, some_integer, on_exception, body, plain, T, F, starts, gives, Shows}
+use Rattle.meaning_examples.specs.Writing.{at, natural, number, var, is_equal, is_less, exceeds, asks, ◌next◌, ended_here, put, get_var, set_var, if_only, return_truth, true_value, calls, integer_in, integer_is, some_integer, on_exception, body, declaring, plain, T, F, starts, gives, Shows}
 
 -- with Test_IO;
 -- procedure Choose is
@@ -97,7 +97,7 @@ no_result = body (integer_in 0 ∷ []) []
 abbrev pub reach_end : Program
 reach_end = plain
     (no_result
-    ∷ body [] (integer_is (at 3 13 4) 0 (number 1) ∷ [])
+    ∷ declaring (scalar one_to_four ∷ []) (body [] (integer_is (at 3 13 4) 0 (number 1) ∷ [])
     (for_loop (at 4 15 4) 1 false (over_subtype one_to_four) (set_var (at 5 16 7) 0 (operation multiplication (var 0) (var 1)) next ended_here)
     next put (at 6 18 4) (var 0)
     next if_only (at 7 19 4) (at 1 19 7) (asks 19 7 (calls 0 (by_expression (number 3) no_actual)))
@@ -105,7 +105,7 @@ reach_end = plain
     next if_only (at 9 22 4) (at 2 22 7) (asks 22 7 (calls 0 (by_expression (number 2) no_actual)))
     (put (at 10 23 7) (number 4) next ended_here)
     next ended_here)
-    (on_exception 2 (put (at 11 26 26) (conversion natural (operation multiplication (var 0) (number 1))) next ended_here) no_handler)
+    (on_exception 2 (put (at 11 26 26) (conversion natural (operation multiplication (var 0) (number 1))) next ended_here) no_handler))
     ∷ [])
     1
 

@@ -1,10 +1,10 @@
 -- Exceptions: raised by name, again, in a handler, in a declarative part, by a check and at the end of the input.
 use Rattle.std.specs.Prelude.{pos, negsuc, [], ◌∷◌, None}
-use Rattle.ada_meaning.specs.Types.{here}
+use Rattle.ada_meaning.specs.Types.{scalar, here}
 use Rattle.ada_meaning.specs.Tree.{initialized, scalar_value, null_statement, raise_statement, raise_again, block_statement, block, predefined, declared, handler, other_exceptions, no_handler}
 use Rattle.ada_meaning.specs.Program.{Program}
 use Rattle.ada_meaning.specs.Execution.{by_return, by_exception}
-use Rattle.meaning_examples.specs.Writing.{place, at, natural, number, var, minus, over, ◌next◌, ended_here, put, get_var, on_exception, integer_is, some_integer, body, plain, starts, Shows}
+use Rattle.meaning_examples.specs.Writing.{place, at, integer, natural, number, var, minus, over, ◌next◌, ended_here, put, get_var, on_exception, integer_is, some_integer, body, declaring, plain, starts, Shows}
 
 -- package Pk is
 --    E : exception;
@@ -78,13 +78,13 @@ OfOperations =
 -- end Raise_Decl;
 abbrev pub raise_decl : Program
 raise_decl = plain
-    (body [] []
+    (declaring (scalar integer ∷ scalar natural ∷ []) (body [] []
     (block_statement (block
     (integer_is (at 0 5 7) 0 (number 1) ∷ initialized (at 1 6 7) 1 (scalar_value natural (minus (var 0) (number 2))) ∷ [])
     (put (at 2 8 7) (var 1) next ended_here)
     (on_exception 1 (put (at 3 10 32) (number 1) next ended_here) no_handler))
     next ended_here)
-    (on_exception 1 (put (at 4 13 29) (number 2) next ended_here) no_handler)
+    (on_exception 1 (put (at 4 13 29) (number 2) next ended_here) no_handler))
     ∷ [])
     0
 

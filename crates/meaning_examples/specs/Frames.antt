@@ -4,7 +4,7 @@ use Rattle.ada_meaning.specs.Types.{Range, between, static_number, scalar, here,
 use Rattle.ada_meaning.specs.Tree.{read, signed, operation, subprogram, local_object, whole, element, no_actual, by_expression, by_variable, assignment, procedure_call, scalar_value, others_value, initialized, without_value, block_statement, block, return_value, test_get, for_loop, over_bounds, bare_loop, return_statement, exit_statement, no_handler}
 use Rattle.ada_meaning.specs.Program.{Mode, in_mode, out_mode, in_out_mode, Parameter, Program, Subprogram}
 use Rattle.ada_meaning.specs.Execution.{by_return, by_exception}
-use Rattle.meaning_examples.specs.Writing.{at, integer, natural, positive, number, var, plus, minus, exceeds, is_equal, asks, ◌next◌, ended_here, put, set_var, if_only, on_exception, integer_is, body, plain, calls, T, F, starts, gives, Shows}
+use Rattle.meaning_examples.specs.Writing.{at, integer, natural, positive, number, var, plus, minus, exceeds, is_equal, asks, ◌next◌, ended_here, put, set_var, if_only, on_exception, integer_is, body, declaring, plain, calls, T, F, starts, gives, Shows}
 
 -- function Fact (N : Natural) return Positive is
 --    R : Positive := 1;
@@ -31,16 +31,15 @@ fact = body (record { declaration = 0; mode = in_mode; subtype = scalar natural 
 --    Test_IO.Put (Fact (2));
 --    Test_IO.Put (Fact (-1));
 -- end Factorial;
-abbrev pub factorial : Program
-factorial = plain
-    (fact
-    ∷ body [] []
+abbrev pub calling_fact : Subprogram
+calling_fact = body [] []
     (put (at 4 12 4) (calls 0 (by_expression (number 2) no_actual))
     next put (at 5 13 4) (calls 0 (by_expression (signed unary_minus (number 1)) no_actual))
     next ended_here)
     no_handler
-    ∷ [])
-    1
+
+abbrev pub factorial : Program
+factorial = plain (fact ∷ calling_fact ∷ []) 1
 
 -- each activation has a parameter and a variable of its own, and an actual is checked before the call
 abbrev pub OwnVariables : Type 0
@@ -134,7 +133,7 @@ Places = Shows actuals 2 [] by_return (pos 12 ∷ pos 10 ∷ pos 3 ∷ pos 2 ∷
 -- end Words;
 abbrev pub words : Program
 words = plain
-    (body [] (without_value 0 (scalar one_to_three) ∷ [])
+    (declaring (scalar integer ∷ []) (body [] (without_value 0 (scalar one_to_three) ∷ [])
     (block_statement (block []
     (procedure_call (at 0 7 7) test_get (by_variable (local_object 0) whole one_to_three no_actual) next ended_here)
     (on_exception 1 (put (at 1 9 32) (var 0) next ended_here) no_handler))
@@ -147,7 +146,7 @@ words = plain
     next put (at 8 19 7) (signed unary_plus (signed absolute_value (signed unary_minus (var 1))))
     next ended_here)
     next ended_here)
-    no_handler
+    no_handler)
     ∷ [])
     0
 

@@ -9,7 +9,7 @@ use Rattle.ada_meaning.specs.Bodies.{Body, bodies_of}
 use Rattle.ada_meaning.specs.Obligations.{IsResolved}
 use Rattle.ada_meaning.specs.Resolved.{constraint_error}
 use Rattle.ada_meaning.specs.Execution.{by_return}
-use Rattle.meaning_examples.specs.Writing.{place, at, integer, number, plus, minus, exceeds, asks, ◌next◌, ended_here, put, if_only, body, generic_body, integer_in, on_exception, var, F, T, starts, starts_in, gives_in, Shows}
+use Rattle.meaning_examples.specs.Writing.{place, at, integer, number, plus, minus, exceeds, asks, ◌next◌, ended_here, put, if_only, body, generic_body, declaring, integer_in, on_exception, var, F, T, starts, starts_in, gives_in, Shows}
 
 -- Ranges.Small and Ranges.Large
 abbrev pub small : Range
@@ -197,7 +197,7 @@ show_of n line instance e =
 abbrev pub show_all : Program
 show_all = record {
   subprograms =
-      generic_body 0 (integer_in 0 ∷ []) []
+      declaring (scalar few ∷ []) (generic_body 0 (integer_in 0 ∷ []) []
       (case_statement (at 0 12 7) (var 0)
       (alternative (value_choice four ∷ [])
       (block_statement (block (initialized (at 1 15 16) 1 (scalar_value few (read (library_object here 1) whole)) ∷ [])
@@ -206,7 +206,7 @@ show_all = record {
       next ended_here)
       (alternative (other_values ∷ []) (put (at 3 19 25) (read (library_object here 0) whole) next ended_here) no_alternative))
       next ended_here)
-      no_handler
+      no_handler)
       ∷ body [] []
       (show_of 4 33 1 (number 4)
       next show_of 5 34 2 (number 4)

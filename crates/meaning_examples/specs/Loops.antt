@@ -1,10 +1,10 @@
 -- Loops, arrays and case statements.
 use Rattle.std.specs.Prelude.{pos, true, false, [], ◌∷◌}
-use Rattle.ada_meaning.specs.Types.{Range, between, static_number, at_most}
+use Rattle.ada_meaning.specs.Types.{Range, between, static_number, scalar, at_most}
 use Rattle.ada_meaning.specs.Tree.{relation, read, negation, operator, local_object, whole, element, assignment, scalar_value, others_value, initialized, case_statement, alternative, no_alternative, value_choice, null_statement, while_loop, for_loop, over_bounds, exit_when, no_handler}
-use Rattle.ada_meaning.specs.Program.{Program}
+use Rattle.ada_meaning.specs.Program.{Program, Subprogram}
 use Rattle.ada_meaning.specs.Execution.{by_return, by_exception}
-use Rattle.meaning_examples.specs.Writing.{at, natural, number, var, plus, minus, is_equal, exceeds, asks, ◌next◌, ended_here, put, get_var, set_var, integer_is, some_integer, body, plain, T, F, N, starts, gives, Shows}
+use Rattle.meaning_examples.specs.Writing.{at, integer, natural, number, var, plus, minus, is_equal, exceeds, asks, ◌next◌, ended_here, put, get_var, set_var, integer_is, some_integer, body, declaring, plain, T, F, N, starts, gives, Shows}
 
 -- with Test_IO;
 -- procedure W is
@@ -55,7 +55,7 @@ While =
 -- end Loops;
 abbrev pub loops : Program
 loops = plain
-    (body [] (integer_is (at 0 3 4) 0 (number 0) ∷ [])
+    (declaring (scalar integer ∷ scalar integer ∷ []) (body [] (integer_is (at 0 3 4) 0 (number 0) ∷ [])
     (for_loop (at 1 5 4) 1 false (over_bounds (number 3) (number 2)) (set_var (at 2 6 7) 0 (plus (var 0) (number 100)) next ended_here)
     next for_loop (at 3 8 4) 2 true (over_bounds (number 1) (number 3))
     (exit_when (at 4 9 7) (at 0 9 17) (operator false (asks 9 17 (is_equal (var 2) (number 1))) (asks 9 31 (exceeds (var 0) (number 4))))
@@ -63,7 +63,7 @@ loops = plain
     next ended_here)
     next put (at 6 12 4) (var 0)
     next ended_here)
-    no_handler
+    no_handler)
     ∷ [])
     0
 
@@ -96,9 +96,8 @@ one_to_three = between (static_number (pos 1)) (static_number (pos 3))
 --       when Tue => Test_IO.Put (V (1));
 --    end case;
 -- end T;
-abbrev pub t : Program
-t = plain
-    (body []
+abbrev pub procedure_t : Subprogram
+procedure_t = declaring (scalar integer ∷ []) (body []
     (initialized (at 0 5 4) 0 (others_value one_to_three (scalar_value natural (number 2)))
     ∷ initialized (at 1 6 4) 1 (scalar_value day (number 1)) ∷ some_integer 2 ∷ [])
     (get_var (at 2 9 4) 2
@@ -112,9 +111,10 @@ t = plain
     (put (at 7 15 19) (read (local_object 0) (element one_to_three (number 1) whole)) next ended_here)
     no_alternative))
     next ended_here)
-    no_handler
-    ∷ [])
-    0
+    no_handler)
+
+abbrev pub t : Program
+t = plain (procedure_t ∷ []) 0
 
 abbrev pub ArrayAndCase : Type 0
 ArrayAndCase =

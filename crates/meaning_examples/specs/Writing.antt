@@ -1,10 +1,10 @@
 -- Short words for the trees of the examples, and for what is observed of an execution.
-use Rattle.std.specs.Prelude.{◌≡◌, ℕ, ◌+◌, ◌*◌, ℤ, pos, negsuc, List, [], ◌∷◌, Option, Some, None, reverse}
+use Rattle.std.specs.Prelude.{◌≡◌, ℕ, ◌+◌, ◌*◌, ℤ, pos, negsuc, List, [], ◌∷◌, ◌++◌, map, Option, Some, None, reverse}
 use Rattle.cov_base.specs.declared.position.Pos.{Pos}
 use Rattle.cov_base.specs.declared.event.Event.{Event}
 use Rattle.cov_base.specs.declared.event.Event.TheVariants.{Start, Done}
-use Rattle.ada_meaning.specs.Types.{Range, between, static_number, scalar, addition, subtraction, division, equal, less, greater, here}
-use Rattle.ada_meaning.specs.Tree.{Label, local_object, test_get, test_put, subprogram, Expr, literal, read, call, operation, relation, whole, Actuals, no_actual, by_expression, by_variable, Test, condition, scalar_value, Declaration, initialized, without_value, Stmt, assignment, procedure_call, if_statement, return_value, Stmts, no_statement, and_statement, branch, else_part, Handlers, handler, named_exception, predefined, block}
+use Rattle.ada_meaning.specs.Types.{Range, between, static_number, Subtype, scalar, array, addition, subtraction, division, equal, less, greater, here}
+use Rattle.ada_meaning.specs.Tree.{Label, local_object, test_get, test_put, subprogram, Expr, literal, read, call, operation, relation, whole, Actuals, no_actual, by_expression, by_variable, Test, condition, NewValue, scalar_value, composite_value, others_value, Declaration, initialized, without_value, Stmt, assignment, procedure_call, if_statement, return_value, Stmts, no_statement, and_statement, branch, else_part, Handlers, handler, named_exception, predefined, block}
 use Rattle.ada_meaning.specs.Program.{in_mode, Parameter, Subprogram, Program}
 use Rattle.ada_meaning.specs.State.{Outcome, Gives, Raises, OutOfFuel}
 use Rattle.ada_meaning.specs.Execution.{Ending, by_return, by_exception, exec}
@@ -105,12 +105,32 @@ some_integer d = without_value d (scalar integer)
 abbrev pub on_exception : ℕ → Stmts → Handlers → Handlers
 on_exception e ss hs = handler (named_exception (predefined e) ∷ []) ss hs
 
+-- the subtype of an object that is set to a value when it is declared, and of a declaration's object
+abbrev pub subtype_set : NewValue → Subtype
+subtype_set (scalar_value r e) = scalar r
+subtype_set (composite_value t o parts) = t
+subtype_set (others_value r v) = array r (subtype_set v)
+
+abbrev pub declared_subtype : Declaration → Subtype
+declared_subtype (initialized l d v) = subtype_set v
+declared_subtype (without_value d t) = t
+
+-- a body without objects in its statements
 abbrev pub body : List Parameter → List Declaration → Stmts → Handlers → Subprogram
-body ps ds ss hs = record { generic = None; parameters = ps; body = block ds ss hs }
+body ps ds ss hs = record {
+  generic = None;
+  parameters = ps;
+  objects = map (λ q. q.subtype) ps ++ map declared_subtype ds;
+  body = block ds ss hs;
+}
 
 -- one in the text of the generic with this number
 abbrev pub generic_body : ℕ → List Parameter → List Declaration → Stmts → Handlers → Subprogram
-generic_body g ps ds ss hs = record { generic = Some g; parameters = ps; body = block ds ss hs }
+generic_body g ps ds ss hs = record (body ps ds ss hs) { generic = Some g }
+
+-- a body that declares objects of these subtypes in its statements: those of blocks, and loop parameters
+abbrev pub declaring : List Subtype → Subprogram → Subprogram
+declaring ts s = record s { objects = s.objects ++ ts }
 
 -- a parameter of mode in and subtype Integer
 abbrev pub integer_in : ℕ → Parameter

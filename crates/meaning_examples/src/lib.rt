@@ -11,9 +11,9 @@ ghost use Rattle.meaning_examples.specs.Control.{Choices, EndOfFunction, CutOff}
 ghost use Rattle.meaning_examples.specs.Decisions.{Returns, AndFirst, OrFirst, Abandoned};
 ghost use Rattle.meaning_examples.specs.Depth.{Deep, Signs, Limits};
 ghost use Rattle.meaning_examples.specs.Exceptions.{Unhandled, OfOperations, InDeclarations, InHandlers};
-ghost use Rattle.meaning_examples.specs.Frames.{OwnVariables, Places, WordsOfInput};
+ghost use Rattle.meaning_examples.specs.Frames.{factorial, OwnVariables, Places, WordsOfInput};
 ghost use Rattle.meaning_examples.specs.Generics.{count, OwnObjects, OwnConstants};
-ghost use Rattle.meaning_examples.specs.Loops.{While, For, ArrayAndCase};
+ghost use Rattle.meaning_examples.specs.Loops.{t, While, For, ArrayAndCase};
 ghost use Rattle.meaning_examples.specs.Nested.{InnerAbandoned, Recursive, AsOperand, AsIndex};
 ghost use Rattle.meaning_examples.specs.Obliged.{OfNested, OfCount};
 ghost use Rattle.meaning_examples.specs.Parameters.{CopiesBack, OutFirst, BothInstances};
@@ -34,11 +34,12 @@ pub fn nested_decisions()
     ensures as_index { AsIndex }
 {}
 
-/// Loops, arrays and case statements.
+/// Loops, arrays and case statements. The last program is well-formed.
 pub fn loops()
     ensures while_loops { While }
     ensures for_loops { For }
     ensures array_and_case { ArrayAndCase }
+    ensures well_formed { IsWellFormed t }
 {}
 
 /// Exceptions.
@@ -90,9 +91,10 @@ pub fn obligations()
     ensures of_count { OfCount }
 {}
 
-/// Activations, places of actuals, and words of input.
+/// Activations, places of actuals, and words of input. The first program is well-formed.
 pub fn frames()
     ensures own_variables { OwnVariables }
+    ensures well_formed { IsWellFormed factorial }
     ensures places { Places }
     ensures words_of_input { WordsOfInput }
 {}

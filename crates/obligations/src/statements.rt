@@ -157,7 +157,7 @@ fn add_declaration(listing: &mut Listing, declaration: &Declaration) -> Result<(
     ensures { OnOk result (listing.new ≡ joined listing.old (of_declarations (declaration.now ∷ []))) }
 {
     match declaration {
-        Declaration::Initialized(label, _, _, value) => {
+        Declaration::Initialized(label, _, value) => {
             listing.add_statement(*label)?;
             add_in_value(listing, label.number, value)
         }

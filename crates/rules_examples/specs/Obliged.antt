@@ -1,5 +1,6 @@
 -- The obligations of worked sources, entry by entry: of calls that are recursive, of packages, of two instances of one generic, of exceptions and
--- instances over two files, of arrays and records. The objects of each subprogram are numbered from 0 in the order of the text.
+-- instances over two files, of arrays and records. The objects of each subprogram are numbered from 0 in the order of the text, and it lists the
+-- subtype of each.
 use Rattle.std.specs.Prelude.{◌≡◌, ℕ, List, [], ◌∷◌, ◌++◌, codes, map, length, Option, Some, None}
 use Rattle.cov_base.specs.declared.obligations.StmtEntry.{StmtEntry}
 use Rattle.cov_base.specs.declared.obligations.DecEntry.{DecEntry}
@@ -42,17 +43,17 @@ abbrev pub obliged : (main : List ℕ) → Option (List LibraryUnit) → Option 
 obliged main None = None
 obliged main (Some units) = obliged_by (rules.checked units main)
 
--- the numbers of the objects of each subprogram, and those from 0 on
-abbrev pub objects_by : rules.Checked → List (List ℕ)
-objects_by (rules.legal p) = map objects_of p.subprograms
+-- the numbers of the objects of each subprogram, with how many subtypes it lists; and those from 0 on, so many
+abbrev pub objects_by : rules.Checked → List (List ℕ × ℕ)
+objects_by (rules.legal p) = map (λ s. (objects_of s, length s.objects)) p.subprograms
 objects_by refused = []
 
-abbrev pub objects_in : (main : List ℕ) → Option (List LibraryUnit) → List (List ℕ)
+abbrev pub objects_in : (main : List ℕ) → Option (List LibraryUnit) → List (List ℕ × ℕ)
 objects_in main None = []
 objects_in main (Some units) = objects_by (rules.checked units main)
 
-abbrev pub from_0 : List (List ℕ) → List (List ℕ)
-from_0 objects = map (λ ns. numbers 0 (length ns)) objects
+abbrev pub from_0 : List (List ℕ × ℕ) → List (List ℕ × ℕ)
+from_0 objects = map (λ x. (numbers 0 x.1, length x.0)) objects
 
 -- files whose obligations are these
 pub record Owe (main : List ℕ) (files : List Lines) (o : Obligations) : Type 0 where

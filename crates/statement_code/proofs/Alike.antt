@@ -213,7 +213,7 @@ module _ (p : Program) (inst : ℕ) (shape shape_of : tree.Object → Shape) (ho
         → declarations_code N shape_of home_of site layout_of k ds ≡ declarations_code M shape_of home_of site layout_of k ds
     declarations_alike [] Sees k is = refl
     declarations_alike (tree.initialized l d v ∷ ds) Sees k is =
-        λ i. joined (and_op (simple (start_of (are.instance i) l)) (assign_alike Sees (tree.local_object d) tree.whole v k (shape (tree.local_object d)) tt is.0 i))
+        λ i. joined (and_op (simple (start_of (are.instance i) l)) (assign_alike Sees (tree.local_object d) tree.whole v k (shape (tree.local_object d)) tt is.0.0 i))
         (declarations_alike ds (formed.behind Sees d) k is.1 i)
     declarations_alike (tree.without_value d t ∷ ds) Sees k is =
         λ i. joined (declaration_code N shape_of home_of site layout_of k (tree.without_value d t)) (declarations_alike ds (formed.behind Sees d) k is.1 i)

@@ -76,7 +76,7 @@ module _ (p : Program) (inst : ℕ) (shape shape_of : tree.Object → Shape) (ho
         → ArePlainDeclarations p inst shape_of home_of site Bodies layout_of content Declares K.exceptions gives Seen ds × Everywhere (DeclarationFits p inst K shape_of layout_of) ds
     declarations_formed [] Sees Seen seen are is = (tt, tt)
     declarations_formed (tree.initialized l d v ∷ ds) Sees Seen seen are is =
-        let x = expression.value_formed p inst shape shape_of home_of site Bodies callable Sees Seen seen.seen seen.same v (shape (tree.local_object d)) (local d are.0).typed is.0 in
+        let x = expression.value_formed p inst shape shape_of home_of site Bodies callable Sees Seen seen.seen seen.same v (shape (tree.local_object d)) (local d are.0).typed is.0.0 in
         let more = declarations_formed ds (formed.behind Sees d) (behind Seen d) (seen_behind Sees Seen d are.0 seen) are.1 is.1 in
         (((are.0, subst (λ a. IsPlainValue p inst shape_of home_of site Bodies Seen a v) (local d are.0).same x.0), more.0), (x.1, more.1))
     declarations_formed (tree.without_value d t ∷ ds) Sees Seen seen are is =

@@ -1,11 +1,10 @@
 -- The kernel of a well-formed program that is laid out is whole.
 use Rattle.std.proofs.Common.{◌≡◌, ℕ, zero, suc, ◌+◌, ◌*◌, ◌<◌, ◌≤◌, inl, inr, Bool, false, List, [], ◌∷◌, ◌++◌, map, length, Some, slice_get, refl, sym, ap, subst, ◌∙◌, arith}
-use Rattle.std.specs.Prelude.{unwrap_or}
 use Rattle.std.proofs.lemmas.List.{length-map}
 use Rattle.cov_base.specs.Lists.{Everywhere, Somewhere}
 use Rattle.ada_meaning.specs.Bodies.{Body, bodies_of, StandsIn, IsBody}
 use Rattle.ada_meaning.specs.Execution.{library_place}
-use Rattle.ada_meaning.specs.Declared.{library_shape, object_shape, block_shapes}
+use Rattle.ada_meaning.specs.Declared.{library_shape, object_shape}
 use Rattle.ada_meaning.specs.Objects.{objects_of, block_objects}
 use Rattle.ada_meaning.specs.Obligations.{numbers}
 use Rattle.ada_meaning.specs.Program.{in_mode, out_mode, Parameter, Target, get_target, put_target, body_target, Program}
@@ -13,7 +12,6 @@ use Rattle.ada_meaning.specs.Resolved.{owner_in, ResolvedParameter, parameters_o
 use Rattle.ada_meaning.specs.Shape.{Shape, word, row, group, Shapes, no_shape, and_shape}
 use Rattle.ada_meaning.specs.Tree as tree
 use Rattle.ada_meaning.specs.WellFormed as formed
-use Rattle.ada_meaning.specs.Arithmetic.{base_range}
 use Rattle.ada_meaning.proofs.BodyLaws.{bodies_law}
 use Rattle.ada_meaning.proofs.FormedLaws.{body_formed, object_typed, local_typed}
 use Rattle.ada_resolved.specs.Sizes.{words, all_words}
@@ -150,7 +148,7 @@ module _ (p : Program) (K : Kernel) (s : Scheme) (well : formed.IsWellFormed p) 
 
     numbered : (i : ℕ) (q : Parameter) → slice_get is.declared.parameters i ≡ Some q → q.declaration ≡ i
     numbered i q there =
-        let e = number_is 0 (length (objects_of is.declared)) i q.declaration
+        let e = number_is 0 (length is.declared.objects) i q.declaration
         (sym (ap (λ ns. slice_get ns i) subprogram.numbered) ∙ found_mapped (λ (r : Parameter). r.declaration) is.declared.parameters (block_objects is.declared.body) i q there) in
         omega (arith, e)
 
@@ -162,9 +160,8 @@ module _ (p : Program) (K : Kernel) (s : Scheme) (well : formed.IsWellFormed p) 
     parameter_shape : (i : ℕ) (q : Parameter) → slice_get is.declared.parameters i ≡ Some q → plan.shape_of (tree.local_object q.declaration) ≡ shape_in p j q.subtype
     parameter_shape i q there =
         sym (same q.declaration (parameter_among i q there))
-        ∙ ap (λ d. shape (tree.local_object d)) (numbered i q there)
-        ∙ ap (λ o. unwrap_or o (word base_range))
-        (found_mapped (λ (r : Parameter). shape_in p j r.subtype) is.declared.parameters (block_shapes p j is.declared.body) i q there)
+        ∙ sym (each_is (λ (r : Parameter). shape_in p j r.subtype ≡ shape (tree.local_object r.declaration)) is.declared.parameters q subprogram.profile
+        (found_there is.declared.parameters i q there))
 
     parameters_laid : (i : ℕ) (qs : List Parameter) → Behind i qs → i + length qs ≤ length is.declared.parameters
         → AreParametersPlaced plan (length is.declared.parameters) (map (parameter_in p j) qs) i

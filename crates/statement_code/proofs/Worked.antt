@@ -38,12 +38,18 @@ abbrev only : tree.Stmt → tree.Block
 only s = tree.block [] (tree.and_statement s tree.no_statement) tree.no_handler
 
 abbrev called : Subprogram
-called = record { generic = Some 0; parameters = record { declaration = 0; mode = in_mode; subtype = type.scalar ten } ∷ []; body = only (tree.null_statement (label 0)) }
+called = record {
+  generic = Some 0;
+  parameters = record { declaration = 0; mode = in_mode; subtype = type.scalar ten } ∷ [];
+  objects = type.scalar ten ∷ [];
+  body = only (tree.null_statement (label 0));
+}
 
 abbrev caller : Subprogram
 caller = record {
   generic = None;
   parameters = [];
+  objects = [];
   body = only (tree.procedure_call (label 1) (tree.subprogram (type.of_instance 1) 0) (tree.by_expression (tree.literal (pos 5)) tree.no_actual));
 }
 
@@ -88,11 +94,12 @@ well = record {
   narrow = tt;
   library = tt;
   bodies = (
-    record { numbered = refl; types = ((refl, refl), tt); few = omega arith; given = λ e. (refl, tt); frame = (tt, ((tt, tt), tt)) },
+    record { numbered = refl; types = ((refl, refl), tt); profile = (refl, tt); few = omega arith; given = λ e. (refl, tt); frame = (tt, ((tt, tt), tt)) },
     (
       record {
         numbered = refl;
         types = tt;
+        profile = tt;
         few = omega arith;
         given = λ e. tt;
         frame = (tt, ((((called_is, refl), (omega arith, (tt, (refl, (refl, refl))))), tt), tt));

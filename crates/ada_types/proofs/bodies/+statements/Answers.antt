@@ -8,8 +8,7 @@ use Rattle.ada_syntax.specs.declared.statement.LoopScheme.{LoopScheme}
 use Rattle.ada_syntax.proofs.StatementSizeLaws.{statement_within, branch_within}
 use Rattle.ada_meaning.specs.Tree as tree
 use Rattle.ada_meaning.specs.Tree.{Stmt}
-use Rattle.ada_tree.specs.View as view
-use Rattle.ada_tree.specs.View.{label_of, declaration_of}
+use Rattle.ada_tree.specs.View.{label_of}
 use Rattle.ada_names.specs.Library.{statements_in}
 use Rattle.ada_names.specs.Naming.{declarations_in}
 use Rattle.ada_types.specs.declared.context.Declared.{Declared}

@@ -3,6 +3,7 @@ use Rattle.ada_names.specs.Names.{Region}
 use Rattle.ada_names.specs.Library.{declarations_of_item, statements_of_item}
 use Rattle.ada_types.specs.Checked.{body_of}
 use Rattle.ada_types.specs.Rules.{parts_of_block}
+use Rattle.ada_types.specs.Subtypes.{subtypes_view}
 use Rattle.ada_types.specs.TypingCode.{SomeRefused, typed_parts, unit_context}
 use Rattle.ada_types.proofs.UnitLaws as law
 use Rattle.ada_types.proofs.units.typed_unit.Goals as goal
@@ -23,7 +24,7 @@ returns-clause-typed c =
     let b = c.in_ok-block.block in
     law.unit_shown c.args.library.now places c.args.number u b (subst
     (λ (s : Region). typed_parts (unit_context s places) (declarations_of_item u.item) (statements_of_item u.item) ≡ Some b) c.in_ok-seen.ensures c.in_ok-block.ensures)
-    c.plain_subprogram.result c.mistyped.result c.ok_or.result c.plain_subprogram.ensures.procedure c.mistyped.ensures c.ok_or.ensures.value
+    (subtypes_view c.in_ok-objects.objects) c.plain_subprogram.result c.mistyped.result c.ok_or.result c.in_ok-objects.ensures c.plain_subprogram.ensures.procedure c.mistyped.ensures c.ok_or.ensures.value
 
 pub returns-clause-entry : goal.returns-clause-entry
 returns-clause-entry c =
