@@ -10,7 +10,7 @@ use Rattle.cov_base.specs.Lists.{Everywhere}
 use Rattle.object_format.specs.declared.object.Object.{Object}
 use Rattle.trace_format.specs.declared.trace.HistoryEntry.{HistoryEntry}
 use Rattle.trace_format.specs.Trace.{TraceFile}
-use Rattle.coverage_set.proofs.Replayed.{AreKept}
+use Rattle.coverage_set.specs.Read.{AreKept}
 
 -- no fault in the first of two checks, nor in the rest
 no_first : {X : Type 0} (a b : Option X) → option_or a b ≡ None → a ≡ None

@@ -16,3 +16,8 @@ pub mod Listed
 pub mod Rising
 pub mod Written
 pub mod OneFile
+pub mod Given
+pub mod RowsSeen
+pub mod ReplaySeen
+pub mod FoundSeen
+pub mod ReadLaws

@@ -38,7 +38,7 @@ use Rattle.coverage_set.proofs.Starts.{said_start}
 -- ---- starts
 
 -- a start whose row lies in a block is that of a row
-from_rows : (blocks : List Block) (rows : List Row) (e : Event) → Somewhere (λ x. x ≡ e) (starts_in blocks rows)
+pub from_rows : (blocks : List Block) (rows : List Row) (e : Event) → Somewhere (λ x. x ≡ e) (starts_in blocks rows)
     → Somewhere (λ x. x ≡ e) (map (λ (row : Row). Start row.statement row.instance) rows)
 from_rows blocks [] e some = some
 from_rows blocks (row ∷ rows) e some = by_row (list_any (covers row.address) blocks) (from_rows blocks rows e) some

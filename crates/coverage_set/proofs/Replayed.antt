@@ -22,14 +22,10 @@ use Rattle.vector_rebuild.specs.Entries.{branched_of}
 use Rattle.vector_rebuild.specs.Rebuilt.{Rebuilds, visits_of, IsRefusedAfter}
 use Rattle.vector_rebuild.specs.declared.fault.BrokenHistory.{BrokenHistory}
 use Rattle.vector_rebuild.proofs.LeafEdges.{left_at}
+use Rattle.coverage_set.specs.Read.{AreKept, HasReplayed}
 use Rattle.coverage_set.specs.Said.{IsBrokenBy}
 use Rattle.cov_base.specs.declared.failure.Failure.{Failure}
 use Rattle.cov_base.specs.declared.failure.Failure.TheVariants.{Fault, WantOfMemory}
-
--- a rebuild holds these entries, and these are their events
-pub record HasReplayed (o : Facts) (r : Rebuild) (events : List Event) (fed : List HistoryEntry) : Type 0 where
-  pub holds : Rebuilds o r fed
-  pub told : (e : Event) → Somewhere (λ x. x ≡ e) events ↔ Somewhere (λ x. x ≡ e) (done_of o [] (visits_of o fed))
 
 -- the events of visits that come after others
 pub done_append : (o : Facts) (xs ys past : List Visit) → done_of o past (xs ++ ys) ≡ done_of o past xs ++ done_of o (onto xs past) ys
@@ -70,22 +66,21 @@ taken_whole (x ∷ xs) zero all = absurd (omega arith)
 taken_whole (x ∷ xs) (suc at) all = ap (λ (ys : List _). x ∷ ys) (taken_whole xs at (omega arith))
 
 -- one entry more
-pub replayed_more : (o : Facts) (old new : Rebuild) (before after : List Event) (history : List HistoryEntry) (at : ℕ) (entry : HistoryEntry) (event : Option Event)
-    → slice_get history at ≡ Some entry → HasReplayed o old before (take at history)
-    → ((fed : List HistoryEntry) → Rebuilds o old fed → Rebuilds o new (fed ++ entry ∷ []))
-    → ((fed : List HistoryEntry) → Rebuilds o old fed → option_to_list event ≡ done_at o (onto (visits_of o fed) []) (visit_in o (branched_of entry)))
+pub replayed_one : (o : Facts) (old new : Rebuild) (before after : List Event) (fed : List HistoryEntry) (entry : HistoryEntry) (event : Option Event)
+    → HasReplayed o old before fed
+    → ((list : List HistoryEntry) → Rebuilds o old list → Rebuilds o new (list ++ entry ∷ []))
+    → ((list : List HistoryEntry) → Rebuilds o old list → option_to_list event ≡ done_at o (onto (visits_of o list) []) (visit_in o (branched_of entry)))
     → ((e : Event) → Somewhere (λ x. x ≡ e) after ↔ (Somewhere (λ x. x ≡ e) before ⊎ Somewhere (λ x. x ≡ e) (option_to_list event)))
-    → HasReplayed o new after (take (at + 1) history)
-replayed_more o old new before after history at entry event is so_far holds computed added =
-    subst (HasReplayed o new after) (sym (taken_at history at entry is)) (record {
-      holds = holds (take at history) so_far.holds;
-      told = λ e. subst (λ (es : List Event). Somewhere (λ x. x ≡ e) after ↔ Somewhere (λ x. x ≡ e) es)
-          (ap (λ (es : List Event). earlier ++ es) (computed (take at history) so_far.holds) ∙ sym (done_more o (take at history) entry))
-          (of_both e);
-    })
+    → HasReplayed o new after (fed ++ entry ∷ [])
+replayed_one o old new before after fed entry event so_far holds computed added = record {
+  holds = holds fed so_far.holds;
+  told = λ e. subst (λ (es : List Event). Somewhere (λ x. x ≡ e) after ↔ Somewhere (λ x. x ≡ e) es)
+      (ap (λ (es : List Event). earlier ++ es) (computed fed so_far.holds) ∙ sym (done_more o fed entry))
+      (of_both e);
+}
   where
     earlier : List Event
-    earlier = done_of o [] (visits_of o (take at history))
+    earlier = done_of o [] (visits_of o fed)
 
     of_both : (e : Event) → Somewhere (λ x. x ≡ e) after ↔ Somewhere (λ x. x ≡ e) (earlier ++ option_to_list event)
     of_both e = (
@@ -98,6 +93,17 @@ replayed_more o old new before after history at entry event is so_far holds comp
         | inr here ↦ inr here
       ]),
     )
+
+-- the same of a history at a place
+pub replayed_more : (o : Facts) (old new : Rebuild) (before after : List Event) (history : List HistoryEntry) (at : ℕ) (entry : HistoryEntry) (event : Option Event)
+    → slice_get history at ≡ Some entry → HasReplayed o old before (take at history)
+    → ((fed : List HistoryEntry) → Rebuilds o old fed → Rebuilds o new (fed ++ entry ∷ []))
+    → ((fed : List HistoryEntry) → Rebuilds o old fed → option_to_list event ≡ done_at o (onto (visits_of o fed) []) (visit_in o (branched_of entry)))
+    → ((e : Event) → Somewhere (λ x. x ≡ e) after ↔ (Somewhere (λ x. x ≡ e) before ⊎ Somewhere (λ x. x ≡ e) (option_to_list event)))
+    → HasReplayed o new after (take (at + 1) history)
+replayed_more o old new before after history at entry event is so_far holds computed added =
+    subst (HasReplayed o new after) (sym (taken_at history at entry is))
+    (replayed_one o old new before after (take at history) entry event so_far holds computed added)
 
 -- ---- where it breaks
 
@@ -135,9 +141,6 @@ visit_there o entry needed = by_condition (condition_at o entry.address) refl ne
         by_tree false other = refl
 
 -- each entry is one visit
-abbrev pub AreKept : Object → List HistoryEntry → Type 0
-AreKept o history = Everywhere (λ (h : HistoryEntry). needs_history o h.address ≡ true) history
-
 pub visits_long : (o : Object) (history : List HistoryEntry) → AreKept o history → length (visits_of (facts_of o) history) ≡ length history
 visits_long o [] kept = refl
 visits_long o (entry ∷ history) kept =

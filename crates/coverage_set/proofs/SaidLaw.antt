@@ -25,7 +25,8 @@ use Rattle.vector_rebuild.specs.Entries.{trace_in}
 use Rattle.vector_rebuild.specs.Flagged.{FlagsSay}
 use Rattle.vector_rebuild.specs.Rebuilt.{visits_of}
 use Rattle.coverage_set.specs.Said.{starts_in}
-use Rattle.coverage_set.proofs.Replayed.{AreKept, visits_flat}
+use Rattle.coverage_set.specs.Read.{AreKept}
+use Rattle.coverage_set.proofs.Replayed.{visits_flat}
 use Rattle.coverage_set.proofs.Starts.{start_listed, start_said, said_start}
 
 -- no start is among the evaluations of visits
@@ -46,7 +47,7 @@ no_done : (blocks : List Block) (rows : List Row) (d : DecId) (i : InstId) (vect
 no_done blocks rows d i vector some = let start = start_listed blocks rows (Done d i vector) some in cc start.is
 
 -- evaluations of visits of decisions that are no trees are of such decisions
-no_tree : (o : Facts) (vs past : List Visit) (d : DecId) (i : InstId) (vector : Vector) → Everywhere (λ (v : Visit). o.tree v.key.decision ≡ false) vs
+pub no_tree : (o : Facts) (vs past : List Visit) (d : DecId) (i : InstId) (vector : Vector) → Everywhere (λ (v : Visit). o.tree v.key.decision ≡ false) vs
     → IsCompletedFrom o past vs d i vector → o.tree d ≡ false
 no_tree o [] past d i vector flat completes = absurd completes
 no_tree o (v ∷ vs) past d i vector flat completes = elim completes [

@@ -75,7 +75,7 @@ one_past blocks at b pc rows is ends from =
     past_block b (drop (at + 1) blocks) pc rows ends from ∙ ap (λ (bs : List Block). starts_in bs rows) (sym (left_at blocks at b is))
 
 -- the first block passes the check of order, and so do those behind it
-step_by : (before : Option Block) (b : Block) (bs : List Block) (at : ℕ) (t : Bool) → in_order before b ≡ t
+pub step_by : (before : Option Block) (b : Block) (bs : List Block) (at : ℕ) (t : Bool) → in_order before b ≡ t
     → cond t (first_failing in_order (Some b) (at + 1) bs) (Some at) ≡ None
     → (in_order before b ≡ true) × (first_failing in_order (Some b) (at + 1) bs ≡ None)
 step_by before b bs at true is none = (is, none)
@@ -85,14 +85,14 @@ above_here : (before b : Block) → in_order (Some before) b ≡ true → before
 above_here before b is = ltb-true before.start b.start (and_parts _ (nat_lt before.start b.start) is).1
 
 -- blocks start above an address
-abbrev StartAbove : ℕ → List Block → Type 0
+abbrev pub StartAbove : ℕ → List Block → Type 0
 StartAbove pc bs = Everywhere (λ (b : Block). pc < b.start) bs
 
 raised : (low high : ℕ) (bs : List Block) → low < high → StartAbove high bs → StartAbove low bs
 raised low high [] less above = tt
 raised low high (b ∷ bs) less above = (omega (arith, less, above.0), raised low high bs less above.1)
 
-all_above : (b : Block) (at : ℕ) (bs : List Block) → first_failing in_order (Some b) at bs ≡ None → StartAbove b.start bs
+pub all_above : (b : Block) (at : ℕ) (bs : List Block) → first_failing in_order (Some b) at bs ≡ None → StartAbove b.start bs
 all_above b at [] none = tt
 all_above b at (n ∷ bs) none =
     let step = step_by (Some b) n bs at (in_order (Some b) n) refl none in
@@ -113,7 +113,7 @@ none_covers pc [] above = refl
 none_covers pc (b ∷ bs) above = rw (starts_after b pc above.0) (none_covers pc bs above.1)
 
 -- of blocks, the first that doesn't end before an address decides whether one covers it
-decides : (b : Block) (bs : List Block) (pc : ℕ) → pc ≤ b.last → StartAbove b.start bs → covers pc b ≡ (covers pc b || list_any (covers pc) bs)
+pub decides : (b : Block) (bs : List Block) (pc : ℕ) → pc ≤ b.last → StartAbove b.start bs → covers pc b ≡ (covers pc b || list_any (covers pc) bs)
 decides b bs pc reaches above = elim (le_or_lt b.start pc) [
   | inl low ↦ rw (le-leb b.start pc low, le-leb pc b.last reaches) refl
   | inr high ↦ rw (starts_after b pc high) (sym (none_covers pc bs (raised pc b.start bs high above)))
@@ -174,7 +174,7 @@ rising_behind : (first : Row) (rows : List Row) → rising_after (λ (one next :
 rising_behind first [] rises = refl
 rising_behind first (next ∷ rows) rises = (and_parts (nat_lt first.address next.address) (rising_after (λ (one later : Row). nat_lt one.address later.address) next rows) rises).1
 
-rows_from : (rows : List Row) (at : ℕ) (row : Row) → rising (λ (one next : Row). nat_lt one.address next.address) rows ≡ true → slice_get rows at ≡ Some row
+pub rows_from : (rows : List Row) (at : ℕ) (row : Row) → rising (λ (one next : Row). nat_lt one.address next.address) rows ≡ true → slice_get rows at ≡ Some row
     → AreFrom row.address (drop at rows)
 rows_from [] at row rises is = absurd (cc is)
 rows_from (first ∷ rows) zero row rises is =

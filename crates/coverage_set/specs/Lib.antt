@@ -4,3 +4,4 @@ pub mod Said
 pub mod Consolidated
 pub mod Written
 pub mod Joined
+pub mod Read

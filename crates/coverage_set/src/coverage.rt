@@ -1,35 +1,43 @@
 //! The coverage of an object.
 
-ghost use Rattle.std.specs.Prelude.{◌≡◌, ◌≢◌, ◌↔◌, ◌⊎◌, ℕ, List, [], IfOk, IfErr, OnOk, OnErr, AllPairs, None};
+ghost use Rattle.std.specs.Prelude.{◌≡◌, ◌≢◌, ◌↔◌, ◌⊎◌, ◌≤◌, ℕ, List, [], IfOk, IfErr, OnOk, OnErr, IsErrOf, AllPairs, None};
 ghost use Rattle.std.specs.List.Sorted.{IsStrictlySortedBy};
 ghost use Rattle.cov_base.specs.declared.event.Event.{Event};
+ghost use Rattle.cov_base.specs.declared.failure.Failure.TheVariants.{Fault};
+ghost use Rattle.cov_io.specs.Outside.{Rose, IsAbsent};
 ghost use Rattle.decision_map.specs.Fits.{fault_of};
 ghost use Rattle.cov_base.specs.Lists.{Somewhere};
 ghost use Rattle.object_facts.specs.Object.{facts_of};
 ghost use Rattle.object_format.specs.Checked.{IsSound};
-ghost use Rattle.trace_format.specs.Checks.{IsClosed};
+ghost use Rattle.trace_format.specs.Reader.{file_name};
+ghost use Rattle.trace_format.specs.Stream.{AreTold};
 ghost use Rattle.transcript.specs.Reading.{AllFollow};
 ghost use Rattle.transcript.specs.Trace.{Says};
 ghost use Rattle.vector_rebuild.specs.Entries.{trace_in};
 ghost use Rattle.vector_rebuild.specs.Rebuilt.{visits_of};
-ghost use Rattle.coverage_set.specs.Consolidated.{IsPossibleEvent, IsReadOf, IsRefused};
+ghost use Rattle.coverage_set.specs.Consolidated.{ArePossible, IsPossibleEvent, IsReadOf, IsRefused};
 ghost use Rattle.coverage_set.specs.Covered.{HasRun, Has, IsUnion, IsCountOfRuns};
 ghost use Rattle.coverage_set.specs.Covered.{Part, HasPart, of_one_object};
+ghost use Rattle.coverage_set.specs.declared.fault.AddFault.TheVariants.{Read};
 ghost use Rattle.coverage_set.specs.Exact.{event_cmp};
+ghost use Rattle.coverage_set.specs.Read.{IsOpened, AddsTraceIn, IsNotAdded};
 ghost use Rattle.coverage_set.specs.Said.{IsBrokenBy};
 ghost use Rattle.coverage_set.specs.Written.{IsFileOf};
 
 use crate::consolidated::{events_in, fit, runs_in};
 use crate::entries::{starts_among, vectors_among};
+use crate::fault::AddFault;
 use crate::join::Join;
+use crate::reading::Reading;
 use crate::said::said;
 use crate::set::SortedSet;
 use cov_base::{Digest, Event, Failure};
+use cov_io::Files;
 use decision_map::DecisionMap;
 use object_format::Object;
 use std::alloc::{AllocError, Global};
 use std::marker::Model;
-use trace_format::{ConsFault, ConsolidatedParts, ConsolidatedView, TraceView};
+use trace_format::{ConsFault, ConsolidatedParts, ConsolidatedView, TraceReader, TraceView};
 use vector_rebuild::BrokenHistory;
 
 /// What runs of an object covered: the closing digests of their traces, and their events.
@@ -116,8 +124,59 @@ impl<'a> Coverage<'a> {
         ensures refused { OnErr result (self.new ≡ self.old) }
     {
         let found = said(self.alloc, map, view)?;
-        let single = SortedSet::single(self.alloc, view.closing())?;
-        let events = self.events.grown(self.alloc, &found)?;
+        self.grow(&found, view.closing())?;
+        Ok(())
+    }
+
+    /// Adds what the trace says that a reader reads, and its run: of the trace file in the bytes that the
+    /// files tell it is what [`add_trace`](Coverage::add_trace) adds of a view of them. No more of the
+    /// file is in memory than a part of 65,536 bytes.
+    ///
+    /// It answers `Read` where a read failed; else the fault of the format that the bytes have, the check
+    /// beside the object that the trace fails, or the entry at which its history breaks, the first of
+    /// these. Then all is as before.
+    pub fn add_read<F: Files>(
+        &mut self,
+        map: &DecisionMap<'_>,
+        files: &mut F,
+        reader: &mut TraceReader,
+    ) -> Result<(), Failure<AddFault>>
+        // The map is of the coverage's object, which passed its checks, and the reader is as it was opened.
+        requires sound { IsSound map.now }
+        requires object { map.now ≡ self.old.object }
+        requires opened { IsOpened (F.held files.old) reader.old }
+        ensures object { self.new.object ≡ self.old.object }
+        ensures added { (bytes : List ℕ) → AreTold (F.held files.old) (file_name reader.old) bytes
+            → OnOk result (AddsTraceIn map.now bytes self.old self.new) }
+        ensures cause { (bytes : List ℕ) → AreTold (F.held files.old) (file_name reader.old) bytes
+            → IfErr result (IsNotAdded map.now bytes) }
+        ensures refused { OnErr result (self.new ≡ self.old) }
+
+        // What becomes of the files.
+        ensures same { F.held files.new ≡ F.held files.old }
+        ensures failed { IsErrOf result (Fault Read)
+            → Rose (F.reads_failed files.old) (F.reads_failed files.new) ⊎ IsAbsent (F.held files.old) (file_name reader.old) }
+        ensures stays { result ≢ Err (Fault Read) → F.reads_failed files.new ≡ F.reads_failed files.old }
+        ensures later { F.reads_failed files.old ≤ F.reads_failed files.new }
+        ensures writes { F.writes_failed files.new ≡ F.writes_failed files.old }
+    {
+        let mut reading = Reading::new(self.alloc, map)?;
+        let closing = reading.read(map, files, reader)?;
+        let found = reading.end()?;
+        self.grow(&found, closing)?;
+        Ok(())
+    }
+
+    /// Adds events, and the run whose trace has this digest.
+    fn grow(&mut self, found: &SortedSet<Event>, closing: Digest) -> Result<(), AllocError>
+        requires { ArePossible self.old.object found.now }
+        ensures object { self.new.object ≡ self.old.object }
+        ensures events { OnOk result ((e : Event) → Has self.new e ↔ (Has self.old e ⊎ Somewhere (λ x. x ≡ e) found.now)) }
+        ensures runs { OnOk result ((digest : List ℕ) → HasRun self.new digest ↔ (HasRun self.old digest ⊎ (closing ≡ digest))) }
+        ensures refused { OnErr result (self.new ≡ self.old) }
+    {
+        let single = SortedSet::single(self.alloc, closing)?;
+        let events = self.events.grown(self.alloc, found)?;
         let runs = self.runs.grown(self.alloc, &single)?;
         self.events.take(events);
         self.runs.take(runs);

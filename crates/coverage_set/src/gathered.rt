@@ -80,6 +80,13 @@ impl<T: Exact + Drop> Gathered<T> {
             .saturating_add(LEAST_LIMIT);
     }
 
+    /// The items.
+    pub fn as_slice(&self) -> &[T]
+        ensures { result.now ≡ self.now }
+    {
+        self.items.as_slice()
+    }
+
     /// The set of the items.
     pub fn into_set(self) -> SortedSet<T>
         ensures { (x : T) → Somewhere (λ y. y ≡ x) result ↔ Somewhere (λ y. y ≡ x) self }

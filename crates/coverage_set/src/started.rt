@@ -64,14 +64,14 @@ fn is_covered_at(view: &TraceView<'_>, at: u32, pc: u32) -> bool
 }
 
 /// Whether a block covers an address.
-fn covers(block: Block, pc: u32) -> bool
+pub fn covers(block: Block, pc: u32) -> bool
     ensures { result ≡ covers pc block }
 {
     block.start <= pc && pc <= block.last
 }
 
 /// Adds the start of a row, if it is covered.
-fn add_start(events: &mut Vec<Event>, row: &Row, is_covered: bool) -> Result<(), AllocError>
+pub fn add_start(events: &mut Vec<Event>, row: &Row, is_covered: bool) -> Result<(), AllocError>
     ensures { OnOk result (events.new.items ≡
         events.old.items ++ (if is_covered then Start row.now.statement row.now.instance ∷ [] else [])) }
 {

@@ -6,8 +6,8 @@ use Rattle.std.specs.Option.{option_or}
 use Rattle.std.proofs.lemmas.List.Folds.{find-append}
 use Rattle.object_format.specs.declared.object.Object.{Object}
 use Rattle.trace_format.specs.declared.trace.Block.{Block}
-use Rattle.trace_format.specs.Trace.{TraceFile}
-use Rattle.trace_format.specs.Checks.{IsClosed as IsClosedTrace}
+use Rattle.trace_format.specs.Trace.{TraceFile, trace_in}
+use Rattle.trace_format.specs.Checks.{Passes}
 use Rattle.decision_map.specs.declared.fault.FitFault.{FitFault}
 use Rattle.decision_map.specs.declared.fault.FitFault.TheVariants.{NotABlock}
 use Rattle.decision_map.specs.declared.fit_state.FitState.{FitState}
@@ -65,11 +65,11 @@ end_law head (Some x) edge address flat None None nb we wa nf h hb he ha hf = rw
 end_law head None edge (Some x) flat None None nb we wa nf h hb he ha hf = rw (h, ← hb, he refl, ← ha) (some_behind we x flat)
 end_law head None edge None flat None None nb we wa nf h hb he ha hf = rw (h, ← hb, he refl, ← ha, hf refl refl, none_behind we) refl
 
-pub end_is : (o : Object) (s : FitState) (t : TraceFile) → HasSeen o s t.object t.ending t.blocks t.history → IsClosedTrace t
+pub end_is : (o : Object) (s : FitState) (t : TraceFile) → HasSeen o s t.object t.ending t.blocks t.history → Passes (trace_in t)
     → option_or (option_or (option_or (option_or s.head s.block) s.edge) s.address) s.flat ≡ fault_of o t
 end_is o s t h is =
     end_law s.head s.block s.edge s.address s.flat (foreign o t) (beyond_exceptions o t) (not_a_block (kinds_of_text o.text) t.blocks) (wrong_edge (kinds_of_text o.text) t.blocks)
-    (wrong_address (needs_history o) t.history) (not_flat t.blocks t.history) h.head h.block (λ none. h.edge none (ordered_law t.blocks is.passes.order)) h.address h.flat
+    (wrong_address (needs_history o) t.history) (not_flat t.blocks t.history) h.head h.block (λ none. h.edge none (ordered_law t.blocks is.order)) h.address h.flat
 
 pub set_past : {X : Type 0} (xs : List X) (i : ℕ) (x : X) → length xs ≤ i → slice_set xs i x ≡ xs
 set_past [] i x past = refl

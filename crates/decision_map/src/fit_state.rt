@@ -5,8 +5,8 @@ ghost use Rattle.std.specs.Option.{option_or};
 ghost use Rattle.std.specs.Result.{result_err};
 ghost use Rattle.cov_base.specs.Marks.{same};
 ghost use Rattle.object_format.specs.declared.object.Object.{Object};
-ghost use Rattle.trace_format.specs.Trace.{TraceFile};
-ghost use Rattle.trace_format.specs.Checks.{IsClosed};
+ghost use Rattle.trace_format.specs.Trace.{TraceFile, trace_in};
+ghost use Rattle.trace_format.specs.Checks.{Passes};
 ghost use Rattle.trace_format.specs.Reader.{block_given, history_given};
 ghost use Rattle.trace_format.specs.declared.entry.Entry.TheVariants as entries;
 ghost use Rattle.trace_format.specs.declared.trace.Block.{Block};
@@ -98,7 +98,7 @@ impl<'a> FitState<'a> {
 
     /// Whether the trace fits the object, where all its entries were seen: the first check that fails.
     pub fn end(&self) -> Result<(), FitFault>
-        ensures { (o : Object) (t : TraceFile) → HasSeen o self.now t.object t.ending t.blocks t.history → IsClosed t
+        ensures { (o : Object) (t : TraceFile) → HasSeen o self.now t.object t.ending t.blocks t.history → Passes (trace_in t)
             → result_err result ≡ fault_of o t }
     {
         let found = either(self.head, self.block);

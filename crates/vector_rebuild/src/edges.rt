@@ -67,8 +67,9 @@ fn add_edge(
     Ok(())
 }
 
-/// The evaluation that ends with an edge of a block's branch, if the block has its flag.
-fn edge_event(map: &DecisionMap<'_>, block: Block, taken: bool) -> Option<Event>
+/// The evaluation that ends with an edge of a block's branch, if the block has its flag. It takes no
+/// memory.
+pub fn edge_event(map: &DecisionMap<'_>, block: Block, taken: bool) -> Option<Event>
     requires { IsSound map.now }
     ensures { (e : Event) → (result ≡ Some e) ↔ EdgeSays (facts_of map.now) (block_of block) taken e }
 {
