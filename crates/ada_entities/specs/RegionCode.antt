@@ -1,5 +1,5 @@
 -- Changes of a region, whatever the numbers in its entities lead to.
-use Rattle.std.specs.Prelude.{◌≡◌, ℕ, List, [], ◌∷◌, ◌++◌, map, Option, Result, Ok, if◌then◌else◌}
+use Rattle.std.specs.Prelude.{◌≡◌, ℕ, List, [], ◌∷◌, ◌++◌, map, reverse, slice_get, unwrap_or, Option, Result, Ok, if◌then◌else◌}
 use Rattle.std.specs.Option.{option_or}
 use Rattle.cov_base.specs.declared.failure.Failure.{Failure}
 use Rattle.cov_base.specs.declared.position.Pos.{Pos}
@@ -47,6 +47,10 @@ innermost (r ∷ rs) = r
 abbrev pub enclosing : List (List (List ℕ × Entity)) → List (List (List ℕ × Entity))
 enclosing [] = []
 enclosing (r ∷ rs) = rs
+
+-- the region at this depth, 0 for the outermost
+abbrev pub region_at : ℕ → List (List (List ℕ × Entity)) → List (List ℕ × Entity)
+region_at depth rs = unwrap_or (slice_get (reverse rs) depth) []
 
 -- what a name denotes behind regions that are looked at from the outermost, where it denoted this before
 abbrev pub found_behind : Tables → List ℕ → Option rules.Entity → List (List (List ℕ × Entity)) → Option rules.Entity

@@ -1,5 +1,6 @@
 -- What the code's subprograms are of the rules' definitions.
-use Rattle.std.specs.Prelude.{◌≡◌, false, List, [], map, option_map}
+use Rattle.std.specs.Prelude.{◌≡◌, false, List, [], map, Option, Some, None, option_map}
+use Rattle.std.specs.Borrow.{Bor}
 use Rattle.ada_meaning.specs.Program.{in_mode}
 use Rattle.ada_tree.specs.View.{callee_of}
 use Rattle.ada_tree.specs.Programs.{mode_of}
@@ -8,7 +9,7 @@ use Rattle.ada_entities.specs.declared.routines.Parameter.{Parameter}
 use Rattle.ada_entities.specs.declared.routines.ResultMark.{ResultMark}
 use Rattle.ada_entities.specs.declared.routines.Routine.{Routine}
 use Rattle.ada_entities.specs.Views.{TypeTables, identity_of, subtype_of}
-use Rattle.ada_entities.specs.EntityViews.{Tables, values_of}
+use Rattle.ada_entities.specs.EntityViews.{Tables, values_of, no_routine}
 use Rattle.ada_entities.specs.StandardCode.{HasTestIo}
 
 abbrev pub parameter_of : TypeTables → Parameter → rules.Parameter
@@ -26,6 +27,11 @@ routine_in k r = record {
   values = values_of k r.values;
   awaits_body = false;
 }
+
+-- where there may be no subprogram
+abbrev pub routine_from : Tables → Option (Bor Routine) → rules.Routine
+routine_from k None = no_routine
+routine_from k (Some r) = routine_in k r.now
 
 -- whatever its numbers lead to
 abbrev pub IsRoutine : Routine → rules.Routine → Type 0

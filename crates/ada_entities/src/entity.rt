@@ -3,8 +3,8 @@
 use crate::types::{AdaType, Identity, Subtype};
 use ada_tree::{ExceptionName, Object, Owner, ScalarRange, StaticValue};
 
-/// The static value of a constant or of a formal object: whose it is, and its value in that text. A
-/// constant whose initial value does not lie in its subtype has none.
+/// The static value of a constant: whose it is, and its value in that text. A constant whose initial
+/// value does not lie in its subtype has none.
 #[derive(Clone, Copy)]
 pub struct ConstantValue {
     pub owner: Owner,
@@ -66,8 +66,8 @@ pub enum Entity {
     /// An enumeration literal, by its position number (RM 3.5.1).
     Literal(AdaType, i32),
     Object(DeclaredObject),
-    /// A formal object, whose value is static (RM 12.4).
-    FormalObject(Subtype, ConstantValue),
+    /// A formal object, whose value is static, by whose it is (RM 12.4).
+    FormalObject(Subtype, Owner, StaticValue),
     Routine(RoutineName),
     Exception(ExceptionName),
     /// A component, in the rest of its record's declaration.

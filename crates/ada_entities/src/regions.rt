@@ -2,8 +2,8 @@
 
 ghost use Rattle.std.specs.Prelude.{◌≡◌, [], ◌∷◌, option_map, IfErr, OnOk};
 ghost use Rattle.ada_rules.specs.Entities as rules;
-ghost use Rattle.ada_entities.specs.EntityViews.{Tables, entity_of};
-ghost use Rattle.ada_entities.specs.RegionCode.{Declares, RefusesName, Redefines, regions_of, in_standard, innermost, enclosing};
+ghost use Rattle.ada_entities.specs.EntityViews.{Tables, entity_of, region_of};
+ghost use Rattle.ada_entities.specs.RegionCode.{Declares, RefusesName, Redefines, regions_of, in_standard, innermost, enclosing, region_at};
 
 use crate::entity::Entity;
 use crate::fault::Refusal;
@@ -70,6 +70,16 @@ impl Regions {
             denoted = region.find(name).or(denoted);
         }
         denoted
+    }
+
+    /// What a name, in lower case, denotes in the region at this depth: 0 is the outermost.
+    pub fn find_at(&self, depth: usize, name: &[u8]) -> Option<Entity>
+        ensures { (k : Tables) → option_map (entity_of k) result ≡ rules.entity_of name.now (region_of k (region_at depth self.now)) }
+    {
+        match self.regions.get(depth) {
+            Some(region) => region.find(name),
+            None => None,
+        }
     }
 
     /// What a name, in lower case, denotes where these regions stand inside the predefined one.

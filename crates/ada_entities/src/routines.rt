@@ -1,10 +1,11 @@
 //! Subprograms (Ada RM 2012, 6.1).
 
-ghost use Rattle.std.specs.Prelude.{◌≡◌, ◌∷◌, [], ◌++◌, length, IfOk, OnOk};
+ghost use Rattle.std.specs.Prelude.{◌≡◌, ◌∷◌, [], ◌++◌, length, slice_get, unwrap_or, IfOk, OnOk};
 ghost use Rattle.ada_tree.specs.View.{callee_of};
 ghost use Rattle.ada_tree.specs.Programs.{mode_of};
 ghost use Rattle.ada_entities.specs.StandardCode.{test_routine};
-ghost use Rattle.ada_entities.specs.RoutineViews.{IsRoutine, AreTestIo};
+ghost use Rattle.ada_entities.specs.EntityViews.{Tables, no_routine};
+ghost use Rattle.ada_entities.specs.RoutineViews.{IsRoutine, AreTestIo, HasRoutines, routine_from};
 
 use crate::entity::Values;
 use crate::table::numbered;
@@ -83,6 +84,13 @@ impl Routines {
         routines.push(test_routine(alloc, Callee::TestGet, Mode::Out)?)?;
         routines.push(test_routine(alloc, Callee::TestPut, Mode::In)?)?;
         Ok(Routines { routines })
+    }
+
+    /// The subprogram with this number.
+    pub fn get(&self, number: u32) -> Option<&Routine>
+        ensures { (k : Tables) → HasRoutines k self.now → unwrap_or (slice_get k.routines number) no_routine ≡ routine_from k result }
+    {
+        self.routines.get(number as usize)
     }
 
     /// Adds a subprogram, and answers its number.

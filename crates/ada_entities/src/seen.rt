@@ -213,9 +213,10 @@ impl Entity {
                 Entity::Literal(types.type_seen(of, instance), position)
             }
             Entity::Object(object) => Entity::Object(object.seen(types, instance)),
-            Entity::FormalObject(subtype, value) => Entity::FormalObject(
+            Entity::FormalObject(subtype, owner, value) => Entity::FormalObject(
                 types.subtype_seen(subtype, instance),
-                value.seen(instance),
+                owner_seen(owner, instance),
+                value,
             ),
             Entity::Routine(routine) => Entity::Routine(routine.seen(instance)),
             Entity::Exception(exception) => Entity::Exception(exception_seen(exception, instance)),
