@@ -67,7 +67,7 @@ fn width_of_declaration(declaration: &Declaration) -> u32
     ensures { result ≡ capped (end_of_declaration 0 (declaration_of declaration.now)) }
 {
     match declaration {
-        Declaration::Initialized(_, _, _, value) => width_of_assignment(&[], value),
+        Declaration::Initialized(_, _, value) => width_of_assignment(&[], value),
         Declaration::WithoutValue(..) => 1,
     }
 }

@@ -18,3 +18,4 @@ pub mod Settings
 pub mod Returned
 pub mod Stated
 pub mod Entered
+pub mod Made

@@ -19,12 +19,13 @@ use Rattle.ada_resolved.specs.Forms.{named_type, shape_of}
 use Rattle.generic_expand.specs.declared.copies.BodyCopy.{BodyCopy}
 use Rattle.statement_code.specs.Names.{Names}
 use Rattle.statement_code.specs.Values.{Home, in_frame, in_library, Site}
+use Rattle.storage_layout.specs.declared.frames.LocalObject.{LocalObject}
+use Rattle.storage_layout.specs.declared.layouts.LaidType.{LaidType}
+use Rattle.storage_layout.specs.declared.library.LibraryPlace.{LibraryPlace}
+use Rattle.storage_layout.specs.Layouts.{layouts_before}
 use Rattle.lower.specs.declared.context.BodyContext.{BodyContext}
 use Rattle.lower.specs.declared.context.Home.{Home as Place}
 use Rattle.lower.specs.declared.context.Home.TheVariants as place
-use Rattle.lower.specs.declared.context.LaidType.{LaidType}
-use Rattle.lower.specs.declared.context.LibraryPlace.{LibraryPlace}
-use Rattle.lower.specs.declared.context.LocalObject.{LocalObject}
 use Rattle.lower.specs.declared.context.Signature.{Signature}
 
 -- where an object stands
@@ -47,71 +48,117 @@ abbrev pub bodies_before : (inst subprogram : ℕ) → List BodyCopy → ℕ
 bodies_before i n [] = zero
 bodies_before i n (b ∷ bs) = if nat_eq b.instance.0 i && nat_eq b.subprogram n then zero else suc (bodies_before i n bs)
 
--- how many layouts stand before that of a type in an instance
-abbrev pub layouts_before : (inst number : ℕ) → List LaidType → ℕ
-layouts_before i n [] = zero
-layouts_before i n (t ∷ ts) = if nat_eq t.instance i && nat_eq t.number n then zero else suc (layouts_before i n ts)
-
 abbrev pub parameters_at : Option Subprogram → List Parameter
 parameters_at None = []
 parameters_at (Some s) = s.parameters
+
+-- what the code of a body is made by: the program, the instance, the width of the frame, the objects of the subprogram by number, those of the
+-- library level by instance, the bodies and the layouts of the kernel by number
+pub record Surroundings : Type 0 where
+  pub program : Program
+  pub instance : ℕ
+  pub width : ℕ
+  pub locals : List LocalObject
+  pub library : List (List LibraryPlace)
+  pub bodies : List BodyCopy
+  pub layouts : List LaidType
+
+module _ (c : Surroundings) where
+  abbrev pub program_by : meaning.Program
+  program_by = program_of c.program
+
+  abbrev pub place_at : (inst declaration : ℕ) → Option LibraryPlace
+  place_at inst d = place_among d (unwrap_or (slice_get c.library inst) [])
+
+  -- the type of an object, if it has one
+  abbrev pub type_by : tree.Object → Option TypeIn
+  type_by (tree.local_object d) = option_map (λ o. named_type c.program c.instance o.subtype) (slice_get c.locals d)
+  type_by (tree.library_object o d) = option_map (λ x. named_type c.program (owner_in c.instance o) x.subtype) (place_at (owner_in c.instance o) d)
+
+  abbrev pub shape_by : tree.Object → Shape
+  shape_by o = shape_named c.program (type_by o)
+
+  abbrev pub home_by : tree.Object → Home
+  home_by (tree.local_object d) = in_frame (unwrap_or (option_map (λ o. o.slot) (slice_get c.locals d)) 0)
+  home_by (tree.library_object o d) = in_library (unwrap_or (option_map (λ x. x.word) (place_at (owner_in c.instance o) d)) 0)
+
+  -- the number of the layout of a type, and of that of an object of the subprogram
+  abbrev pub layout_named : Subtype → ℕ
+  layout_named (subtype.Scalar r) = 0
+  layout_named (subtype.Composite o n) = layouts_before (owner_in c.instance (owner_of o)) n c.layouts
+
+  abbrev pub layout_at : Option LocalObject → ℕ
+  layout_at None = 0
+  layout_at (Some o) = layout_named o.subtype
+
+  abbrev pub layout_by : (declaration : ℕ) → ℕ
+  layout_by d = layout_at (slice_get c.locals d)
+
+  abbrev pub site_by : Site
+  site_by = record { width = c.width; body = λ i n. bodies_before i n c.bodies }
+
+  abbrev pub parameter_at : (inst : ℕ) → Parameter → ResolvedParameter
+  parameter_at inst q = record { declaration = q.number; mode = mode_of q.mode; shape = shape_of c.program (named_type c.program inst q.subtype) }
+
+  -- the parameters of what is called
+  abbrev pub parameters_by : Target → List ResolvedParameter
+  parameters_by get_target = record { declaration = 0; mode = meaning.out_mode; shape = word base_range } ∷ []
+  parameters_by put_target = record { declaration = 0; mode = meaning.in_mode; shape = word base_range } ∷ []
+  parameters_by (body_target i n) = map (parameter_at i) (parameters_at (slice_get c.program.subprograms n))
+
+  -- what names come to: 0 for a value and for bounds that are none
+  abbrev pub names_by : Names
+  names_by = record {
+    instance = c.instance;
+    number = λ e. unwrap_or (static_value (values_of program_by) c.instance e) (pos 0);
+    bounds = λ r. unwrap_or (static_bounds (values_of program_by) c.instance r) (record { low = pos 0; high = pos 0 });
+    target = target_in program_by c.instance;
+    parameters = parameters_by;
+    exception = exception_in program_by c.instance;
+  }
+
+-- the same of what code holds
+abbrev pub surroundings_of : BodyContext → Surroundings
+surroundings_of c = record {
+  program = c.sizes.now.program.now;
+  instance = c.instance;
+  width = c.width;
+  locals = c.locals.now;
+  library = c.library.now;
+  bodies = c.bodies.now;
+  layouts = c.layouts.now;
+}
 
 module _ (c : BodyContext) where
   abbrev pub text : Program
   text = c.sizes.now.program.now
 
-  abbrev pub meant : meaning.Program
-  meant = program_of text
-
-  abbrev pub place_at : (inst declaration : ℕ) → Option LibraryPlace
-  place_at inst d = place_among d (unwrap_or (slice_get c.library.now inst) [])
-
-  -- the type of an object, if it has one
   abbrev pub type_for : tree.Object → Option TypeIn
-  type_for (tree.local_object d) = option_map (λ o. named_type text c.instance o.subtype) (slice_get c.locals.now d)
-  type_for (tree.library_object o d) = option_map (λ x. named_type text (owner_in c.instance o) x.subtype) (place_at (owner_in c.instance o) d)
+  type_for = type_by (surroundings_of c)
 
   abbrev pub shape_for : tree.Object → Shape
-  shape_for o = shape_named text (type_for o)
+  shape_for = shape_by (surroundings_of c)
 
   abbrev pub home_for : tree.Object → Home
-  home_for (tree.local_object d) = in_frame (unwrap_or (option_map (λ o. o.slot) (slice_get c.locals.now d)) 0)
-  home_for (tree.library_object o d) = in_library (unwrap_or (option_map (λ x. x.word) (place_at (owner_in c.instance o) d)) 0)
+  home_for = home_by (surroundings_of c)
 
-  -- the number of the layout of a type, and of that of an object of the subprogram
-  abbrev pub layout_by : Subtype → ℕ
-  layout_by (subtype.Scalar r) = 0
-  layout_by (subtype.Composite o n) = layouts_before (owner_in c.instance (owner_of o)) n c.layouts.now
-
-  abbrev pub layout_at : Option LocalObject → ℕ
-  layout_at None = 0
-  layout_at (Some o) = layout_by o.subtype
+  abbrev pub layout_of : Subtype → ℕ
+  layout_of = layout_named (surroundings_of c)
 
   abbrev pub layout_for : (declaration : ℕ) → ℕ
-  layout_for d = layout_at (slice_get c.locals.now d)
+  layout_for = layout_by (surroundings_of c)
 
   abbrev pub site_for : Site
-  site_for = record { width = c.width; body = λ i n. bodies_before i n c.bodies.now }
+  site_for = site_by (surroundings_of c)
 
   abbrev pub parameter_for : (inst : ℕ) → Parameter → ResolvedParameter
-  parameter_for inst q = record { declaration = q.number; mode = mode_of q.mode; shape = shape_of text (named_type text inst q.subtype) }
+  parameter_for = parameter_at (surroundings_of c)
 
-  -- the parameters of what is called
   abbrev pub signature_for : Signature → List ResolvedParameter
   signature_for s = map (parameter_for s.instance) s.parameters.now
 
   abbrev pub parameters_for : Target → List ResolvedParameter
-  parameters_for get_target = record { declaration = 0; mode = meaning.out_mode; shape = word base_range } ∷ []
-  parameters_for put_target = record { declaration = 0; mode = meaning.in_mode; shape = word base_range } ∷ []
-  parameters_for (body_target i n) = map (parameter_for i) (parameters_at (slice_get text.subprograms n))
+  parameters_for = parameters_by (surroundings_of c)
 
-  -- what names come to: 0 for a value and for bounds that are none
   abbrev pub names_for : Names
-  names_for = record {
-    instance = c.instance;
-    number = λ e. unwrap_or (static_value (values_of meant) c.instance e) (pos 0);
-    bounds = λ r. unwrap_or (static_bounds (values_of meant) c.instance r) (record { low = pos 0; high = pos 0 });
-    target = target_in meant c.instance;
-    parameters = parameters_for;
-    exception = exception_in meant c.instance;
-  }
+  names_for = names_by (surroundings_of c)

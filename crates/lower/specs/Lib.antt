@@ -14,3 +14,5 @@ pub mod Choosing
 pub mod Procedures
 pub mod Stated
 pub mod Entered
+pub mod Standing
+pub mod Kernel

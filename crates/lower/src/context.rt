@@ -14,6 +14,7 @@ use cov_base::Seq;
 use generic_expand::BodyCopy;
 use kernel_ir::{Simple, Slot};
 use std::alloc::AllocError;
+use storage_layout::{LaidType, LibraryPlace, LocalObject, layouts_before};
 
 /// The base range of each integer type, which is that of Integer too (RM 3.5.4).
 pub(crate) const BASE: Range = Range {
@@ -34,30 +35,6 @@ const PUT: [Parameter; 1] = [Parameter {
     mode: Mode::In,
     subtype: Subtype::Scalar(ScalarRange::Known(BASE)),
 }];
-
-/// An object of a subprogram: its type, and the slot of its first word.
-#[derive(Clone, Copy)]
-pub(crate) struct LocalObject {
-    pub subtype: Subtype,
-    pub slot: Slot,
-}
-
-/// An object of the library level in an instance: the number of its declaration, its type, and its first
-/// word.
-#[derive(Clone, Copy)]
-pub(crate) struct LibraryPlace {
-    pub declaration: u32,
-    pub subtype: Subtype,
-    pub word: u32,
-}
-
-/// A type as it is laid out in an instance.
-#[derive(Clone, Copy)]
-pub(crate) struct LaidType {
-    pub instance: u32,
-    /// The number of the type in the table of types.
-    pub number: u32,
-}
 
 /// Where an object stands: its first word, in the frame or at the library level.
 #[derive(Clone, Copy)]
@@ -130,27 +107,16 @@ fn parameters_at(subprograms: &[Subprogram], number: u32) -> &[Parameter]
 
 /// How many bodies stand before that of a subprogram in an instance. A list of 2 ^ 32 bodies is too large
 /// for memory.
-fn bodies_before(bodies: &[BodyCopy], instance: u32, subprogram: u32) -> Result<u32, AllocError>
+pub(crate) fn bodies_before(
+    bodies: &[BodyCopy],
+    instance: u32,
+    subprogram: u32,
+) -> Result<u32, AllocError>
     ensures { IfOk result (λ n. n ≡ spec.bodies_before instance subprogram bodies.now) }
 {
     let mut before: u32 = 0;
     for body in bodies {
         if body.instance.0 == instance && body.subprogram == subprogram {
-            return Ok(before);
-        }
-        before = before.checked_add(1).ok_or(AllocError)?;
-    }
-    Ok(before)
-}
-
-/// How many layouts stand before that of a type in an instance. A list of 2 ^ 32 layouts is too large for
-/// memory.
-fn layouts_before(layouts: &[LaidType], instance: u32, number: u32) -> Result<u32, AllocError>
-    ensures { IfOk result (λ n. n ≡ spec.layouts_before instance number layouts.now) }
-{
-    let mut before: u32 = 0;
-    for layout in layouts {
-        if layout.instance == instance && layout.number == number {
             return Ok(before);
         }
         before = before.checked_add(1).ok_or(AllocError)?;
@@ -195,7 +161,7 @@ impl Home {
 }
 
 impl<'a> BodyContext<'a> {
-    ghost use Rattle.lower.specs.Context.{home_for, home_of, layout_by, layout_for, names_for, signature_for, site_for, type_for};
+    ghost use Rattle.lower.specs.Context.{home_for, home_of, layout_for, layout_of, names_for, signature_for, site_for, type_for};
 
     /// The value of a static expression; 0 for one without a value, which no legal program has.
     pub fn number(&self, value: Static) -> i32
@@ -290,7 +256,7 @@ impl<'a> BodyContext<'a> {
 
     /// The number of the layout of a type; 0 for a scalar one, which has none.
     fn layout_of(&self, subtype: Subtype) -> Result<u32, AllocError>
-        ensures { IfOk result (λ n. n ≡ layout_by self.now subtype) }
+        ensures { IfOk result (λ n. n ≡ layout_of self.now subtype) }
     {
         match subtype {
             Subtype::Scalar(_) => Ok(0),

@@ -19,6 +19,7 @@ mod context;
 mod decisions;
 mod edges;
 mod expressions;
+mod kernels;
 mod laws;
 mod lowering;
 mod nodes;
@@ -30,6 +31,7 @@ mod statements;
 mod statics;
 mod value;
 
+pub use kernels::lower_copies;
 pub use laws::{
     kernels_are_small, kernels_do_what_their_programs_do, kernels_end_where_their_programs_end,
     kernels_hold_the_obligations,
