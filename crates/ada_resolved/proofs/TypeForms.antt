@@ -242,7 +242,7 @@ module _ (p : Program) where
           ap (λ o. unwrap_or o (numbered n)) (defined n ∙ ap (option_map (λ e. unfolded (take n Table) (composite_of e.definition))) there)
           ∙ ap (λ e. unfolded (take n Table) (composite_of e)) is
 
-      record_size : components_size (values_of Meant) i (unfolded_components (take n Table) (components_of ts)) ≡ Some m
+      pub record_size : components_size (values_of Meant) i (unfolded_components (take n Table) (components_of ts)) ≡ Some m
       record_size = ap (type_size (values_of Meant) i) (sym record_is) ∙ has
 
       pub record_form : group (shapes_of p i n ts) ≡ numbered_shape i n (slice_get Table n)

@@ -16,3 +16,4 @@ pub mod Stated
 pub mod Entered
 pub mod Standing
 pub mod Kernel
+pub mod Schemes

@@ -19,6 +19,9 @@ use Rattle.ada_tree.specs.View as view
 use Rattle.ada_resolved.specs.Forms.{named_type, shape_of}
 use Rattle.ada_resolved.specs.Library.{program_size}
 use Rattle.ada_resolved.specs.Sizes.{type_size, words}
+use Rattle.kernel_ir.specs.declared.kernel.Layout.{Layout}
+use Rattle.kernel_ir.specs.declared.kernel.Layout.TheVariants as layout
+use Rattle.kernel_ir.specs.Limits.{IsWord}
 use Rattle.statement_code.specs.Sizes.{block_nodes}
 
 -- a type that a text names in an instance: a scalar one, or one of those before a number that stands in its owner's instance
@@ -32,11 +35,14 @@ abbrev pub components_of : CompositeType → List Subtype
 components_of (composite.Array r t) = t ∷ []
 components_of (composite.Record ts) = ts
 
--- each type is built of types before it that stand in its instances, and so are the objects of each body; those of a subprogram begin with its
--- parameters
+-- each type is built of types before it that stand in its instances
+abbrev pub AreTypesBuilt : Program → Type 0
+AreTypesBuilt p = (n inst : ℕ) (t : TypeDeclaration) → slice_get p.types n ≡ Some t → StandsIn (program_of p) t.generic inst
+    → Everywhere (IsNamed p inst n) (components_of t.definition)
+
+-- so are the objects of each body; those of a subprogram begin with its parameters
 pub record AreTypesNamed (p : Program) : Type 0 where
-  pub types : (n inst : ℕ) (t : TypeDeclaration) → slice_get p.types n ≡ Some t → StandsIn (program_of p) t.generic inst
-      → Everywhere (IsNamed p inst n) (components_of t.definition)
+  pub types : AreTypesBuilt p
   pub objects : (m inst : ℕ) (s : Subprogram) → slice_get p.subprograms m ≡ Some s → StandsIn (program_of p) s.generic inst
       → Everywhere (IsNamed p inst (length p.types)) s.objects
   pub parameters : (m : ℕ) (s : Subprogram) → slice_get p.subprograms m ≡ Some s
@@ -71,3 +77,9 @@ pub record IsWithinLimits (p : Program) : Type 0 where
   pub library : IsSized (program_size (program_of p))
   pub nodes : Everywhere (λ s. block_nodes s.body ≤ most_nodes) p.subprograms
   pub exceptions : length p.exceptions ≤ most_nodes
+
+-- the first value of a scalar component is a word
+abbrev pub HasWord : Layout → Type 0
+HasWord (layout.Word x) = IsWord x
+HasWord (layout.Array count component) = Unit {0}
+HasWord (layout.Record components) = Unit {0}
