@@ -29,12 +29,12 @@ use Rattle.statement_code.specs.Initial.{AreAddressed, HasInitialWords, IsObject
 use Rattle.statement_code.specs.Kernels.{Scheme}
 use Rattle.statement_code.specs.Laid.{IsLaidOut, IsLaidKernel}
 use Rattle.statement_code.specs.Programs.{Plan, IsHome, IsLibrary}
-use Rattle.storage_layout.specs.Layouts.{layouts_of}
+use Rattle.storage_layout.specs.Layouts.{HasWord, layouts_of}
 use Rattle.storage_layout.specs.Library.{library_places, library_words}
 use Rattle.lower.specs.Context.{Surroundings, home_by, layout_by, names_by, parameter_at, shape_by, site_by}
 use Rattle.lower.specs.Kernel.{body_by, body_in, body_of_copy, kernel_for, surroundings_in}
 use Rattle.lower.specs.Schemes.{address_in, library_standings, plan_by, plan_in, scheme_for}
-use Rattle.lower.specs.Standing.{AreTypesNamed, HasWord, IsWithinLimits}
+use Rattle.lower.specs.Standing.{AreTypesNamed, IsWithinLimits}
 use Rattle.lower.proofs.Copies.{body_is, number_is}
 use Rattle.lower.proofs.LaidProgram.{fit_law, small_law}
 use Rattle.lower.proofs.Names.{body_parameters, names_are, stated}

@@ -28,8 +28,8 @@ use Rattle.kernel_ir.specs.Limits.{LayoutFits, LayoutsFit, most_words}
 use Rattle.kernel_ir.proofs.LayoutLaws.{content_stays, content_behind}
 use Rattle.storage_layout.specs.declared.layouts.LaidType.{LaidType}
 use Rattle.storage_layout.specs.declared.layouts.LaidType.TheVariants.{First, Composite}
-use Rattle.storage_layout.specs.Layouts.{Layouts, layouts_before, with_layout, bounds, with_component, with_components, component_number, component_numbers}
-use Rattle.lower.specs.Standing.{IsNamed, HasWord}
+use Rattle.storage_layout.specs.Layouts.{HasWord, Layouts, layouts_before, with_layout, bounds, with_component, with_components, component_number, component_numbers}
+use Rattle.lower.specs.Standing.{IsNamed}
 use Rattle.lower.proofs.Contents.{Meets, MeetAll, word_met, none_met, more_met}
 use Rattle.lower.proofs.LaidLists.{get_front, get_last, get_either, none_within, everywhere_last, first_ones, fit_last, contents_last, found}
 

@@ -23,9 +23,9 @@ use Rattle.ada_resolved.proofs.TypeForms.{named_before}
 use Rattle.kernel_ir.specs.Layouts.{content_in, contents_after}
 use Rattle.kernel_ir.specs.Limits.{LayoutsFit, most_words}
 use Rattle.storage_layout.specs.declared.layouts.LaidType.TheVariants.{Composite}
-use Rattle.storage_layout.specs.Layouts.{Layouts, no_layouts, layouts_before, with_definition, with_type_in, with_type_in_all, with_types, layouts_of}
+use Rattle.storage_layout.specs.Layouts.{HasWord, Layouts, no_layouts, layouts_before, with_definition, with_type_in, with_type_in_all, with_types, layouts_of}
 use Rattle.statement_code.specs.Stores.{first_content}
-use Rattle.lower.specs.Standing.{IsNamed, AreTypesBuilt, HasWord}
+use Rattle.lower.specs.Standing.{IsNamed, AreTypesBuilt}
 use Rattle.lower.proofs.Contents.{Meets}
 use Rattle.lower.proofs.LaidLists.{found}
 use Rattle.lower.proofs.LaidParts.{Stays, IsLaid, laid_stays, AreLaid, none_laid, AreEarlier, earlier_stays, named_laid}

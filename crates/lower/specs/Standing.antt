@@ -19,9 +19,6 @@ use Rattle.ada_tree.specs.View as view
 use Rattle.ada_resolved.specs.Forms.{named_type, shape_of}
 use Rattle.ada_resolved.specs.Library.{program_size}
 use Rattle.ada_resolved.specs.Sizes.{type_size, words}
-use Rattle.kernel_ir.specs.declared.kernel.Layout.{Layout}
-use Rattle.kernel_ir.specs.declared.kernel.Layout.TheVariants as layout
-use Rattle.kernel_ir.specs.Limits.{IsWord}
 use Rattle.statement_code.specs.Sizes.{block_nodes}
 
 -- a type that a text names in an instance: a scalar one, or one of those before a number that stands in its owner's instance
@@ -77,9 +74,3 @@ pub record IsWithinLimits (p : Program) : Type 0 where
   pub library : IsSized (program_size (program_of p))
   pub nodes : Everywhere (λ s. block_nodes s.body ≤ most_nodes) p.subprograms
   pub exceptions : length p.exceptions ≤ most_nodes
-
--- the first value of a scalar component is a word
-abbrev pub HasWord : Layout → Type 0
-HasWord (layout.Word x) = IsWord x
-HasWord (layout.Array count component) = Unit {0}
-HasWord (layout.Record components) = Unit {0}

@@ -2,6 +2,8 @@
 
 ghost use Rattle.std.specs.Prelude.{◌≡◌, ◌+◌, IfOk, length, slice_get};
 ghost use Rattle.std.specs.Option.{option_copied};
+ghost use Rattle.cov_base.specs.Lists.{Everywhere};
+ghost use Rattle.storage_layout.specs.Layouts.{HasWord};
 ghost use Rattle.lower.specs.Kernel as spec;
 
 use crate::bodies::put_body;
@@ -116,9 +118,10 @@ fn exception_count(declared: &[Raisable]) -> Result<u32, AllocError>
 }
 
 /// The kernel of a program, with the copies of its bodies in their order: the code of each in its instance,
-/// the words of the library level, and the layouts of types.
+/// the words of the library level, and the layouts of types, whose first values are numbers of 32 bits.
 pub fn lower_copies(alloc: Global, program: &Program, copies: &Copies) -> Result<Kernel, AllocError>
-    ensures { IfOk result (λ kernel. kernel ≡ spec.kernel_for program.now copies.now.bodies) }
+    ensures kernel { IfOk result (λ kernel. kernel ≡ spec.kernel_for program.now copies.now.bodies) }
+    ensures words { IfOk result (λ kernel. Everywhere HasWord kernel.layouts) }
 {
     let sizes = TypeSizes::of(alloc, program)?;
     let library = library_of(alloc, &sizes)?;

@@ -20,6 +20,7 @@ use Rattle.ada_resolved.specs.Library.{stands_in}
 use Rattle.ada_resolved.specs.Sizes.{words}
 use Rattle.kernel_ir.specs.declared.kernel.Layout.{Layout}
 use Rattle.kernel_ir.specs.declared.kernel.Layout.TheVariants as layout
+use Rattle.kernel_ir.specs.Limits.{IsWord}
 use Rattle.storage_layout.specs.declared.layouts.LaidType.{LaidType}
 use Rattle.storage_layout.specs.declared.layouts.LaidType.TheVariants.{First, Composite}
 
@@ -27,6 +28,12 @@ use Rattle.storage_layout.specs.declared.layouts.LaidType.TheVariants.{First, Co
 pub record Layouts : Type 0 where
   pub laid : List LaidType
   pub layouts : List Layout
+
+-- the first value of a scalar component is a number of 32 bits
+abbrev pub HasWord : Layout → Type 0
+HasWord (layout.Word x) = IsWord x
+HasWord (layout.Array count component) = Unit {0}
+HasWord (layout.Record components) = Unit {0}
 
 abbrev pub no_layouts : Layouts
 no_layouts = record { laid = []; layouts = [] }

@@ -6,6 +6,7 @@ ghost use Rattle.ada_meaning.specs.Statics.{static_bounds, values_of};
 ghost use Rattle.ada_tree.specs.Objects.{capped};
 ghost use Rattle.ada_tree.specs.Programs.{bounds_of, program_of};
 ghost use Rattle.ada_tree.specs.View.{owner_of, scalar_range_of};
+ghost use Rattle.cov_base.specs.Lists.{Everywhere};
 ghost use Rattle.storage_layout.specs.Layouts as spec;
 
 use ada_resolved::{TypeSizes, bounds_in, instance_count, owner_in, stands_in, values_in};
@@ -35,6 +36,8 @@ impl Model for TypeLayouts {
     ghost Value = { spec.Layouts };
 
     ghost view = { λ s. record { laid = s.laid.items; layouts = s.layouts.items } };
+
+    ghost invariant = { λ s. Everywhere spec.HasWord s.layouts.items };
 }
 
 /// How many layouts stand before that of a type in an instance. A list of 2^32 layouts is too large for
@@ -73,6 +76,7 @@ fn bounds(program: &Program, instance: u32, range: ScalarRange) -> Range
 
 impl TypeLayouts {
     ghost use Rattle.std.specs.Prelude.{◌≡◌, ◌+◌, IfOk, OnOk, length};
+    ghost use Rattle.cov_base.specs.Lists.{Everywhere};
     ghost use Rattle.storage_layout.specs.Layouts as spec;
 
     /// No layouts.
@@ -85,9 +89,10 @@ impl TypeLayouts {
         }
     }
 
-    /// What the layouts lay out.
+    /// What the layouts lay out. First values are numbers of 32 bits.
     pub fn laid(&self) -> &[LaidType]
-        ensures { result.now ≡ self.now.laid }
+        ensures laid { result.now ≡ self.now.laid }
+        ensures words { Everywhere spec.HasWord self.now.layouts }
     {
         self.laid.as_slice()
     }
@@ -101,6 +106,7 @@ impl TypeLayouts {
 
     /// Adds a layout.
     fn push(&mut self, laid: LaidType, layout: Layout) -> Result<(), AllocError>
+        requires { spec.HasWord layout }
         ensures { OnOk result (self.new ≡ spec.with_layout laid layout self.old) }
     {
         self.laid.push(laid)?;
