@@ -1,5 +1,5 @@
 -- An image that implements the kernel of a program does what the program means.
-use Rattle.std.proofs.Common.{◌≡◌, ℕ, ◌+◌, ◌*◌, ◌≤◌, ℤ, List, reverse, Option, Some, refl, sym, ap, ◌∙◌, subst, arith}
+use Rattle.std.proofs.Common.{◌≡◌, ◌≢◌, ℕ, ◌+◌, ◌*◌, ◌≤◌, ℤ, List, reverse, Option, Some, refl, sym, ap, ◌∙◌, subst, arith}
 use Rattle.ada_meaning.specs.Execution as source
 use Rattle.ada_meaning.specs.Execution.{Execution, by_return, by_exception, execution_of, Ends}
 use Rattle.ada_meaning.specs.Program.{Program}
@@ -18,12 +18,8 @@ use Rattle.ada_meaning.proofs.FuelExecution.{more_fuel_law as source_more}
 use Rattle.object_facts.specs.Object.{facts_of}
 use Rattle.object_format.specs.declared.object.Object.{Object}
 use Rattle.rv_machine.specs.Objects.{object_run}
-use Rattle.kernel_ir.specs.Limits.{IsWithin}
-use Rattle.lower.specs.Lowered.{kernel_of}
 use Rattle.lower.specs.Same.{Observed, Same}
-use Rattle.lower.specs.Structured.{IsStructured}
 use Rattle.lower.proofs.AllFuels.{fuel_from, none_some, some_is, ended_stays}
-use Rattle.lower.proofs.Follows.{same_law}
 use Rattle.rv_semantics.specs.Run.{Run}
 use Rattle.transcript.specs.Facts.{Facts}
 use Rattle.rv_semantics.specs.Run.Outcome.{Ended}
@@ -79,24 +75,28 @@ timely site k input (Raises y w) (kernel.Exits v) x same is time budget enough =
 timely site k input (Raises y w) (kernel.Returns v) x same is time budget enough = absurd same
 timely site k input (Raises y w) (kernel.Cut v) x same is time budget enough = absurd same
 
-module _ (p : Program) (plain : IsStructured p) (within : IsWithin (kernel_of p)) (site : Site) (impl : Implements site (kernel_of p)) where
-  runs_are_faithful : (budget : ℕ) (input : List ℤ) → IsInput input → (number : ℕ) → (run_on site (kernel_of p) input budget).outcome ≡ Ended number
-      → (x : Execution) × Ends p input x × ShowsExecution site.facts (run_on site (kernel_of p) input budget) x
+-- a kernel does what a program means under each fuel but the greatest depth of calls
+abbrev Does : Program → Kernel → Type 0
+Does p k = (fuel : ℕ) (input : List ℤ) → fuel ≢ source.deepest → Same (source.exec p fuel input) (code.exec k fuel input)
+
+module _ (p : Program) (k : Kernel) (does : Does p k) (site : Site) (impl : Implements site k) where
+  runs_are_faithful : (budget : ℕ) (input : List ℤ) → IsInput input → (number : ℕ) → (run_on site k input budget).outcome ≡ Ended number
+      → (x : Execution) × Ends p input x × ShowsExecution site.facts (run_on site k input budget) x
   runs_are_faithful budget input is number outcome =
       let f = fuel_from (budget + 1) in
-      let ends = ends_more site (run_on site (kernel_of p) input budget) _ _ (impl.ends_only input is budget number outcome) (kernel_more (kernel_of p) (budget + 1) f.fuel input f.enough) in
-      let s = shown site (source.exec p f.fuel input) (code.exec (kernel_of p) f.fuel input) (run_on site (kernel_of p) input budget) (same_law p plain within f.fuel input f.other) ends in
+      let ends = ends_more site (run_on site k input budget) _ _ (impl.ends_only input is budget number outcome) (kernel_more k (budget + 1) f.fuel input f.enough) in
+      let s = shown site (source.exec p f.fuel input) (code.exec k f.fuel input) (run_on site k input budget) (does f.fuel input f.other) ends in
       (s.x, (f.fuel, s.is), s.shows)
 
   runs_are_timely : (input : List ℤ) → IsInput input → (x : Execution) → Ends p input x → (budget : ℕ) → 500 * x.cost + 5000 ≤ budget
-      → ShowsExecution site.facts (run_on site (kernel_of p) input budget) x
+      → ShowsExecution site.facts (run_on site k input budget) x
   runs_are_timely input is x ends budget enough =
       let f = fuel_from ends.0 in
       let still = ended_stays (source.exec p ends.0 input) (source.exec p f.fuel input) x (source_more p ends.0 f.fuel input f.enough) ends.1 in
-      let same = same_law p plain within f.fuel input f.other in
-      let over = timely site (kernel_of p) input (source.exec p f.fuel input) (code.exec (kernel_of p) f.fuel input) x same still (impl.in_time input is f.fuel) budget enough in
-      let s = shown site (source.exec p f.fuel input) (code.exec (kernel_of p) f.fuel input) (run_on site (kernel_of p) input budget) same over in
-      subst (λ y. ShowsExecution site.facts (run_on site (kernel_of p) input budget) y) (some_is s.x x (sym s.is ∙ still)) s.shows
+      let same = does f.fuel input f.other in
+      let over = timely site k input (source.exec p f.fuel input) (code.exec k f.fuel input) x same still (impl.in_time input is f.fuel) budget enough in
+      let s = shown site (source.exec p f.fuel input) (code.exec k f.fuel input) (run_on site k input budget) same over in
+      subst (λ y. ShowsExecution site.facts (run_on site k input budget) y) (some_is s.x x (sym s.is ∙ still)) s.shows
 
 -- the same of what an object's machine does
 moved : (facts : Facts) (o : Object) (run : Run) (budget : ℕ) (input : List ℤ) (x : Execution) → facts ≡ facts_of o → object_run o budget input ≡ run → ShowsExecution facts run x
@@ -104,19 +104,19 @@ moved : (facts : Facts) (o : Object) (run : Run) (budget : ℕ) (input : List �
 moved facts o run budget input x is same s = subst (λ f. ShowsExecution f (object_run o budget input) x) is (subst (λ r. ShowsExecution facts r x) (sym same) s)
 
 -- an object whose machine is the kernel's image behaves as the program
-pub behaves : (p : Program) → IsStructured p → IsWithin (kernel_of p) → (o : Object) (site : Site) → Implements site (kernel_of p) → site.facts ≡ facts_of o
-    → ((budget : ℕ) (input : List ℤ) → object_run o budget input ≡ run_on site (kernel_of p) input budget) → Behaves p o
-behaves p plain within o site impl facts same = record {
+pub behaves : (p : Program) (k : Kernel) → Does p k → (o : Object) (site : Site) → Implements site k → site.facts ≡ facts_of o
+    → ((budget : ℕ) (input : List ℤ) → object_run o budget input ≡ run_on site k input budget) → Behaves p o
+behaves p k does o site impl facts same = record {
   no_trap = λ budget input is pc why e. impl.no_trap input is budget pc why (ap (λ r. r.outcome) (sym (same budget input)) ∙ e);
   faithful = λ budget input is number e.
-      let s = runs_are_faithful p plain within site impl budget input is number (ap (λ r. r.outcome) (sym (same budget input)) ∙ e) in
-      (s.0, s.1, moved site.facts o (run_on site (kernel_of p) input budget) budget input s.0 facts (same budget input) s.2);
+      let s = runs_are_faithful p k does site impl budget input is number (ap (λ r. r.outcome) (sym (same budget input)) ∙ e) in
+      (s.0, s.1, moved site.facts o (run_on site k input budget) budget input s.0 facts (same budget input) s.2);
 }
 
 -- and its runs end in time
-pub ends_in_time : (p : Program) → IsStructured p → IsWithin (kernel_of p) → (o : Object) (site : Site) → Implements site (kernel_of p) → site.facts ≡ facts_of o
-    → ((budget : ℕ) (input : List ℤ) → object_run o budget input ≡ run_on site (kernel_of p) input budget) → EndsInTime p o
-ends_in_time p plain within o site impl facts same = record {
+pub ends_in_time : (p : Program) (k : Kernel) → Does p k → (o : Object) (site : Site) → Implements site k → site.facts ≡ facts_of o
+    → ((budget : ℕ) (input : List ℤ) → object_run o budget input ≡ run_on site k input budget) → EndsInTime p o
+ends_in_time p k does o site impl facts same = record {
   in_time = λ input is x ends budget enough.
-      moved site.facts o (run_on site (kernel_of p) input budget) budget input x facts (same budget input) (runs_are_timely p plain within site impl input is x ends budget enough);
+      moved site.facts o (run_on site k input budget) budget input x facts (same budget input) (runs_are_timely p k does site impl input is x ends budget enough);
 }

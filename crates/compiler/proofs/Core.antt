@@ -22,7 +22,8 @@ use Rattle.cov_base.specs.declared.obligations.SourceFile.{SourceFile}
 use Rattle.cov_base.specs.declared.position.Pos.{Pos}
 use Rattle.ada_tree.specs.declared.program.UnitEntry.{UnitEntry}
 use Rattle.generic_expand.specs.Expanded.{node_limit, past_nodes, first_past}
-use Rattle.compiler.proofs.PlainPrograms.{nodes_law}
+use Rattle.compiler.proofs.PlainPrograms.{nodes_law, structured_law}
+use Rattle.lower.specs.Structured.{IsStructured}
 use Rattle.ada_places.specs.Rising.{StatementsRise, DecisionsRise}
 use Rattle.object_format.specs.Counts.{FileFits}
 use Rattle.object_format.specs.Fields.{are_files}
@@ -79,6 +80,8 @@ entered files p o places built within = subst (λ n. AreInFiles n places) (sym (
 
 compiled_of : (files : List SourceFile) (main : List ℕ) (p : Program) (o : Object) (legal : AreLegal files main p) → CanBeNamed files → IsBuiltOf files p o → IsCompiled legal.units p o
 compiled_of files main p o legal can built = record {
+  kernel = built.kernel;
+  is_kernel = built.is_kernel;
   holds = built.holds;
   obligations = built.obligations;
   files = ap are_files built.sources ∙ entries_are_files files can;
@@ -91,6 +94,8 @@ compiled_of files main p o legal can built = record {
 -- the closing digest enters none of this
 pub closed_is_built : (files : List SourceFile) (p : Program) (o : Object) → IsBuiltOf files p o → IsBuiltOf files p (closed_object o)
 closed_is_built files p o built = record {
+  kernel = built.kernel;
+  is_kernel = built.is_kernel;
   holds = record {
     items = built.holds.items;
     text = built.holds.text;
@@ -132,7 +137,7 @@ module _ (files : List SourceFile) (main : List ℕ) (p : Program) (o : Object) 
   cheap_law = record {
     legal = record { units = legal.units; parsed = legal.parsed; elaborated = legal.elaborated; few = legal.small };
     in_time = in_time_law legal.units main p o legal.elaborated legal.rising legal.decisions_rising few compiled;
-    small = text_bound p o (sum_by unit_nodes legal.units) (compilable_law legal.units main p legal.elaborated legal.rising legal.decisions_rising few).structured built.holds (nodes_law legal.units main p legal.elaborated);
+    small = text_bound p built.kernel o (sum_by unit_nodes legal.units) built.is_kernel built.holds (nodes_law legal.units main p legal.elaborated);
   }
 
 pub closed_law : (files : List SourceFile) (main : List ℕ) (p : Program) (o : Object) → CanBeNamed files → AreLegal files main p → IsBuiltOf files p o → IsObject (closed_object o)
@@ -162,6 +167,9 @@ legal_of files units read main p parsed rises decisions_rise within decisions co
   elaborated = ap (λ us. elaborated us main) (sym are) ∙ legal;
   small = ap (λ us. first_past 0 (map entry_of us)) (sym are) ∙ small;
 }
+
+pub structured_of : (files : List SourceFile) (main : List ℕ) (p : Program) → AreLegal files main p → IsStructured p
+structured_of files main p legal = structured_law legal.units main p legal.elaborated
 
 pub able_law : (files : List SourceFile) (main : List ℕ) (p : Program) → AreLegal files main p → IsCompilable p
 able_law files main p legal = compilable_law legal.units main p legal.elaborated legal.rising legal.decisions_rising (few_units legal.units legal.small)

@@ -1,5 +1,5 @@
 -- The object that holds the linked pieces of a program's kernel behaves as the program.
-use Rattle.std.proofs.Common.{◌≡◌, ℕ, ℤ, List, [], find, option_map, refl, ap, ◌∙◌, ◌==◌}
+use Rattle.std.proofs.Common.{◌≡◌, ℕ, ℤ, List, [], find, option_map, refl, sym, ap, ◌∙◌, ◌==◌}
 use Rattle.std.specs.Option.{option_and_then}
 use Rattle.ada_meaning.specs.Program.{Program}
 use Rattle.assembler.specs.Laws.{ArePlaced}
@@ -29,9 +29,6 @@ use Rattle.line_table.specs.declared.rows.Row.{Row as Line}
 use Rattle.linker.proofs.RoleMarks.{roles_are_found}
 use Rattle.linker.proofs.RowMarks.{rows_are_found}
 use Rattle.linker.specs.Linked.{linked}
-use Rattle.lower.proofs.Fits.{well_formed_law}
-use Rattle.lower.proofs.Small.{within_law}
-use Rattle.lower.specs.Lowered.{kernel_of}
 use Rattle.object_facts.proofs.Fair.{fair}
 use Rattle.object_facts.specs.Object.{facts_of, row_of, condition_of}
 use Rattle.object_format.specs.Checked.{IsSound}
@@ -59,14 +56,14 @@ abbrev site_in : Object → Kernel → Site
 site_in o k = site_of (object_image o) (facts_of o) (kernel_pieces k)
 
 -- what stands at the site of an object that holds the image implements the kernel
-implements : (p : Program) (o : Object) → IsCompilable p → IsMadeOf p o → IsSound o → Implements (site_in o (kernel_of p)) (kernel_of p)
+implements : (p : Program) (o : Object) → IsCompilable p → (made : IsMadeOf p o) → IsSound o → Implements (site_in o made.kernel) made.kernel
 implements p o able made sound =
-    let k = kernel_of p in
+    let k = made.kernel in
     let pieces = kernel_pieces k in
     let graph = (facts_of o).graph in
     let hs = decisions_of p.subprograms in
-    let formed = well_formed_law p able.structured graph (object_graphs o hs (ap (λ ob. ob.decisions) made.obligations) able.few_conditions able.once (numbers_law p able)) (numbers_law p able) able.few_conditions in
-    let within = within_law p able.structured able.few in
+    let formed = made.is_kernel.formed graph (object_graphs o hs (ap (λ ob. ob.decisions) made.obligations) able.few_conditions able.once (numbers_law p able)) in
+    let within = made.is_kernel.within in
     let holds = made.holds in
     let placeable = pieces_can_be_placed graph k formed within in
     let placed : ArePlaced (object_image o) pieces = record { text = holds.text; items = holds.items; in_reach = placeable.in_reach; in_time = placeable.in_time } in
@@ -74,16 +71,16 @@ implements p o able made sound =
     (placed_kernels_hold (object_image o) (facts_of o) pieces k placed (marks_are_kept o k holds.rows holds.roles) (pieces_are_marked k).have (fair o sound) holds.exceptions) formed within
 
 -- the machine of an object that holds the image of a program's kernel is the kernel's
-same_run : (p : Program) (o : Object) → HoldsImage (kernel_of p) o → (budget : ℕ) (input : List ℤ) → object_run o budget input ≡ run_on (site_in o (kernel_of p)) (kernel_of p) input budget
-same_run p o holds budget input =
+same_run : (k : Kernel) (o : Object) → k.library ≡ [] → HoldsImage k o → (budget : ℕ) (input : List ℤ) → object_run o budget input ≡ run_on (site_in o k) k input budget
+same_run k o bare holds budget input =
     ap (λ entry. runs (object_image o) budget (start (object_image o) entry o.init_at o.init) input) holds.entry
-    ∙ ap (λ at. runs (object_image o) budget (start (object_image o) (address_of (labels (kernel_pieces (kernel_of p))) 0 0) at o.init) input) holds.init_at
-    ∙ ap (λ words. runs (object_image o) budget (start (object_image o) (address_of (labels (kernel_pieces (kernel_of p))) 0 0) data_start words) input) holds.init
+    ∙ ap (λ at. runs (object_image o) budget (start (object_image o) (address_of (labels (kernel_pieces k)) 0 0) at o.init) input) holds.init_at
+    ∙ ap (λ words. runs (object_image o) budget (start (object_image o) (address_of (labels (kernel_pieces k)) 0 0) data_start words) input) (holds.init ∙ sym bare)
 
 pub image_behaves : (p : Program) (o : Object) → IsCompilable p → IsMadeOf p o → IsSound o → Behaves p o
 image_behaves p o able made sound =
-    behaves p able.structured (within_law p able.structured able.few) o (site_in o (kernel_of p)) (implements p o able made sound) refl (same_run p o made.holds)
+    behaves p made.kernel made.is_kernel.does o (site_in o made.kernel) (implements p o able made sound) refl (same_run made.kernel o made.is_kernel.bare made.holds)
 
 pub image_ends_in_time : (p : Program) (o : Object) → IsCompilable p → IsMadeOf p o → IsSound o → EndsInTime p o
 image_ends_in_time p o able made sound =
-    ends_in_time p able.structured (within_law p able.structured able.few) o (site_in o (kernel_of p)) (implements p o able made sound) refl (same_run p o made.holds)
+    ends_in_time p made.kernel made.is_kernel.does o (site_in o made.kernel) (implements p o able made sound) refl (same_run made.kernel o made.is_kernel.bare made.holds)

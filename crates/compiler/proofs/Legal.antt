@@ -13,6 +13,7 @@ use Rattle.compiler.proofs.Statements.{places_are_statements, decisions_stand}
 use Rattle.compiler.specs.Behaves.{Behaves, EndsInTime}
 use Rattle.compiler.specs.Compiled.{IsCompiled}
 use Rattle.compiler.specs.Made.{IsCompilable, IsMadeOf}
+use Rattle.compiler.proofs.LabelCounts.{label_bodies}
 use Rattle.compiler.proofs.ListedLaws.{places_law, conditions_law, few_law, once_law, held_law}
 use Rattle.compiler.proofs.Numbered.{numbered_law, stay_law, decisions_stay_law, decision_places_law, obligations_law}
 use Rattle.compiler.proofs.Order.{found_rise, found_ordered}
@@ -27,13 +28,13 @@ use Rattle.object_format.specs.declared.object.Object.{Object}
 pub compilable_law : (units : List LibraryUnit) (main : List ℕ) (p : Program) → elaborated units main ≡ Some p → StatementsRise units → DecisionsRise units
     → sum_by (λ u. capped (unit_nodes u)) units ≤ 4096 → IsCompilable p
 compilable_law units main p legal rises decisions_rise few = record {
-  structured = structured_law units main p legal;
   numbered = numbered_law units main p legal rises decisions_rise;
   in_order = stay_law units main p legal rises;
   decisions_in_order = decisions_stay_law units main p legal decisions_rise;
   few_conditions = few_law units main p legal;
   once = once_law units main p legal;
   few = limit_law units main p 4096 legal (omega arith) few;
+  few_statements = let counted = label_bodies p p.subprograms (structured_law units main p legal).bodies in let nodes = limit_law units main p 4096 legal (omega arith) few in omega (arith, counted, nodes);
 }
 
 pub made_of : (units : List LibraryUnit) (main : List ℕ) (p : Program) (o : Object) → elaborated units main ≡ Some p → StatementsRise units → DecisionsRise units → IsCompiled units p o → IsMadeOf p o
@@ -41,6 +42,8 @@ made_of units main p o legal rises decisions_rise compiled =
     let hs = decisions_of p.subprograms in
     let listed : o.obligations ≡ obligations_at (places_of units) hs [] = compiled.obligations ∙ obligations_law units main p legal [] rises decisions_rise in
     record {
+      kernel = compiled.kernel;
+      is_kernel = compiled.is_kernel;
       holds = compiled.holds;
       obligations = listed ∙ ap (λ ps. obligations_at ps hs []) (sym (places_law units main p legal));
       files = compiled.files;

@@ -33,3 +33,5 @@ pub mod ListedLaws
 pub mod Numbered
 pub mod Rows
 pub mod UnitLaws
+mod Kernels
+mod LabelCounts

@@ -7,6 +7,7 @@ use Rattle.ada_meaning.specs.Collected.{decisions_of}
 use Rattle.ada_meaning.specs.Obligations.{numbers}
 use Rattle.compiler.proofs.DecisionEntries.{graph_in, own_graphs}
 use Rattle.compiler.specs.Held.{HoldsImage}
+use Rattle.compiler.specs.Kernels.{IsKernelOf}
 use Rattle.compiler.specs.Made.{IsCompilable}
 use Rattle.cov_base.specs.declared.position.DecId.{DecId}
 use Rattle.cov_base.specs.Graph.{Edges}
@@ -19,11 +20,7 @@ use Rattle.kernel_ir.specs.Limits.{IsWellFormed}
 use Rattle.kernel_ir.specs.declared.kernel.Kernel.{Kernel}
 use Rattle.linker.proofs.Places.{text_words, is_entered}
 use Rattle.linker.specs.Linked.{linked}
-use Rattle.lower.proofs.Fits.{well_formed_law}
-use Rattle.lower.proofs.Small.{within_law, short_law}
-use Rattle.lower.specs.Lowered.{kernel_of}
 use Rattle.lower.specs.Sizes.{all_nodes}
-use Rattle.lower.specs.Structured.{IsStructured}
 use Rattle.object_format.specs.Fields.{is_placed}
 use Rattle.object_format.specs.Text.{is_in_text}
 use Rattle.object_format.specs.declared.object.Object.{Object}
@@ -60,17 +57,16 @@ numbers_law p able = subst (λ hs. map (λ h. h.label.number) hs ≡ numbers 0 (
 abbrev pub able_graphs : Program → DecId → List Edges
 able_graphs p = graph_in (decisions_of p.subprograms)
 
-pub formed_law : (p : Program) → IsCompilable p → IsWellFormed (able_graphs p) (kernel_of p)
-formed_law p able = well_formed_law p able.structured (able_graphs p) (own_graphs (decisions_of p.subprograms) (numbers_law p able)) (numbers_law p able) able.few_conditions
+pub formed_law : (p : Program) (k : Kernel) → IsCompilable p → IsKernelOf p k → IsWellFormed (able_graphs p) k
+formed_law p k able is = is.formed (able_graphs p) (own_graphs (decisions_of p.subprograms) (numbers_law p able))
 
 -- text, entry and data have their places
-pub placed_law : (p : Program) (o : Object) → IsCompilable p → HoldsImage (kernel_of p) o → is_placed o ≡ true
-placed_law p o able holds =
-    let k = kernel_of p in
+pub placed_law : (p : Program) (k : Kernel) (o : Object) → IsCompilable p → IsKernelOf p k → HoldsImage k o → is_placed o ≡ true
+placed_law p k o able is holds =
     let pieces = kernel_pieces k in
     let long = text_long k o holds in
     let some = start_long k in
-    let ends = (pieces_can_be_placed (able_graphs p) k (formed_law p able) (within_law p able.structured able.few)).in_time in
+    let ends = (pieces_can_be_placed (able_graphs p) k (formed_law p k able is) is.within).in_time in
     let entered : is_in_text o.text o.entry ≡ true =
     ap (λ text. is_in_text text o.entry) holds.text ∙ (ap (is_in_text (linked pieces []).text) holds.entry ∙ is_entered pieces [] (omega arith)) in
     ap (λ at. is_laid_out (length o.text) (is_in_text o.text o.entry) at (length o.init)) holds.init_at
@@ -78,7 +74,6 @@ placed_law p o able holds =
     ∙ laid_out (length o.text) (is_in_text o.text o.entry) (omega arith) (omega arith) entered)
 
 -- the text takes at most 240 bytes for each node, and 4,096 beside
-pub text_bound : (p : Program) (o : Object) (nodes : ℕ) → IsStructured p → HoldsImage (kernel_of p) o → all_nodes p.subprograms + length p.subprograms ≤ nodes
+pub text_bound : (p : Program) (k : Kernel) (o : Object) (nodes : ℕ) → IsKernelOf p k → HoldsImage k o → all_nodes p.subprograms + length p.subprograms ≤ nodes
     → 4 * length o.text ≤ 240 * nodes + 4096
-text_bound p o nodes plain holds few =
-    omega (arith, text_long (kernel_of p) o holds, pieces_few (kernel_of p), short_law p plain, few)
+text_bound p k o nodes is holds few = let short = is.short nodes few in omega (arith, text_long k o holds, pieces_few k, short)

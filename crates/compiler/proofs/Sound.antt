@@ -1,13 +1,12 @@
 -- An object that is made of a program passes the checks of objects.
-use Rattle.std.proofs.Common.{◌≡◌, ◌≢◌, ℕ, zero, suc, ◌^◌, ◌≤◌, ◌<◌, ◌==◌, ◌&&◌, cond, Bool, true, false, nat_lt, nat_le, List, [], ◌∷◌, ◌++◌, filter, length, map, AllPairs, refl, sym, ap, ◌∙◌, subst, arith, lit≤, length-append}
+use Rattle.std.proofs.Common.{◌≡◌, ◌≢◌, ℕ, zero, suc, ◌^◌, ◌≤◌, ◌<◌, ◌==◌, ◌&&◌, cond, Bool, true, false, nat_lt, nat_le, List, [], ◌∷◌, filter, length, map, AllPairs, refl, sym, ap, ◌∙◌, subst, arith, lit≤}
 use Rattle.std.specs.List.{list_all, AllByRecursion}
 use Rattle.std.proofs.lemmas.Bool.Decides.{nat_tests}
 use Rattle.std.proofs.lemmas.List.{length-map}
 use Rattle.std.proofs.lemmas.List.Elements.{All-from_recursion}
-use Rattle.ada_meaning.specs.Collected.{Decision, declaration_labels, labels_of, labels, all_labels, branch_labels, block_labels, decisions_of}
-use Rattle.ada_meaning.specs.Objects.{block_objects}
+use Rattle.ada_meaning.specs.Collected.{Decision, labels_of, decisions_of}
 use Rattle.ada_meaning.specs.Obligations.{numbers, predefined_names, no_instance, decision_entry}
-use Rattle.ada_meaning.specs.Program.{Subprogram, Program}
+use Rattle.ada_meaning.specs.Program.{Program}
 use Rattle.ada_meaning.specs.Tree as tree
 use Rattle.compiler.proofs.Conditions.{conditions_of_linked}
 use Rattle.compiler.proofs.Conditions.{named as named_condition}
@@ -20,7 +19,6 @@ use Rattle.compiler.proofs.RowStarts.{named, start_at, starts_of_linked, starts_
 use Rattle.compiler.specs.Made.{places_in, IsCompilable, IsMadeOf}
 use Rattle.cov_base.specs.declared.obligations.Obligations.{Obligations}
 use Rattle.cov_base.specs.declared.position.Pos.{Pos}
-use Rattle.cov_base.specs.Lists.{Everywhere}
 use Rattle.kernel_code.proofs.PieceLaws.{pieces_are_marked}
 use Rattle.kernel_code.specs.Pieces.{kernel_pieces}
 use Rattle.kernel_ir.specs.Obligations.{conditions}
@@ -29,11 +27,7 @@ use Rattle.line_table.specs.declared.roles.Role.{Role}
 use Rattle.line_table.specs.declared.rows.Row.{Row as TableRow}
 use Rattle.linker.proofs.RowMarks.{rows_are_in_order}
 use Rattle.linker.specs.Linked.{linked}
-use Rattle.lower.proofs.Marks.{rows_law, conditions_law}
-use Rattle.lower.specs.Lowered.{kernel_of}
 use Rattle.lower.specs.Marked.{row_of}
-use Rattle.lower.specs.Sizes.{declarations_nodes, statement_nodes, statements_nodes, branches_nodes, block_nodes, all_nodes}
-use Rattle.lower.specs.Structured.{behind_all, IsPlainStatement, ArePlainStatements, ArePlainBranches, IsPlainBlock, IsPlainProcedure}
 use Rattle.object_format.specs.Checked.{IsSound}
 use Rattle.object_format.specs.Counts.{IsCountable, AreCountable, InstanceFits, RegionFits, IsCounted}
 use Rattle.object_format.specs.Decisions.{AreExpression}
@@ -56,45 +50,6 @@ left_holds false b both = both
 right_holds : (a b : Bool) → (a && b) ≡ true → b ≡ true
 right_holds true b both = both
 right_holds false b both = absurd (let x : ⊥ = cc in x)
-
--- there are no more labels than nodes
-label_declarations : (ds : List tree.Declaration) → length (declaration_labels ds) ≤ declarations_nodes ds
-label_declarations [] = omega arith
-label_declarations (tree.initialized l d v ∷ ds) = omega (arith, label_declarations ds)
-label_declarations (tree.without_value d t ∷ ds) = omega (arith, label_declarations ds)
-
-mutual
-  label_each : (p : Program) (k : ℕ) (visible : List ℕ) (s : tree.Stmt) → IsPlainStatement p k visible s → length (labels s) ≤ statement_nodes s
-  label_each p k visible (tree.null_statement l) plain = omega arith
-  label_each p k visible (tree.assignment l o parts v) plain = omega arith
-  label_each p k visible (tree.procedure_call l c actuals) plain = omega arith
-  label_each p k visible (tree.if_statement l bs) plain = omega (arith, label_branches p k visible bs plain)
-  label_each p k visible (tree.bare_loop l ss) plain = omega (arith, label_all p k visible ss plain)
-  label_each p k visible (tree.while_loop l d t ss) plain = omega (arith, label_all p k visible ss plain.1)
-  label_each p k visible (tree.exit_statement l) plain = omega arith
-  label_each p k visible (tree.exit_when l d t) plain = omega arith
-  label_each p k visible (tree.return_statement l) plain = omega arith
-  label_each p k visible (tree.block_statement b) plain = omega (arith, label_block p k visible b plain)
-  label_each p k visible s plain = absurd plain
-
-  label_all : (p : Program) (k : ℕ) (visible : List ℕ) (ss : tree.Stmts) → ArePlainStatements p k visible ss → length (all_labels ss) ≤ statements_nodes ss
-  label_all p k visible tree.no_statement plain = omega arith
-  label_all p k visible (tree.and_statement s ss) plain = omega (arith, length-append (labels s) (all_labels ss), label_each p k visible s plain.0, label_all p k visible ss plain.1)
-
-  label_branches : (p : Program) (k : ℕ) (visible : List ℕ) (bs : tree.Branches) → ArePlainBranches p k visible bs → length (branch_labels bs) ≤ branches_nodes bs
-  label_branches p k visible (tree.else_part ss) plain = label_all p k visible ss plain
-  label_branches p k visible (tree.branch d t ss bs) plain =
-      omega (arith, length-append (all_labels ss) (branch_labels bs), label_all p k visible ss plain.1, label_branches p k visible bs plain.2)
-
-  label_block : (p : Program) (k : ℕ) (visible : List ℕ) (b : tree.Block) → IsPlainBlock p k visible b → length (block_labels b) ≤ block_nodes b
-  label_block p k visible (tree.block ds ss tree.no_handler) plain =
-      let front = declaration_labels ds in
-      omega (arith, length-append (front ++ all_labels ss) [], length-append front (all_labels ss), label_declarations ds, label_all p k (behind_all visible ds) ss plain.1)
-  label_block p k visible (tree.block ds ss (tree.handler cs hss hs)) plain = absurd plain
-
-label_bodies : (p : Program) (ss : List Subprogram) → Everywhere (IsPlainProcedure p) ss → length (labels_of ss) ≤ all_nodes ss
-label_bodies p [] plain = omega arith
-label_bodies p (s ∷ ss) plain = omega (arith, length-append (block_labels s.body) (labels_of ss), label_block p (length (block_objects s.body)) [] s.body plain.0.body, label_bodies p ss plain.1)
 
 numbers_long : (from count : ℕ) → length (numbers from count) ≡ count
 numbers_long from zero = refl
@@ -131,22 +86,22 @@ few_files files are =
 -- what the rows of a made object start
 pub starts_law : (p : Program) (o : Object) → IsCompilable p → IsMadeOf p o → map start_of o.rows ≡ map start_at (numbers 0 (length (labels_of p.subprograms)))
 starts_law p o able made =
-    let marked = pieces_are_marked (kernel_of p) in
+    let marked = pieces_are_marked made.kernel in
     ap (map start_of) made.holds.rows
-    ∙ (starts_of_linked (kernel_pieces (kernel_of p)) [] marked.marks
-    ∙ (ap (map named) (marked.rows_named ∙ rows_law p able.structured)
+    ∙ (starts_of_linked (kernel_pieces made.kernel) [] marked.marks
+    ∙ (ap (map named) (marked.rows_named ∙ made.is_kernel.rows)
     ∙ (starts_of_labels (labels_of p.subprograms)
     ∙ ap (map start_at) (subst (λ ls. map (λ l. l.number) ls ≡ numbers 0 (length ls)) able.in_order able.numbered.statements))))
 
 -- the conditions that its roles have
 pub found_law : (p : Program) (o : Object) → IsCompilable p → IsMadeOf p o → HaveConditions (decisions_of p.subprograms) (conditions_of o.roles)
 found_law p o able made =
-    let k = kernel_of p in
+    let k = made.kernel in
     let hs = decisions_of p.subprograms in
     let marked = pieces_are_marked k in
     let are : conditions_of o.roles ≡ map named_condition (conditions k) =
     ap conditions_of made.holds.roles ∙ (conditions_of_linked (kernel_pieces k) [] marked.marks ∙ ap (map named_condition) marked.conditions_named) in
-    subst (λ cs. HaveConditions hs cs) (sym are) (conditions_found hs (conditions k) (numbers_law p able) (conditions_law p able.structured))
+    subst (λ cs. HaveConditions hs cs) (sym are) (conditions_found hs (conditions k) (numbers_law p able) made.is_kernel.conditions)
 
 pub entries_long : (p : Program) → length (map entry_at (places_in p)) ≡ length (labels_of p.subprograms)
 entries_long p = length-map (places_in p) entry_at ∙ length-map (labels_of p.subprograms) (λ l. l.place)
@@ -166,13 +121,13 @@ field_law p o able made =
     ap (λ ob. list_all (is_row (length ob.statements) (length ob.instances)) o.rows) made.obligations
     ∙ (ap (λ m. list_all (is_row m 1) o.rows) (entries_long p) ∙ rows_in_range n o.rows (starts_law p o able made)) in
     let roles : list_all (is_role o.obligations.decisions (length o.obligations.instances)) o.roles ≡ true =
-    ap (λ ob. list_all (is_role ob.decisions (length ob.instances)) o.roles) made.obligations ∙ held_are_roles hs (kernel_of p) o made.holds (found_law p o able made) in
-    both_hold _ _ (both_hold _ _ (both_hold _ _ (both_hold (is_placed o) (are_files o.files) (placed_law p o able made.holds) made.files) obliged) rows) roles
+    ap (λ ob. list_all (is_role ob.decisions (length ob.instances)) o.roles) made.obligations ∙ held_are_roles hs made.kernel o made.holds (found_law p o able made) in
+    both_hold _ _ (both_hold _ _ (both_hold _ _ (both_hold (is_placed o) (are_files o.files) (placed_law p made.kernel o able made.is_kernel made.holds) made.files) obliged) rows) roles
 
 row_law : (p : Program) (o : Object) → IsCompilable p → IsMadeOf p o → PassesRow o
 row_law p o able made =
-    let pieces = kernel_pieces (kernel_of p) in
-    let ordered = rows_are_in_order pieces [] (pieces_are_marked (kernel_of p)).marks in
+    let pieces = kernel_pieces made.kernel in
+    let ordered = rows_are_in_order pieces [] (pieces_are_marked made.kernel).marks in
     record {
       placed = ap (λ text. list_all (is_in text) o.rows) made.holds.text ∙ (ap (list_all (is_in (linked pieces []).text)) made.holds.rows ∙ ordered.0);
       rising = ap (rising (λ (one next : TableRow). nat_lt one.address next.address)) made.holds.rows ∙ ordered.1;
@@ -181,7 +136,7 @@ row_law p o able made =
 
 pub role_law : (p : Program) (o : Object) → IsCompilable p → IsMadeOf p o → PassesRole o
 role_law p o able made =
-    held_passes (decisions_of p.subprograms) (kernel_of p) o made.holds (found_law p o able made) (ap (λ ob. ob.decisions) made.obligations)
+    held_passes (decisions_of p.subprograms) made.kernel o made.holds (found_law p o able made) (ap (λ ob. ob.decisions) made.obligations)
 
 sound_law : (p : Program) (o : Object) → IsCompilable p → IsMadeOf p o → IsSound o
 sound_law p o able made = record {
@@ -210,11 +165,11 @@ decisions_few p o able made =
 counted_law : (p : Program) (o : Object) → IsCompilable p → IsMadeOf p o → IsCounted o
 counted_law p o able made =
     let n = length (labels_of p.subprograms) in
-    let few : n ≤ 4096 = omega (arith, label_bodies p p.subprograms able.structured.bodies, able.few) in
+    let few = able.few_statements in
     let rows_long : length o.rows ≡ n =
     sym (length-map o.rows start_of) ∙ (ap length (starts_law p o able made) ∙ (length-map (numbers 0 n) start_at ∙ numbers_long 0 n)) in
     record {
-      text = omega (arith, text_bound p o 4096 able.structured made.holds able.few);
+      text = omega (arith, text_bound p made.kernel o 4096 made.is_kernel made.holds able.few);
       init = subst (λ (words : List ℕ). length words < 2 ^ 32) (sym made.holds.init) (lit≤ tt);
       files = (omega (arith, few_files o.files made.files), made.names);
       instances = subst (λ ob. AreCountable InstanceFits ob.instances) (sym made.obligations) (lit≤ tt, All-from_recursion InstanceFits (no_instance ∷ []) (lit≤ tt, tt));
@@ -222,10 +177,10 @@ counted_law p o able made =
           (lit≤ tt, All-from_recursion IsCountable predefined_names (lit≤ tt, (lit≤ tt, (lit≤ tt, (lit≤ tt, tt)))));
       statements = subst (λ ob. IsCountable ob.statements) (sym made.obligations) (omega (arith, entries_long p, few));
       decisions = subst (λ ob. IsCountable ob.decisions) (sym made.obligations)
-          (omega (arith, length-map (decisions_of p.subprograms) decision_entry, decisions_few p o able made, roles_few o (role_law p o able made), text_bound p o 4096 able.structured made.holds able.few));
+          (omega (arith, length-map (decisions_of p.subprograms) decision_entry, decisions_few p o able made, roles_few o (role_law p o able made), text_bound p made.kernel o 4096 made.is_kernel made.holds able.few));
       regions = subst (λ ob. AreCountable RegionFits ob.regions) (sym made.obligations) (lit≤ tt, All-from_recursion RegionFits [] tt);
       rows = omega (arith, rows_long, few);
-      roles = omega (arith, roles_few o (role_law p o able made), text_bound p o 4096 able.structured made.holds able.few);
+      roles = omega (arith, roles_few o (role_law p o able made), text_bound p made.kernel o 4096 made.is_kernel made.holds able.few);
     }
 
 pub made_law : (p : Program) (o : Object) → IsCompilable p → IsMadeOf p o → HasObject o × (is_plain o ≡ true)

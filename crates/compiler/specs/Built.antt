@@ -13,7 +13,8 @@ use Rattle.compiler.specs.Source.{entry_of_file}
 use Rattle.cov_base.specs.declared.obligations.SourceFile.{SourceFile}
 use Rattle.generic_expand.specs.Expanded.{first_past}
 use Rattle.ada_places.specs.Rising.{StatementsRise, DecisionsRise}
-use Rattle.lower.specs.Lowered.{kernel_of}
+use Rattle.compiler.specs.Kernels.{IsKernelOf}
+use Rattle.kernel_ir.specs.declared.kernel.Kernel.{Kernel}
 use Rattle.object_format.specs.declared.object.Object.{Object}
 use Rattle.parsed_programs.specs.Places.{AreInFiles}
 use Rattle.compiler.specs.Units.{HaveUnits}
@@ -28,9 +29,11 @@ pub record CanBeNamed (files : List SourceFile) : Type 0 where
   pub few : length files ≤ 64
   pub names : All HasPlainName files
 
--- the object holds the image of the program's kernel, names the sources with their digests, and has the program's obligations
+-- the object holds the image of a kernel of the program, names the sources with their digests, and has the program's obligations
 pub record IsBuiltOf (files : List SourceFile) (p : Program) (o : Object) : Type 0 where
-  pub holds : HoldsImage (kernel_of p) o
+  pub kernel : Kernel
+  pub is_kernel : IsKernelOf p kernel
+  pub holds : HoldsImage kernel o
   pub sources : o.files ≡ map entry_of_file files
   pub obligations : o.obligations ≡ obligations_of p []
 

@@ -7,15 +7,18 @@ use Rattle.ada_syntax.specs.declared.unit.Unit.{Unit as LibraryUnit}
 use Rattle.ada_places.specs.Places.{places_of, decision_places, unit_conditions}
 use Rattle.compiler.specs.Held.{HoldsImage}
 use Rattle.parsed_programs.specs.Places.{AreInFiles}
-use Rattle.lower.specs.Lowered.{kernel_of}
+use Rattle.compiler.specs.Kernels.{IsKernelOf}
+use Rattle.kernel_ir.specs.declared.kernel.Kernel.{Kernel}
 use Rattle.object_format.specs.Counts.{FileFits}
 use Rattle.object_format.specs.Fields.{are_files}
 use Rattle.object_format.specs.declared.object.Object.{Object}
 
--- an object that is compiled from units, whose typed program is p, without exempt regions: it holds the image of the program's kernel and
+-- an object that is compiled from units, whose typed program is p, without exempt regions: it holds the image of a kernel of the program and
 -- the program's obligations, and the statements, decisions and conditions of the units stand in its files
 pub record IsCompiled (units : List LibraryUnit) (p : Program) (o : Object) : Type 0 where
-  pub holds : HoldsImage (kernel_of p) o
+  pub kernel : Kernel
+  pub is_kernel : IsKernelOf p kernel
+  pub holds : HoldsImage kernel o
   pub obligations : o.obligations ≡ obligations_of p []
   pub files : are_files o.files ≡ true
   pub names : All FileFits o.files

@@ -10,3 +10,4 @@ pub mod Listed
 pub mod Steps
 pub mod Units
 pub mod Why
+pub mod Kernels

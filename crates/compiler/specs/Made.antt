@@ -10,9 +10,9 @@ use Rattle.compiler.specs.Held.{HoldsImage}
 use Rattle.cov_base.specs.declared.position.Pos.{Pos}
 use Rattle.cov_base.specs.Lists.{Everywhere}
 use Rattle.compiler.specs.Listed.{obligations_at}
-use Rattle.lower.specs.Lowered.{kernel_of}
+use Rattle.compiler.specs.Kernels.{IsKernelOf}
+use Rattle.kernel_ir.specs.declared.kernel.Kernel.{Kernel}
 use Rattle.lower.specs.Sizes.{all_nodes}
-use Rattle.lower.specs.Structured.{IsStructured}
 use Rattle.object_format.specs.Counts.{FileFits}
 use Rattle.object_format.specs.Fields.{are_files, are_statements, are_decisions}
 use Rattle.object_format.specs.declared.object.Object.{Object}
@@ -21,21 +21,23 @@ use Rattle.object_format.specs.declared.object.Object.{Object}
 abbrev pub places_in : Program → List Pos
 places_in p = map (λ l. l.place) (labels_of p.subprograms)
 
--- a program that can be compiled today: structured code within the limit on nodes; its statements and its decisions are numbered in the
--- order in which they stand; each decision has at most 32 conditions, and no `not` stands directly in another
+-- a program that can be compiled today: it is within the limit on nodes; its statements and its decisions are numbered in the order in which
+-- they stand; each decision has at most 32 conditions, and no `not` stands directly in another
 pub record IsCompilable (p : Program) : Type 0 where
-  pub structured : IsStructured p
   pub numbered : IsNumbered p
   pub in_order : ordered_labels p ≡ labels_of p.subprograms
   pub decisions_in_order : ordered_decisions p ≡ decisions_of p.subprograms
   pub few_conditions : Everywhere (λ h. conditions_of h.test ≤ 32) (decisions_of p.subprograms)
   pub once : Everywhere (λ h. negates_once (shape_of h.test) ≡ true) (decisions_of p.subprograms)
   pub few : all_nodes p.subprograms + length p.subprograms ≤ 4096
+  pub few_statements : length (labels_of p.subprograms) ≤ 4096
 
--- an object that is made of a program: it holds the image of the program's kernel, its obligations are the program's statements and
+-- an object that is made of a program: it holds the image of a kernel of the program, its obligations are the program's statements and
 -- decisions, and these stand in order in its files
 pub record IsMadeOf (p : Program) (o : Object) : Type 0 where
-  pub holds : HoldsImage (kernel_of p) o
+  pub kernel : Kernel
+  pub is_kernel : IsKernelOf p kernel
+  pub holds : HoldsImage kernel o
   pub obligations : o.obligations ≡ obligations_at (places_in p) (decisions_of p.subprograms) []
   pub files : are_files o.files ≡ true
   pub names : All FileFits o.files

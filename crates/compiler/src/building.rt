@@ -1,14 +1,12 @@
 //! From a legal program to its object, but for the closing digest.
 
-ghost use Rattle.std.specs.Prelude.{◌≡◌, [], IfOk, OnOk, map};
+ghost use Rattle.std.specs.Prelude.{◌≡◌, IfOk, map};
 ghost use Rattle.ada_tree.specs.Programs.{program_of};
-ghost use Rattle.assembler.specs.Reach.{AreItems};
 ghost use Rattle.compiler.specs.Built.{IsBuiltOf};
+ghost use Rattle.compiler.specs.Kernels.{IsImageOf};
 ghost use Rattle.compiler.specs.Made.{IsCompilable};
 ghost use Rattle.compiler.specs.Source.{entry_of_file};
-ghost use Rattle.kernel_code.specs.Pieces.{kernel_pieces};
-ghost use Rattle.linker.specs.Linked.{linked};
-ghost use Rattle.lower.specs.Lowered.{kernel_of};
+ghost use Rattle.lower.specs.Structured.{IsStructured};
 
 use ada_tree::Program;
 use codegen_rv32::generate;
@@ -25,7 +23,8 @@ pub(crate) fn object_of(
     files: &[SourceFile],
     program: &Program,
 ) -> Result<Object, AllocError>
-    requires { IsCompilable (program_of program.now) }
+    requires able { IsCompilable (program_of program.now) }
+    requires structured { IsStructured (program_of program.now) }
     ensures { IfOk result (IsBuiltOf files.now (program_of program.now)) }
 {
     let files = file_entries(alloc, files)?;
@@ -44,11 +43,11 @@ pub(crate) fn object_of(
     })
 }
 
-/// The image of a program: its linked machine code, without data.
+/// The image of a program: the linked machine code of its kernel, without data.
 fn image_of(alloc: Global, program: &Program) -> Result<Image, AllocError>
-    requires { IsCompilable (program_of program.now) }
-    ensures linked { IfOk result (λ image. image ≡ linked (kernel_pieces (kernel_of (program_of program.now))) []) }
-    ensures fits { OnOk result (AreItems (kernel_pieces (kernel_of (program_of program.now)))) }
+    requires able { IsCompilable (program_of program.now) }
+    requires structured { IsStructured (program_of program.now) }
+    ensures { IfOk result (IsImageOf (program_of program.now)) }
 {
     let kernel = lower(alloc, program)?;
     let pieces = generate(alloc, &kernel)?;

@@ -3,14 +3,14 @@
 ghost use Rattle.std.specs.Prelude.{◌≡◌, ◌+◌, ◌*◌, ◌≤◌, ℕ, List, true, length, map};
 ghost use Rattle.ada_meaning.specs.Program.{Program};
 ghost use Rattle.compiler.specs.Held.{HoldsImage};
+ghost use Rattle.compiler.specs.Kernels.{IsKernelOf};
 ghost use Rattle.compiler.specs.Made.{IsCompilable, IsMadeOf};
+ghost use Rattle.kernel_ir.specs.declared.kernel.Kernel.{Kernel};
 ghost use Rattle.parsed_programs.specs.Places.{AreInFiles};
 ghost use Rattle.cov_base.specs.declared.position.Pos.{Pos};
 ghost use Rattle.compiler.specs.Listed.{entry_at};
 ghost use Rattle.cov_base.specs.TextOrder.{rise};
-ghost use Rattle.lower.specs.Lowered.{kernel_of};
 ghost use Rattle.lower.specs.Sizes.{all_nodes};
-ghost use Rattle.lower.specs.Structured.{IsStructured};
 ghost use Rattle.object_format.specs.Fields.{are_statements};
 ghost use Rattle.object_format.specs.Read.{HasObject, is_plain};
 ghost use Rattle.object_format.specs.RoleCheck.{PassesRole};
@@ -35,6 +35,6 @@ pub fn rising_places_are_statements()
 
 /// The text of a program's image takes at most 240 bytes for each node, and 4,096 beside.
 pub fn texts_are_bounded()
-    ensures { (p : Program) (o : Object) (nodes : ℕ) → IsStructured p → HoldsImage (kernel_of p) o
+    ensures { (p : Program) (k : Kernel) (o : Object) (nodes : ℕ) → IsKernelOf p k → HoldsImage k o
         → all_nodes p.subprograms + length p.subprograms ≤ nodes → 4 * length o.text ≤ 240 * nodes + 4096 }
 {}

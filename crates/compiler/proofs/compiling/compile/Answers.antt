@@ -1,9 +1,12 @@
 use Rattle.ada_tree.specs.Programs.{program_of}
-use Rattle.compiler.proofs.Core.{able_law, written_law, made_law}
+use Rattle.compiler.proofs.Core.{able_law, structured_of, written_law, made_law}
 use Rattle.compiler.proofs.compiling.compile.Goals as goal
 
-pub object_of-object-requires : goal.object_of-object-requires
-object_of-object-requires c = able_law c.args.files.now c.args.main.now (program_of c.in_ok-program.program) c.in_ok-program.ensures.legal
+pub object_of-object-requires-clause-structured : goal.object_of-object-requires-clause-structured
+object_of-object-requires-clause-structured c = structured_of c.args.files.now c.args.main.now (program_of c.in_ok-program.program) c.in_ok-program.ensures.legal
+
+pub object_of-object-requires-clause-able : goal.object_of-object-requires-clause-able
+object_of-object-requires-clause-able c = able_law c.args.files.now c.args.main.now (program_of c.in_ok-program.program) c.in_ok-program.ensures.legal
 
 pub closed-requires : goal.closed-requires
 closed-requires c =

@@ -1,0 +1,43 @@
+-- What makes a kernel that of a program, and an image that of such a kernel.
+use Rattle.std.specs.Prelude.{◌≡◌, ◌≢◌, ℕ, ◌+◌, ◌*◌, ◌≤◌, ℤ, List, [], length, map, sum_by}
+use Rattle.ada_meaning.specs.Collected.{labels_of, decisions_of}
+use Rattle.ada_meaning.specs.Execution as source
+use Rattle.ada_meaning.specs.Program.{Program}
+use Rattle.ada_meaning.specs.Tree.{shape_of}
+use Rattle.assembler.specs.Reach.{AreItems}
+use Rattle.cov_base.specs.declared.position.DecId.{DecId}
+use Rattle.cov_base.specs.Graph.{Edges}
+use Rattle.cov_base.specs.Graph as logic
+use Rattle.cov_base.specs.Lists.{Everywhere}
+use Rattle.kernel_code.specs.Pieces.{kernel_pieces}
+use Rattle.kernel_ir.specs.declared.kernel.Kernel.{Kernel}
+use Rattle.kernel_ir.specs.Limits.{IsWellFormed, IsWithin, kernel_instructions}
+use Rattle.kernel_ir.specs.Meaning as code
+use Rattle.kernel_ir.specs.Obligations.{Condition, rows, conditions}
+use Rattle.linker.specs.Linked.{linked}
+use Rattle.linker.specs.declared.image.Image.{Image}
+use Rattle.lower.specs.Marked.{row_of, all_conditions}
+use Rattle.lower.specs.Same.{Same}
+use Rattle.lower.specs.Sizes.{all_nodes}
+
+-- A kernel is that of a program: under each fuel but 512 it ends as the program does, with the same events and output; it is well-formed where
+-- decisions have the graphs of their expressions; its rows are the program's statement obligations and its conditions those of its decisions;
+-- it has the predefined exceptions and the program's, and nothing stands at the library level so far; and it is small enough, for each node of
+-- the program.
+pub record IsKernelOf (p : Program) (k : Kernel) : Type 0 where
+  pub does : (fuel : ℕ) (input : List ℤ) → fuel ≢ source.deepest → Same (source.exec p fuel input) (code.exec k fuel input)
+  pub formed : (graph : DecId → List Edges) → Everywhere (λ h. graph (record { 0 = h.label.number }) ≡ logic.graph (shape_of h.test)) (decisions_of p.subprograms)
+      → IsWellFormed graph k
+  pub rows : rows k ≡ map row_of (labels_of p.subprograms)
+  pub conditions : (weight : Condition → ℕ) → sum_by weight (conditions k) ≡ sum_by weight (all_conditions (decisions_of p.subprograms))
+  pub exceptions : k.exceptions ≤ 4 + length p.exceptions
+  pub bare : k.library ≡ []
+  pub within : IsWithin k
+  pub short : (nodes : ℕ) → all_nodes p.subprograms + length p.subprograms ≤ nodes → 4 * kernel_instructions k ≤ 240 * nodes + 4096
+
+-- an image is that of a kernel of a program: its linked machine code, without data
+pub record IsImageOf (p : Program) (image : Image) : Type 0 where
+  pub kernel : Kernel
+  pub is_kernel : IsKernelOf p kernel
+  pub linked : image ≡ linked (kernel_pieces kernel) []
+  pub items : AreItems (kernel_pieces kernel)
