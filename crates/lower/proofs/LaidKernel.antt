@@ -37,6 +37,7 @@ use Rattle.lower.specs.Schemes.{address_in, library_standings, plan_by, plan_in,
 use Rattle.lower.specs.Standing.{AreTypesNamed, IsWithinLimits}
 use Rattle.lower.proofs.Copies.{body_is, number_is}
 use Rattle.lower.proofs.LaidProgram.{fit_law, small_law}
+use Rattle.lower.proofs.LibraryLaws.{IsLibraryLaid, library_laid}
 use Rattle.lower.proofs.Names.{body_parameters, names_are, stated}
 use Rattle.lower.proofs.Plans as plans
 use Rattle.lower.proofs.Types.{meant}
@@ -58,22 +59,10 @@ module _ (p : Program) where
   abbrev around : (j : ℕ) → Subprogram → Surroundings
   around j s = surroundings_in p (library_places p) (copies_of (program_of p)) (layouts_of p).laid j s
 
-  -- the library level of the kernel
-  pub record IsLibraryLaid : Type 0 where
-    pub apart : IsLibrary (library_standings p) scheme.low
-    pub above : data_word ≤ scheme.low
-    pub room : scheme.low + widest * 512 ≤ area_end
-    pub addressed : AreAddressed P (library_standings p) (address_in p) P.objects
-    pub objects : Everywhere (IsObjectOf P (address_in p)) (library_standings p)
-    pub begins : (input : List ℤ) → HasInitialWords P (address_in p) (code.begin K input).memory P.objects
-    pub library : Everywhere (λ o. (words o.shape ≤ most_words) × (o.address < data_word + length (library_words p))) (library_standings p)
-    pub word_sizes : Everywhere (λ word. word < 2 ^ 32) (library_words p)
-    pub library_few : length (library_words p) ≤ most_words
-    pub outside : (j : ℕ) (s : Subprogram) (o : type.Owner) (d : ℕ) → StartSees P j (subprogram_of (types_of p.types) s) (tree.library_object o d)
-        → (object_shape P j (subprogram_of (types_of p.types) s) (tree.library_object o d) ≡ shape_by (around j s) (tree.library_object o d))
-        × IsHome (home_by (around j s) (tree.library_object o d)) (address_in p (owner_in j o) d)
+  module _ (well : IsWellFormed P) (named : AreTypesNamed p) (limits : IsWithinLimits p) where
+    abbrev library : IsLibraryLaid p
+    library = library_laid p well limits.library
 
-  module _ (well : IsWellFormed P) (named : AreTypesNamed p) (limits : IsWithinLimits p) (library : IsLibraryLaid) where
     -- a body of the kernel
     module _ (j m : ℕ) (s : Subprogram) (at : slice_get p.subprograms m ≡ Some s) (stands : StandsIn P s.generic j) where
       abbrev declared : meaning.Subprogram

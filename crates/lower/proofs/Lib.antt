@@ -34,3 +34,9 @@ pub mod LaidProgram
 pub mod LaidSizes
 pub mod LaidTypes
 pub mod LaidKernel
+pub mod LibraryApart
+pub mod LibraryBegins
+pub mod LibraryLaws
+pub mod LibraryObjects
+pub mod LibraryPlaces
+pub mod LibrarySizes

@@ -9,15 +9,27 @@ ghost use Rattle.ada_meaning.specs.Obligations.{numbers};
 ghost use Rattle.ada_meaning.specs.Tree.{shape_of, conditions_of};
 ghost use Rattle.cov_base.specs.Graph.{Edges};
 ghost use Rattle.cov_base.specs.Graph as logic;
+ghost use Rattle.ada_meaning.specs.WellFormed.{IsWellFormed as IsWellFormedProgram};
+ghost use Rattle.ada_tree.specs.declared.program.Program.{Program as TypedProgram};
+ghost use Rattle.ada_tree.specs.Programs.{program_of};
 ghost use Rattle.cov_base.specs.Lists.{Everywhere};
+ghost use Rattle.generic_expand.specs.Expanded.{copies_of};
+ghost use Rattle.generic_expand.specs.Limits.{types_weight};
+ghost use Rattle.statement_code.specs.Copies.{AreCovered};
+ghost use Rattle.statement_code.specs.Kernels.{IsWhole};
+ghost use Rattle.statement_code.specs.Laid.{IsLaidKernel};
+ghost use Rattle.storage_layout.specs.Layouts.{HasWord, layouts_of};
 ghost use Rattle.kernel_ir.specs.Limits.{IsWellFormed, IsWithin, kernel_instructions};
 ghost use Rattle.kernel_ir.specs.Meaning as code;
 ghost use Rattle.kernel_ir.specs.Obligations.{Condition, rows, conditions};
 ghost use Rattle.lower.specs.AllFuels.{Follows};
+ghost use Rattle.lower.specs.Kernel.{kernel_for};
 ghost use Rattle.lower.specs.Lowered.{kernel_of};
 ghost use Rattle.lower.specs.Marked.{row_of, all_conditions};
 ghost use Rattle.lower.specs.Same.{Same};
+ghost use Rattle.lower.specs.Schemes.{scheme_for};
 ghost use Rattle.lower.specs.Sizes.{all_nodes};
+ghost use Rattle.lower.specs.Standing.{AreTypesNamed, IsWithinLimits};
 ghost use Rattle.lower.specs.Structured.{IsStructured};
 
 /// Under each fuel but 512, which is the greatest depth of calls, a structured program and its
@@ -63,4 +75,17 @@ pub fn kernels_are_small()
         → kernel_instructions (kernel_of p) ≤ 28 * all_nodes p.subprograms + 8 * length p.subprograms + 16 }
     ensures within { (p : Program) → IsStructured p → all_nodes p.subprograms + length p.subprograms ≤ 4096
         → IsWithin (kernel_of p) }
+{}
+
+/// The kernel of a well-formed program within the limits is laid out: its bodies are those of the program, in
+/// their order, each in its frame; the library level stands below all frames and has its initial words; each
+/// type has its layout. So it is whole, and what `statement_code` proves of whole kernels holds of it.
+pub fn kernels_are_laid()
+    ensures laid { (p : TypedProgram) → IsWellFormedProgram (program_of p) → AreTypesNamed p → IsWithinLimits p
+        → Everywhere HasWord (layouts_of p).layouts
+        → IsLaidKernel (program_of p) (kernel_for p (copies_of (program_of p))) (scheme_for p (copies_of (program_of p))) }
+    ensures whole { (p : TypedProgram) → IsWellFormedProgram (program_of p) → AreTypesNamed p → IsWithinLimits p
+        → Everywhere HasWord (layouts_of p).layouts
+        → IsWhole (program_of p) (kernel_for p (copies_of (program_of p))) (scheme_for p (copies_of (program_of p))) }
+    ensures covered { (p : TypedProgram) → AreCovered (layouts_of p).layouts (types_weight p) }
 {}
