@@ -1,5 +1,5 @@
 -- The object that is built of a legal program and its sources is the sources' object, and cheap.
-use Rattle.std.proofs.Common.{◌≡◌, ℕ, ◌+◌, ◌≤◌, ◌<◌, ◌&&◌, Bool, true, false, nat_lt, nat_le, List, [], ◌∷◌, length, map, sum_by, fold, Some, None, All, if◌then◌else◌, refl, sym, ap, ◌∙◌, subst, arith}
+use Rattle.std.proofs.Common.{◌≡◌, ℕ, ◌≤◌, ◌<◌, ◌&&◌, Bool, true, nat_lt, nat_le, List, [], ◌∷◌, length, map, sum_by, Some, None, All, refl, sym, ap, ◌∙◌, subst, arith}
 use Rattle.std.specs.List.{list_all, AllByRecursion}
 use Rattle.std.specs.Str.{is_utf8}
 use Rattle.std.proofs.lemmas.Bool.Decides.{nat_tests}
@@ -12,6 +12,7 @@ use Rattle.ada_types.specs.Checked.{entry_of}
 use Rattle.ada_types.specs.Legal.{elaborated}
 use Rattle.ada_places.specs.Places.{places_of, decision_places, unit_conditions}
 use Rattle.compiler.proofs.Legal.{compilable_law, made_of, passes_law, behaves_law, in_time_law}
+use Rattle.compiler.proofs.FewNodes.{few_units}
 use Rattle.compiler.proofs.MarksOf.{marks_law}
 use Rattle.compiler.proofs.Placing.{text_bound}
 use Rattle.compiler.specs.Built.{HasPlainName, CanBeNamed, AreLegal, IsBuiltOf}
@@ -20,8 +21,7 @@ use Rattle.compiler.specs.Made.{IsCompilable}
 use Rattle.compiler.specs.Source.{entry_of_file, IsObjectOf, IsCheap}
 use Rattle.cov_base.specs.declared.obligations.SourceFile.{SourceFile}
 use Rattle.cov_base.specs.declared.position.Pos.{Pos}
-use Rattle.ada_tree.specs.declared.program.UnitEntry.{UnitEntry}
-use Rattle.generic_expand.specs.Expanded.{node_limit, past_nodes, first_past}
+use Rattle.generic_expand.specs.Expanded.{first_past}
 use Rattle.compiler.proofs.PlainPrograms.{nodes_law, structured_law}
 use Rattle.lower.specs.Structured.{IsStructured}
 use Rattle.ada_places.specs.Rising.{StatementsRise, DecisionsRise}
@@ -36,24 +36,6 @@ use Rattle.compiler.specs.Units.{HaveUnits}
 
 both_hold : (a b : Bool) → a ≡ true → b ≡ true → (a && b) ≡ true
 both_hold a b p q = rw (p, q) refl
-
--- units that never pass the limit are within it
-
-within_limit : (n more : ℕ) → nat_lt node_limit (n + more) ≡ false → n + more ≤ node_limit
-within_limit n more past = grind (arith, nat_tests)
-
-few_from : (all : List UnitEntry) (n : ℕ) (units : List LibraryUnit) → n ≤ node_limit → past_nodes all n (map entry_of units) ≡ None → fold (λ a u. a + capped (unit_nodes u)) n units ≤ node_limit
-few_from all n [] low none = low
-few_from all n (u ∷ us) low none = by_test (nat_lt node_limit (n + capped (unit_nodes u))) refl none (λ low none. few_from all (n + capped (unit_nodes u)) us low none)
-  where
-    by_test : (b : Bool) → nat_lt node_limit (n + capped (unit_nodes u)) ≡ b → (if b then Some u.pos else past_nodes all (n + capped (unit_nodes u)) (map entry_of us)) ≡ None
-        → (n + capped (unit_nodes u) ≤ node_limit → past_nodes all (n + capped (unit_nodes u)) (map entry_of us) ≡ None → fold (λ a v. a + capped (unit_nodes v)) (n + capped (unit_nodes u)) us ≤ node_limit)
-        → fold (λ a v. a + capped (unit_nodes v)) (n + capped (unit_nodes u)) us ≤ node_limit
-    by_test true past found later = absurd (let x : ⊥ = cc found in x)
-    by_test false past found later = later (within_limit n (capped (unit_nodes u)) past) found
-
-few_units : (units : List LibraryUnit) → first_past 0 (map entry_of units) ≡ None → sum_by (λ u. capped (unit_nodes u)) units ≤ 4096
-few_units units none = few_from (map entry_of units) 0 units (omega arith) none
 
 -- the sources as files of the object
 

@@ -8,6 +8,7 @@ use Rattle.std.proofs.lemmas.List.Sums.{sum_by-append, sum_by-cons}
 use Rattle.ada_meaning.specs.Collected.{Decision}
 use Rattle.ada_meaning.specs.Obligations.{numbers, decision_entry}
 use Rattle.ada_meaning.specs.Tree.{shape_of, conditions_of}
+use Rattle.compiler.proofs.Numbers.{numbers_long}
 use Rattle.compiler.proofs.Conditions.{named}
 use Rattle.compiler.proofs.Counts.{of_item, of_each_item, both_lists, sum_of_map, sum_of_ones, Tells, hits_itself, counted_there, there_counted, none_twice}
 use Rattle.compiler.proofs.DecisionEntries.{size_positive, numbered_from, first_number, numbers_behind, count_at}
@@ -164,10 +165,6 @@ due_known all (h ∷ hs) each =
     both_lists (IsOf (map decision_entry all)) (own h.label.number 0 (conditions_of h.test)) (due hs)
     (own_known (map decision_entry all) h.label.number (conditions_of h.test) 0 (conditions_of h.test) (count_at all h.label.number h each.0) (omega arith))
     (due_known all hs each.1)
-
-numbers_long : (from count : ℕ) → length (numbers from count) ≡ count
-numbers_long from zero = refl
-numbers_long from (suc count) = ap (λ n. suc n) (numbers_long (suc from) count)
 
 own_long : (d count : ℕ) → length (own d 0 count) ≡ count
 own_long d count = length-map {B = Numbers} (numbers 0 count) (λ n. ((d, 0), n)) ∙ numbers_long 0 count

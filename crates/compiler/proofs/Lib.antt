@@ -17,6 +17,14 @@ pub mod Refusals
 pub mod Checked
 pub mod Placeable
 pub mod Options
+pub mod FormedExpressions
+pub mod FormedDeclarations
+pub mod FormedStatements
+pub mod FormedPrograms
+pub mod FewNodes
+pub mod FormedSizes
+pub mod FormedTrees
+pub mod WellFormed
 pub mod PlainExpressions
 pub mod PlainDeclarations
 pub mod PlainStatements

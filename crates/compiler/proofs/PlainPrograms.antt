@@ -13,7 +13,6 @@ use Rattle.ada_syntax.specs.declared.unit.LibraryItem.{LibraryItem}
 use Rattle.ada_syntax.specs.declared.unit.LibraryItem.TheVariants as item
 use Rattle.ada_syntax.specs.declared.unit.Unit.{Unit as LibraryUnit}
 use Rattle.ada_meaning.specs.Objects.{block_objects}
-use Rattle.cov_base.specs.TextOrder.{precedes}
 use Rattle.ada_meaning.specs.Program.{Subprogram, Program}
 use Rattle.ada_meaning.specs.Tree as tree
 use Rattle.ada_names.specs.Names.{Region}
@@ -23,9 +22,11 @@ use Rattle.ada_places.specs.declared.places.Places.{Places}
 use Rattle.ada_places.specs.Places.{decisions_of_units, first_wide, all_places_of}
 use Rattle.ada_tree.specs.View.{statements_of}
 use Rattle.ada_types.specs.Typing.{Elaborated, declared_by_all, is_plain_item, procedure_of, context_of, typed_unit, typed_units, block_words, too_many_words}
-use Rattle.ada_types.specs.Legal.{typed, program_with, earlier, past_limits, within_limits, program_of_main, typed_program, elaborated}
+use Rattle.ada_types.specs.Legal.{typed, program_with, past_limits, within_limits, program_of_main, typed_program, elaborated}
 use Rattle.lower.specs.Sizes as size
 use Rattle.lower.specs.Structured.{most_objects, behind_all, IsPlainBlock, IsPlainProcedure, IsStructured}
+use Rattle.compiler.proofs.FewNodes.{not_capped}
+use Rattle.compiler.proofs.FormedPrograms.{neither}
 use Rattle.compiler.proofs.Options.{if_then, if_map, if_test, if_each, of_some}
 use Rattle.compiler.proofs.PlainDeclarations.{AreElaborated, declarations_elaborated}
 use Rattle.compiler.proofs.PlainStatements.{AreOf, statements_typed, declared_in_block}
@@ -94,16 +95,6 @@ module _ (p : Program) where
         size = let one = first.size in let more = rest.size in let all = sum_by-cons text.unit_nodes u us in omega (arith, one, more, all);
         as_many = ap suc rest.as_many;
       }))
-
--- what lets a program pass both limits
-pub neither : (o r : Option Pos) → is_none (earlier o r) ≡ true → (is_none o ≡ true) × (is_none r ≡ true)
-neither None r h = (refl, h)
-neither (Some p) None h = absurd (cc h)
-neither (Some p) (Some q) h = one (precedes q p) h
-  where
-    one : (b : Bool) → is_none (if b then Some q else Some p) ≡ true → (is_none (Some p) ≡ true) × (is_none (Some q) ≡ true)
-    one true h = absurd (cc h)
-    one false h = absurd (cc h)
 
 -- subprograms of units none of which declares too many words
 few_words : (words : ℕ) (b : Bool) (q : Pos) (rest : Option Pos) → nat_le words most_objects ≡ b → is_none (if b then rest else Some q) ≡ true
@@ -182,15 +173,6 @@ pub nodes_law : (us : List LibraryUnit) (main : List ℕ) (p : Program) → elab
 nodes_law us main p h = (plain_facts us main p h).units.size
 
 -- nodes within a limit
-not_capped : (us : List LibraryUnit) (limit : ℕ) → limit < 2 ^ 32 - 1 → sum_by (λ u. text.capped (text.unit_nodes u)) us ≤ limit
-    → sum_by text.unit_nodes us ≤ sum_by (λ u. text.capped (text.unit_nodes u)) us
-not_capped [] limit is few = omega (arith)
-not_capped (u ∷ us) limit is few =
-    let counted = sum_by-cons (λ u. text.capped (text.unit_nodes u)) u us in
-    let all = sum_by-cons text.unit_nodes u us in
-    let rest = not_capped us limit is (omega (arith, counted, few)) in
-    omega (arith, counted, all, rest, few, is)
-
 pub limit_law : (us : List LibraryUnit) (main : List ℕ) (p : Program) (limit : ℕ) → elaborated us main ≡ Some p → limit < 2 ^ 32 - 1
     → sum_by (λ u. text.capped (text.unit_nodes u)) us ≤ limit → size.all_nodes p.subprograms + length p.subprograms ≤ limit
 limit_law us main p limit h is few =

@@ -1,7 +1,7 @@
 //! What legal programs are like: laws over the typed program of units (Ada RM 2012, 10.1, 10.2). The
 //! functions here do nothing: each carries a law of the definitions as its contract.
 
-ghost use Rattle.std.specs.Prelude.{◌≡◌, ◌≤◌, ◌<◌, ◌+◌, ◌-◌, ◌^◌, ℕ, true, List, [], ◌∷◌, Some, length, map, sum_by};
+ghost use Rattle.std.specs.Prelude.{◌≡◌, ◌≤◌, ◌<◌, ◌+◌, ◌-◌, ◌^◌, ℕ, true, List, [], ◌∷◌, None, Some, length, map, sum_by};
 ghost use Rattle.ada_syntax.specs.Nodes.{capped, unit_nodes};
 ghost use Rattle.ada_syntax.specs.declared.unit.Unit.{Unit as LibraryUnit};
 ghost use Rattle.cov_base.specs.declared.obligations.Region.{Region};
@@ -12,13 +12,19 @@ ghost use Rattle.ada_meaning.specs.Objects.{IsDeclaredOnce};
 ghost use Rattle.ada_meaning.specs.Obligations.{numbers, obligations_of, ordered_labels, ordered_decisions, IsNumbered, IsResolved};
 ghost use Rattle.ada_meaning.specs.Program.{Program};
 ghost use Rattle.ada_meaning.specs.Tree.{shape_of, conditions_of};
+ghost use Rattle.ada_meaning.specs.WellFormed.{IsWellFormed};
 ghost use Rattle.ada_places.specs.Places.{label_at, label_of_found, most_conditions, places_of, decisions_of_units, decision_places};
+ghost use Rattle.ada_tree.specs.declared.program.Program.{Program as TypedProgram};
+ghost use Rattle.ada_tree.specs.Programs.{program_of};
+ghost use Rattle.ada_types.specs.Checked.{entry_of};
 ghost use Rattle.cov_base.specs.Expr.{negates_once};
 ghost use Rattle.ada_types.specs.Legal.{elaborated};
 ghost use Rattle.compiler.specs.Listed.{obligations_at, row_at};
 ghost use Rattle.ada_places.specs.Rising.{DecisionsRise, StatementsRise};
+ghost use Rattle.generic_expand.specs.Expanded.{first_past};
 ghost use Rattle.lower.specs.Marked.{row_of};
 ghost use Rattle.lower.specs.Sizes.{all_nodes};
+ghost use Rattle.lower.specs.Standing.{AreTypesNamed, IsWithinLimits};
 ghost use Rattle.lower.specs.Structured.{IsStructured};
 
 /// A legal program has procedures without parameters, with objects of one word whose values are in the
@@ -75,6 +81,26 @@ pub fn legal_programs_are_numbered()
         → ordered_decisions p ≡ decisions_of p.subprograms }
     ensures resolved { (units : List LibraryUnit) (main : List ℕ) (p : Program) → elaborated units main ≡ Some p → IsResolved p }
     ensures declared_once { (units : List LibraryUnit) (main : List ℕ) (p : Program) → elaborated units main ≡ Some p → IsDeclaredOnce p }
+{}
+
+/// A legal program is well-formed, where the places of its statements and decisions rise: its numbers are
+/// those of its declarations and obligations; its names denote what is visible where they stand; its
+/// objects, values and actuals are scalar, with bounds in the base range; exits stand in loops; and its
+/// main procedure has no parameters.
+pub fn legal_programs_are_well_formed()
+    ensures { (units : List LibraryUnit) (main : List ℕ) (p : Program) → elaborated units main ≡ Some p
+        → StatementsRise units → DecisionsRise units → IsWellFormed p }
+{}
+
+/// The typed tree of a legal program, in which there are no composite types, names its types where they
+/// stand. Where its units are within the limit on nodes, it is within all limits: on declared words, on
+/// the nodes of a body, on the words of the library level and on exceptions.
+pub fn legal_programs_are_within_limits()
+    ensures named { (units : List LibraryUnit) (main : List ℕ) (t : TypedProgram)
+        → elaborated units main ≡ Some (program_of t) → t.types ≡ [] → AreTypesNamed t }
+    ensures limits { (units : List LibraryUnit) (main : List ℕ) (t : TypedProgram)
+        → elaborated units main ≡ Some (program_of t) → t.types ≡ [] → first_past 0 (map entry_of units) ≡ None
+        → IsWithinLimits t }
 {}
 
 /// The obligations of a legal program are its statements, at the places of the text, and its decisions,
