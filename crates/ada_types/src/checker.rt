@@ -178,6 +178,7 @@ fn program_of_main(
 ) -> Program
     ensures program { program_of result ≡ program_with main (map (subprogram_of []) subprograms.items) }
     ensures units { result.units ≡ units.items }
+    ensures types { result.types ≡ [] }
     ensures bodies { entries_of result.subprograms ≡ entries_of subprograms.items }
 {
     Program {
@@ -203,6 +204,7 @@ fn program_of_named(
     requires { named.now.library ≡ library_of units.now }
     ensures program { IfOk result (λ p. legal.program_of_main units.now named.now.main ≡ Some (program_of p)) }
     ensures units { IfOk result (λ p. p.units ≡ map entry_of units.now) }
+    ensures types { IfOk result (λ p. p.types ≡ []) }
     ensures bodies { IfOk result (λ p. entries_of p.subprograms ≡ map body_of units.now) }
     ensures refused { IfErr result (λ f. (main : List ℕ) → naming.named units.now main ≡ true → Refuses units.now main f) }
 {
@@ -217,6 +219,7 @@ fn check_lower(alloc: Global, units: &[Unit], main: &[u8]) -> Result<Program, Fa
     ensures named { IfOk result (λ _. naming.named units.now main.now ≡ true) }
     ensures program { IfOk result (λ p. legal.typed_program units.now main.now ≡ Some (program_of p)) }
     ensures units { IfOk result (λ p. p.units ≡ map entry_of units.now) }
+    ensures types { IfOk result (λ p. p.types ≡ []) }
     ensures bodies { IfOk result (λ p. entries_of p.subprograms ≡ map body_of units.now) }
     ensures refused { IfErr result (Refuses units.now main.now) }
 {
@@ -225,11 +228,13 @@ fn check_lower(alloc: Global, units: &[Unit], main: &[u8]) -> Result<Program, Fa
 }
 
 /// The program of these units whose main procedure has this name, where case does not count. Rules on
-/// names come first, over all units, then those on types, and then the limits.
+/// names come first, over all units, then those on types, and then the limits. So far it has no composite
+/// types.
 #[tactic(auto, using(crate::proofs::Programs::refusals))]
 pub fn check(alloc: Global, units: &[Unit], main: &str) -> Result<Program, Failure<CheckFault>>
     ensures program { IfOk result (λ p. elaborated units.now main.now ≡ Some (program_of p)) }
     ensures units { IfOk result (λ p. p.units ≡ map entry_of units.now) }
+    ensures types { IfOk result (λ p. p.types ≡ []) }
     ensures bodies { IfOk result (λ p. entries_of p.subprograms ≡ map body_of units.now) }
     ensures refused { IfErr result (Refuses units.now (str_to_ascii_lowercase main.now)) }
 {

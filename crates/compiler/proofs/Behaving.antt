@@ -18,8 +18,9 @@ use Rattle.ada_meaning.proofs.FuelExecution.{more_fuel_law as source_more}
 use Rattle.object_facts.specs.Object.{facts_of}
 use Rattle.object_format.specs.declared.object.Object.{Object}
 use Rattle.rv_machine.specs.Objects.{object_run}
-use Rattle.lower.specs.Same.{Observed, Same}
-use Rattle.lower.proofs.AllFuels.{fuel_from, none_some, some_is, ended_stays}
+use Rattle.statement_code.specs.Frames.{Observed}
+use Rattle.statement_code.specs.Programs.{Same}
+use Rattle.statement_code.proofs.AllFuels.{fuel_from, none_some, some_is, ended_stays}
 use Rattle.rv_semantics.specs.Run.{Run}
 use Rattle.transcript.specs.Facts.{Facts}
 use Rattle.rv_semantics.specs.Run.Outcome.{Ended}

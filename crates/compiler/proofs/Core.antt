@@ -1,5 +1,5 @@
 -- The object that is built of a legal program and its sources is the sources' object, and cheap.
-use Rattle.std.proofs.Common.{◌≡◌, ℕ, ◌+◌, ◌≤◌, ◌<◌, ◌&&◌, Bool, true, false, nat_lt, nat_le, List, [], ◌∷◌, length, map, sum_by, fold, Some, None, All, if◌then◌else◌, refl, sym, ap, ◌∙◌, subst, arith}
+use Rattle.std.proofs.Common.{◌≡◌, ℕ, ◌≤◌, ◌<◌, ◌&&◌, Bool, true, nat_lt, nat_le, List, [], ◌∷◌, length, map, sum_by, Some, None, All, refl, sym, ap, ◌∙◌, subst, arith}
 use Rattle.std.specs.List.{list_all, AllByRecursion}
 use Rattle.std.specs.Str.{is_utf8}
 use Rattle.std.proofs.lemmas.Bool.Decides.{nat_tests}
@@ -12,6 +12,7 @@ use Rattle.ada_types.specs.Checked.{entry_of}
 use Rattle.ada_types.specs.Legal.{elaborated}
 use Rattle.ada_places.specs.Places.{places_of, decision_places, unit_conditions}
 use Rattle.compiler.proofs.Legal.{compilable_law, made_of, passes_law, behaves_law, in_time_law}
+use Rattle.compiler.proofs.FewNodes.{few_units}
 use Rattle.compiler.proofs.MarksOf.{marks_law}
 use Rattle.compiler.proofs.Placing.{text_bound}
 use Rattle.compiler.specs.Built.{HasPlainName, CanBeNamed, AreLegal, IsBuiltOf}
@@ -20,10 +21,11 @@ use Rattle.compiler.specs.Made.{IsCompilable}
 use Rattle.compiler.specs.Source.{entry_of_file, IsObjectOf, IsCheap}
 use Rattle.cov_base.specs.declared.obligations.SourceFile.{SourceFile}
 use Rattle.cov_base.specs.declared.position.Pos.{Pos}
-use Rattle.ada_tree.specs.declared.program.UnitEntry.{UnitEntry}
-use Rattle.generic_expand.specs.Expanded.{node_limit, past_nodes, first_past}
-use Rattle.compiler.proofs.PlainPrograms.{nodes_law, structured_law}
-use Rattle.lower.specs.Structured.{IsStructured}
+use Rattle.generic_expand.specs.Expanded.{first_past}
+use Rattle.ada_tree.specs.declared.program.Program.{Program as TypedProgram}
+use Rattle.ada_tree.specs.Programs.{program_of}
+use Rattle.compiler.specs.Kernels.{CanBeLaid}
+use Rattle.compiler.proofs.LaidPrograms.{laid_law, nodes_law}
 use Rattle.ada_places.specs.Rising.{StatementsRise, DecisionsRise}
 use Rattle.object_format.specs.Counts.{FileFits}
 use Rattle.object_format.specs.Fields.{are_files}
@@ -36,24 +38,6 @@ use Rattle.compiler.specs.Units.{HaveUnits}
 
 both_hold : (a b : Bool) → a ≡ true → b ≡ true → (a && b) ≡ true
 both_hold a b p q = rw (p, q) refl
-
--- units that never pass the limit are within it
-
-within_limit : (n more : ℕ) → nat_lt node_limit (n + more) ≡ false → n + more ≤ node_limit
-within_limit n more past = grind (arith, nat_tests)
-
-few_from : (all : List UnitEntry) (n : ℕ) (units : List LibraryUnit) → n ≤ node_limit → past_nodes all n (map entry_of units) ≡ None → fold (λ a u. a + capped (unit_nodes u)) n units ≤ node_limit
-few_from all n [] low none = low
-few_from all n (u ∷ us) low none = by_test (nat_lt node_limit (n + capped (unit_nodes u))) refl none (λ low none. few_from all (n + capped (unit_nodes u)) us low none)
-  where
-    by_test : (b : Bool) → nat_lt node_limit (n + capped (unit_nodes u)) ≡ b → (if b then Some u.pos else past_nodes all (n + capped (unit_nodes u)) (map entry_of us)) ≡ None
-        → (n + capped (unit_nodes u) ≤ node_limit → past_nodes all (n + capped (unit_nodes u)) (map entry_of us) ≡ None → fold (λ a v. a + capped (unit_nodes v)) (n + capped (unit_nodes u)) us ≤ node_limit)
-        → fold (λ a v. a + capped (unit_nodes v)) (n + capped (unit_nodes u)) us ≤ node_limit
-    by_test true past found later = absurd (let x : ⊥ = cc found in x)
-    by_test false past found later = later (within_limit n (capped (unit_nodes u)) past) found
-
-few_units : (units : List LibraryUnit) → first_past 0 (map entry_of units) ≡ None → sum_by (λ u. capped (unit_nodes u)) units ≤ 4096
-few_units units none = few_from (map entry_of units) 0 units (omega arith) none
 
 -- the sources as files of the object
 
@@ -168,8 +152,8 @@ legal_of files units read main p parsed rises decisions_rise within decisions co
   small = ap (λ us. first_past 0 (map entry_of us)) (sym are) ∙ small;
 }
 
-pub structured_of : (files : List SourceFile) (main : List ℕ) (p : Program) → AreLegal files main p → IsStructured p
-structured_of files main p legal = structured_law legal.units main p legal.elaborated
+pub laid_of : (files : List SourceFile) (main : List ℕ) (t : TypedProgram) → AreLegal files main (program_of t) → t.types ≡ [] → CanBeLaid t
+laid_of files main t legal flat = laid_law legal.units main t legal.elaborated flat legal.rising legal.decisions_rising legal.small
 
 pub able_law : (files : List SourceFile) (main : List ℕ) (p : Program) → AreLegal files main p → IsCompilable p
 able_law files main p legal = compilable_law legal.units main p legal.elaborated legal.rising legal.decisions_rising (few_units legal.units legal.small)

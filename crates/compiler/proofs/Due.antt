@@ -8,13 +8,14 @@ use Rattle.std.proofs.lemmas.List.Sums.{sum_by-append, sum_by-cons}
 use Rattle.ada_meaning.specs.Collected.{Decision}
 use Rattle.ada_meaning.specs.Obligations.{numbers, decision_entry}
 use Rattle.ada_meaning.specs.Tree.{shape_of, conditions_of}
+use Rattle.compiler.proofs.Numbers.{numbers_long}
 use Rattle.compiler.proofs.Conditions.{named}
 use Rattle.compiler.proofs.Counts.{of_item, of_each_item, both_lists, sum_of_map, sum_of_ones, Tells, hits_itself, counted_there, there_counted, none_twice}
 use Rattle.compiler.proofs.DecisionEntries.{size_positive, numbered_from, first_number, numbers_behind, count_at}
 use Rattle.cov_base.specs.declared.obligations.DecEntry.{DecEntry}
 use Rattle.cov_base.specs.Lists.{Everywhere}
 use Rattle.kernel_ir.specs.Obligations.{Condition}
-use Rattle.lower.specs.Marked as marked
+use Rattle.statement_code.specs.Fragments.{condition_in, conditions_in}
 use Rattle.object_format.specs.Fields.{condition_count}
 
 -- the numbers of a condition
@@ -57,10 +58,10 @@ named_own : (d : ℕ) (ns : List ℕ) → map named (map (λ n. record { decisio
 named_own d [] = refl
 named_own d (n ∷ ns) = ap (λ cs. ((d, 0), n) ∷ cs) (named_own d ns)
 
-pub named_due : (hs : List Decision) → map named (marked.all_conditions hs) ≡ due hs
+pub named_due : (hs : List Decision) → map named (conditions_in 0 hs) ≡ due hs
 named_due [] = refl
 named_due (h ∷ hs) =
-    map-append named (marked.conditions_of h) (marked.all_conditions hs)
+    map-append named (map (condition_in 0 h.label.number) (numbers 0 (conditions_of h.test))) (conditions_in 0 hs)
     ∙ (λ k. named_own h.label.number (numbers 0 (conditions_of h.test)) k ++ named_due hs k)
 
 -- those of one decision
@@ -165,10 +166,6 @@ due_known all (h ∷ hs) each =
     (own_known (map decision_entry all) h.label.number (conditions_of h.test) 0 (conditions_of h.test) (count_at all h.label.number h each.0) (omega arith))
     (due_known all hs each.1)
 
-numbers_long : (from count : ℕ) → length (numbers from count) ≡ count
-numbers_long from zero = refl
-numbers_long from (suc count) = ap (λ n. suc n) (numbers_long (suc from) count)
-
 own_long : (d count : ℕ) → length (own d 0 count) ≡ count
 own_long d count = length-map {B = Numbers} (numbers 0 count) (λ n. ((d, 0), n)) ∙ numbers_long 0 count
 
@@ -228,8 +225,8 @@ module _ (hs : List Decision) (found : List Numbers) (are : AreNumbered 0 hs) (w
   }
 
 -- conditions that weigh as much as those of the decisions do, whatever each weighs
-pub found_law : (hs : List Decision) (cs : List Condition) → AreNumbered 0 hs → ((weight : Condition → ℕ) → sum_by weight cs ≡ sum_by weight (marked.all_conditions hs))
+pub found_law : (hs : List Decision) (cs : List Condition) → AreNumbered 0 hs → ((weight : Condition → ℕ) → sum_by weight cs ≡ sum_by weight (conditions_in 0 hs))
     → HaveConditions hs (map named cs)
 found_law hs cs are weighs =
     found_are_due hs (map named cs) are
-    (λ weight. sum_of_map weight named cs ∙ weighs (λ c. weight (named c)) ∙ sym (sum_of_map weight named (marked.all_conditions hs)) ∙ ap (sum_by weight) (named_due hs))
+    (λ weight. sum_of_map weight named cs ∙ weighs (λ c. weight (named c)) ∙ sym (sum_of_map weight named (conditions_in 0 hs)) ∙ ap (sum_by weight) (named_due hs))

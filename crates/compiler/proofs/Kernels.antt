@@ -1,44 +1,73 @@
--- The kernel that `lower` gives for a structured program is one of the program.
-use Rattle.std.proofs.Common.{◌≡◌, ℕ, ◌+◌, List, [], length, map, Result, Ok, Err, IfOk, OnOk, refl, sym, ap, ◌∙◌, subst, arith, length-append}
+-- A whole kernel is one of its program, and its image one of the program.
+use Rattle.std.proofs.Common.{◌≡◌, ℕ, zero, suc, ◌+◌, List, [], ◌++◌, length, map, sum_by, Result, Ok, Err, IfOk, OnOk, refl, sym, ap, ◌∙◌, subst, arith, length-append}
 use Rattle.std.proofs.lemmas.List.{length-map}
 use Rattle.std.specs.declared.alloc.AllocError.{AllocError}
 use Rattle.ada_meaning.specs.Obligations.{obligations_of, predefined_names, ordered_exceptions, ListedException}
+use Rattle.ada_meaning.specs.Execution as source
 use Rattle.ada_meaning.specs.Program.{Program}
-use Rattle.compiler.proofs.Placing.{numbers_law}
+use Rattle.ada_tree.specs.declared.program.LibraryObject.{LibraryObject}
+use Rattle.ada_tree.specs.declared.program.Program.{Program as TypedProgram}
+use Rattle.ada_tree.specs.declared.types.TypeDeclaration.{TypeDeclaration}
+use Rattle.ada_tree.specs.Programs.{program_of}
 use Rattle.assembler.specs.Reach.{AreItems}
 use Rattle.assembler.specs.declared.piece.Piece.{Piece}
 use Rattle.compiler.specs.Held.{HoldsImage}
-use Rattle.compiler.specs.Kernels.{IsImageOf, IsKernelOf}
+use Rattle.compiler.specs.Kernels.{CanBeLaid, IsImageOf, IsKernelOf}
 use Rattle.compiler.specs.Made.{IsCompilable}
 use Rattle.cov_base.specs.declared.obligations.Obligations.{Obligations}
+use Rattle.cov_base.specs.Lists.{Everywhere}
+use Rattle.generic_expand.specs.Expanded.{copies_of}
 use Rattle.kernel_code.specs.Pieces.{kernel_pieces}
 use Rattle.kernel_ir.specs.declared.kernel.Kernel.{Kernel}
 use Rattle.linker.specs.Linked.{linked}
 use Rattle.linker.specs.declared.image.Image.{Image}
 use Rattle.object_format.specs.declared.object.Object.{Object}
-use Rattle.lower.proofs.Fits.{well_formed_law}
-use Rattle.lower.proofs.Follows.{same_law}
-use Rattle.lower.proofs.Marks.{rows_law, conditions_law}
-use Rattle.lower.proofs.Small.{within_law, short_law}
-use Rattle.lower.specs.Lowered.{kernel_of}
-use Rattle.lower.specs.Structured.{IsStructured}
+use Rattle.kernel_ir.specs.declared.kernel.Layout.{Layout}
+use Rattle.lower.specs.Kernel.{kernel_for}
+use Rattle.lower.specs.Schemes.{scheme_for}
+use Rattle.lower.proofs.LaidKernel.{kernel_law as laid_law}
+use Rattle.statement_code.specs.Copies.{AreCovered}
+use Rattle.statement_code.specs.Kernels.{AreOutside, IsWhole, Scheme}
+use Rattle.statement_code.proofs.AllFuels.{kernel_law}
+use Rattle.statement_code.proofs.Kernels.{bytes_law, conditions_law, rows_law, well_formed_law, within_law}
+use Rattle.statement_code.proofs.Laid.{whole_law}
+use Rattle.storage_layout.specs.Layouts.{HasWord, no_layouts, with_types}
+use Rattle.storage_layout.specs.Library.{all_words_in, words_of_instances}
+use Rattle.statement_code.proofs.Once.{conditions_once, nodes_once, rows_once}
+use Rattle.statement_code.proofs.Own.{own_law}
 
-lowered : (p : Program) → IsCompilable p → IsStructured p → IsKernelOf p (kernel_of p)
-lowered p able plain =
-    let within = within_law p plain able.few in
+-- a whole kernel of a program that can be compiled, with nothing at the library level and no layouts
+pub whole_kernel : (p : Program) (k : Kernel) (s : Scheme) → IsCompilable p → AreOutside p.subprograms → IsWhole p k s → k.library ≡ [] → k.layouts ≡ [] → IsKernelOf p k
+unfolding source.deepest
+whole_kernel p k s able outside whole bare flat =
+    let covered : AreCovered k.layouts 0 = subst (λ (ls : List Layout). AreCovered ls 0) (sym flat) (record { few = omega arith; short = omega arith }) in
+    let all = nodes_once p outside in
     record {
-      does = same_law p plain within;
-      formed = λ graph graphs. well_formed_law p plain graph graphs (numbers_law p able) able.few_conditions;
-      rows = rows_law p plain;
-      conditions = conditions_law p plain;
-      exceptions = omega arith;
-      bare = refl;
-      within = within;
-      short = λ nodes few. let short = short_law p plain in omega (arith, short, few);
+      does = kernel_law p k s whole.is_kernel;
+      formed = λ graph graphs. well_formed_law p k s whole graph (own_law p able.numbered graph graphs able.few_conditions);
+      rows = rows_law p k s whole ∙ rows_once p outside;
+      conditions = λ weight. conditions_law p k s whole weight ∙ ap (sum_by weight) (conditions_once p outside);
+      exceptions = let e = whole.exceptions in omega (arith, e);
+      bare = bare;
+      within = within_law p k s whole 0 covered (let few = able.few in omega (arith, all, few));
+      short = λ nodes few. bytes_law p k s whole 0 covered nodes (omega (arith, all, few));
     }
 
-pub kernel_law : (p : Program) (k : Kernel) → IsCompilable p → IsStructured p → k ≡ kernel_of p → IsKernelOf p k
-kernel_law p k able plain is = subst (IsKernelOf p) (sym is) (lowered p able plain)
+-- the kernel of a typed program, where nothing stands at the library level and there are no composite types
+nothing_there : (t : TypedProgram) → t.objects ≡ [] → (count inst : ℕ) → words_of_instances t count inst ≡ []
+nothing_there t bare zero inst = refl
+nothing_there t bare (suc count) inst = ap (λ (os : List LibraryObject). all_words_in t inst os ++ words_of_instances t count (inst + 1)) bare ∙ nothing_there t bare count (inst + 1)
+
+pub laid_kernel : (t : TypedProgram) (k : Kernel) → IsCompilable (program_of t) → CanBeLaid t → k ≡ kernel_for t (copies_of (program_of t)) → Everywhere HasWord k.layouts
+    → IsKernelOf (program_of t) k
+laid_kernel t k able laid is words =
+    let p = program_of t in
+    let made = kernel_for t (copies_of (program_of t)) in
+    let whole = whole_law p made (scheme_for t (copies_of (program_of t))) laid.well
+    (laid_law t laid.well laid.named laid.limits (subst (λ (x : Kernel). Everywhere HasWord x.layouts) is words)) in
+    subst (IsKernelOf p) (sym is)
+    (whole_kernel p made (scheme_for t (copies_of (program_of t))) able laid.outside whole (nothing_there t laid.bare (length t.instances + 1) 0)
+    (ap (λ (ts : List TypeDeclaration). (with_types t 0 ts no_layouts).layouts) laid.flat))
 
 -- the linked pieces of a kernel of a program are an image of the program
 pub image_law : (p : Program) (k : Kernel) (pieces : List Piece) (answer : Result Image AllocError) → IsKernelOf p k → pieces ≡ kernel_pieces k

@@ -13,11 +13,11 @@ use Rattle.compiler.proofs.Statements.{places_are_statements, decisions_stand}
 use Rattle.compiler.specs.Behaves.{Behaves, EndsInTime}
 use Rattle.compiler.specs.Compiled.{IsCompiled}
 use Rattle.compiler.specs.Made.{IsCompilable, IsMadeOf}
-use Rattle.compiler.proofs.LabelCounts.{label_bodies}
+use Rattle.compiler.proofs.LabelCounts.{labels_few}
 use Rattle.compiler.proofs.ListedLaws.{places_law, conditions_law, few_law, once_law, held_law}
 use Rattle.compiler.proofs.Numbered.{numbered_law, stay_law, decisions_stay_law, decision_places_law, obligations_law}
 use Rattle.compiler.proofs.Order.{found_rise, found_ordered}
-use Rattle.compiler.proofs.PlainPrograms.{structured_law, limit_law}
+use Rattle.compiler.proofs.LaidPrograms.{limit_law}
 use Rattle.cov_base.specs.Lists.{Everywhere}
 use Rattle.compiler.specs.Listed.{entry_at, obligations_at}
 use Rattle.ada_places.specs.Rising.{StatementsRise, DecisionsRise}
@@ -34,7 +34,7 @@ compilable_law units main p legal rises decisions_rise few = record {
   few_conditions = few_law units main p legal;
   once = once_law units main p legal;
   few = limit_law units main p 4096 legal (omega arith) few;
-  few_statements = let counted = label_bodies p p.subprograms (structured_law units main p legal).bodies in let nodes = limit_law units main p 4096 legal (omega arith) few in omega (arith, counted, nodes);
+  few_statements = let counted = labels_few p.subprograms in let nodes = limit_law units main p 4096 legal (omega arith) few in omega (arith, counted, nodes);
 }
 
 pub made_of : (units : List LibraryUnit) (main : List ℕ) (p : Program) (o : Object) → elaborated units main ≡ Some p → StatementsRise units → DecisionsRise units → IsCompiled units p o → IsMadeOf p o

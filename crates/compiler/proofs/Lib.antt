@@ -17,10 +17,14 @@ pub mod Refusals
 pub mod Checked
 pub mod Placeable
 pub mod Options
-pub mod PlainExpressions
-pub mod PlainDeclarations
-pub mod PlainStatements
-pub mod PlainPrograms
+pub mod FormedExpressions
+pub mod FormedDeclarations
+pub mod FormedStatements
+pub mod FormedPrograms
+pub mod FewNodes
+pub mod FormedSizes
+pub mod FormedTrees
+pub mod WellFormed
 pub mod Decided
 pub mod Judgements
 pub mod Numbers
@@ -35,3 +39,4 @@ pub mod Rows
 pub mod UnitLaws
 mod Kernels
 mod LabelCounts
+pub mod LaidPrograms

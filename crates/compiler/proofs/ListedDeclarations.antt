@@ -79,7 +79,7 @@ bare_quiet : (n : ℕ) (r : Range) (is : List Identifier) → in_declarations (w
 bare_quiet n r [] = refl
 bare_quiet n r (i ∷ is) = bare_quiet (n + 1) r is
 
-bare_numbers : (n : ℕ) (r : Range) (is : List Identifier) → map number_of (without_values n r is) ≡ numbers n (length is)
+pub bare_numbers : (n : ℕ) (r : Range) (is : List Identifier) → map number_of (without_values n r is) ≡ numbers n (length is)
 bare_numbers n r [] = refl
 bare_numbers n r (i ∷ is) =
     let next : n + 1 ≡ suc n = omega arith in

@@ -24,7 +24,7 @@ use Rattle.compiler.proofs.Precedence.{never_itself}
 use Rattle.compiler.proofs.Options.{if_then, if_map, if_test, any_value, of_some}
 use Rattle.compiler.proofs.Decided.{AreDecided, decided_joined}
 use Rattle.compiler.proofs.Numbers.{distinct_numbers}
-use Rattle.compiler.proofs.PlainPrograms.{neither}
+use Rattle.compiler.proofs.FormedPrograms.{neither}
 use Rattle.compiler.proofs.ListedDeclarations.{HaveNumbers, left_numbers, right_numbers, AreOfAll, declarations_declared}
 use Rattle.compiler.proofs.ListedStatements.{AreListed, statements_listed, body_listed}
 

@@ -1,5 +1,5 @@
 -- Numbers that follow one another.
-use Rattle.std.proofs.Common.{◌≡◌, ℕ, zero, suc, ◌+◌, ◌<◌, List, ◌∷◌, ◌++◌, ap, ◌∙◌, arith}
+use Rattle.std.proofs.Common.{◌≡◌, ℕ, zero, suc, ◌+◌, ◌<◌, List, ◌∷◌, ◌++◌, length, refl, ap, ◌∙◌, arith}
 use Rattle.cov_base.specs.Lists.{Everywhere}
 use Rattle.ada_meaning.specs.Objects.{AreDistinct}
 use Rattle.ada_meaning.specs.Obligations.{numbers}
@@ -13,6 +13,10 @@ numbers_joined n (suc a) b =
     let start : n + suc a ≡ suc n + a = omega arith in
     let count : suc (a + b) ≡ suc a + b = omega arith in
     ap (λ m. n ∷ (numbers (suc n) a ++ numbers m b)) start ∙ (ap (λ ns. n ∷ ns) (numbers_joined (suc n) a b) ∙ ap (λ m. numbers n m) count)
+
+pub numbers_long : (from count : ℕ) → length (numbers from count) ≡ count
+numbers_long from zero = refl
+numbers_long from (suc count) = ap suc (numbers_long (suc from) count)
 
 -- two parts, each with the numbers that follow those before it
 pub both_numbered : (n a b : ℕ) (ns ms : List ℕ) → ns ≡ numbers n a → ms ≡ numbers (n + a) b → ns ++ ms ≡ numbers n (a + b)

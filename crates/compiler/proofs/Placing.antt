@@ -1,5 +1,5 @@
 -- An object that holds the image of a program's kernel has its places in memory.
-use Rattle.std.proofs.Common.{◌≡◌, ℕ, ◌+◌, ◌*◌, ◌%◌, ◌≤◌, ◌<◌, ◌==◌, ◌&&◌, Bool, true, nat_lt, nat_le, List, [], length, map, refl, ap, subst, ◌∙◌, arith}
+use Rattle.std.proofs.Common.{◌≡◌, ℕ, ◌+◌, ◌*◌, ◌%◌, ◌≤◌, ◌<◌, ◌==◌, ◌&&◌, Bool, true, nat_lt, nat_le, List, [], length, map, sum_by, refl, ap, subst, ◌∙◌, arith}
 use Rattle.std.proofs.lemmas.Bool.Decides.{nat_tests}
 use Rattle.ada_meaning.specs.Program.{Program}
 use Rattle.assembler.specs.Placed.{words_in, words_of}
@@ -20,7 +20,7 @@ use Rattle.kernel_ir.specs.Limits.{IsWellFormed}
 use Rattle.kernel_ir.specs.declared.kernel.Kernel.{Kernel}
 use Rattle.linker.proofs.Places.{text_words, is_entered}
 use Rattle.linker.specs.Linked.{linked}
-use Rattle.lower.specs.Sizes.{all_nodes}
+use Rattle.statement_code.specs.Sizes.{subprogram_nodes}
 use Rattle.object_format.specs.Fields.{is_placed}
 use Rattle.object_format.specs.Text.{is_in_text}
 use Rattle.object_format.specs.declared.object.Object.{Object}
@@ -74,6 +74,6 @@ placed_law p k o able is holds =
     ∙ laid_out (length o.text) (is_in_text o.text o.entry) (omega arith) (omega arith) entered)
 
 -- the text takes at most 240 bytes for each node, and 4,096 beside
-pub text_bound : (p : Program) (k : Kernel) (o : Object) (nodes : ℕ) → IsKernelOf p k → HoldsImage k o → all_nodes p.subprograms + length p.subprograms ≤ nodes
+pub text_bound : (p : Program) (k : Kernel) (o : Object) (nodes : ℕ) → IsKernelOf p k → HoldsImage k o → sum_by subprogram_nodes p.subprograms ≤ nodes
     → 4 * length o.text ≤ 240 * nodes + 4096
 text_bound p k o nodes is holds few = let short = is.short nodes few in omega (arith, text_long k o holds, pieces_few k, short)

@@ -1,5 +1,5 @@
 -- An object that is made of a program passes the checks of objects.
-use Rattle.std.proofs.Common.{◌≡◌, ◌≢◌, ℕ, zero, suc, ◌^◌, ◌≤◌, ◌<◌, ◌==◌, ◌&&◌, cond, Bool, true, false, nat_lt, nat_le, List, [], ◌∷◌, filter, length, map, AllPairs, refl, sym, ap, ◌∙◌, subst, arith, lit≤}
+use Rattle.std.proofs.Common.{◌≡◌, ◌≢◌, ℕ, ◌^◌, ◌≤◌, ◌<◌, ◌==◌, ◌&&◌, cond, Bool, true, false, nat_lt, nat_le, List, [], ◌∷◌, filter, length, map, AllPairs, refl, sym, ap, ◌∙◌, subst, arith, lit≤}
 use Rattle.std.specs.List.{list_all, AllByRecursion}
 use Rattle.std.proofs.lemmas.Bool.Decides.{nat_tests}
 use Rattle.std.proofs.lemmas.List.{length-map}
@@ -8,6 +8,7 @@ use Rattle.ada_meaning.specs.Collected.{Decision, labels_of, decisions_of}
 use Rattle.ada_meaning.specs.Obligations.{numbers, predefined_names, no_instance, decision_entry}
 use Rattle.ada_meaning.specs.Program.{Program}
 use Rattle.ada_meaning.specs.Tree as tree
+use Rattle.compiler.proofs.Numbers.{numbers_long}
 use Rattle.compiler.proofs.Conditions.{conditions_of_linked}
 use Rattle.compiler.proofs.Conditions.{named as named_condition}
 use Rattle.compiler.proofs.DecisionEntries.{are_expressions}
@@ -27,7 +28,7 @@ use Rattle.line_table.specs.declared.roles.Role.{Role}
 use Rattle.line_table.specs.declared.rows.Row.{Row as TableRow}
 use Rattle.linker.proofs.RowMarks.{rows_are_in_order}
 use Rattle.linker.specs.Linked.{linked}
-use Rattle.lower.specs.Marked.{row_of}
+use Rattle.statement_code.specs.Fragments.{row_in}
 use Rattle.object_format.specs.Checked.{IsSound}
 use Rattle.object_format.specs.Counts.{IsCountable, AreCountable, InstanceFits, RegionFits, IsCounted}
 use Rattle.object_format.specs.Decisions.{AreExpression}
@@ -51,13 +52,9 @@ right_holds : (a b : Bool) → (a && b) ≡ true → b ≡ true
 right_holds true b both = both
 right_holds false b both = absurd (let x : ⊥ = cc in x)
 
-numbers_long : (from count : ℕ) → length (numbers from count) ≡ count
-numbers_long from zero = refl
-numbers_long from (suc count) = ap (λ n. suc n) (numbers_long (suc from) count)
-
 -- what rows start
 
-starts_of_labels : (ls : List tree.Label) → map named (map row_of ls) ≡ map start_at (map (λ l. l.number) ls)
+starts_of_labels : (ls : List tree.Label) → map named (map (row_in 0) ls) ≡ map start_at (map (λ l. l.number) ls)
 starts_of_labels [] = refl
 starts_of_labels (l ∷ ls) = ap (λ starts. start_at l.number ∷ starts) (starts_of_labels ls)
 

@@ -4,6 +4,9 @@ use Rattle.ada_meaning.specs.Collected.{labels_of, decisions_of}
 use Rattle.ada_meaning.specs.Execution as source
 use Rattle.ada_meaning.specs.Program.{Program}
 use Rattle.ada_meaning.specs.Tree.{shape_of}
+use Rattle.ada_meaning.specs.WellFormed.{IsWellFormed as IsWellFormedProgram}
+use Rattle.ada_tree.specs.declared.program.Program.{Program as TypedProgram}
+use Rattle.ada_tree.specs.Programs.{program_of}
 use Rattle.assembler.specs.Reach.{AreItems}
 use Rattle.cov_base.specs.declared.position.DecId.{DecId}
 use Rattle.cov_base.specs.Graph.{Edges}
@@ -16,9 +19,11 @@ use Rattle.kernel_ir.specs.Meaning as code
 use Rattle.kernel_ir.specs.Obligations.{Condition, rows, conditions}
 use Rattle.linker.specs.Linked.{linked}
 use Rattle.linker.specs.declared.image.Image.{Image}
-use Rattle.lower.specs.Marked.{row_of, all_conditions}
-use Rattle.lower.specs.Same.{Same}
-use Rattle.lower.specs.Sizes.{all_nodes}
+use Rattle.lower.specs.Standing.{AreTypesNamed, IsWithinLimits}
+use Rattle.statement_code.specs.Fragments.{row_in, conditions_in}
+use Rattle.statement_code.specs.Kernels.{AreOutside}
+use Rattle.statement_code.specs.Programs.{Same}
+use Rattle.statement_code.specs.Sizes.{subprogram_nodes}
 
 -- A kernel is that of a program: under each fuel but 512 it ends as the program does, with the same events and output; it is well-formed where
 -- decisions have the graphs of their expressions; its rows are the program's statement obligations and its conditions those of its decisions;
@@ -28,12 +33,22 @@ pub record IsKernelOf (p : Program) (k : Kernel) : Type 0 where
   pub does : (fuel : ℕ) (input : List ℤ) → fuel ≢ source.deepest → Same (source.exec p fuel input) (code.exec k fuel input)
   pub formed : (graph : DecId → List Edges) → Everywhere (λ h. graph (record { 0 = h.label.number }) ≡ logic.graph (shape_of h.test)) (decisions_of p.subprograms)
       → IsWellFormed graph k
-  pub rows : rows k ≡ map row_of (labels_of p.subprograms)
-  pub conditions : (weight : Condition → ℕ) → sum_by weight (conditions k) ≡ sum_by weight (all_conditions (decisions_of p.subprograms))
+  pub rows : rows k ≡ map (row_in 0) (labels_of p.subprograms)
+  pub conditions : (weight : Condition → ℕ) → sum_by weight (conditions k) ≡ sum_by weight (conditions_in 0 (decisions_of p.subprograms))
   pub exceptions : k.exceptions ≤ 4 + length p.exceptions
   pub bare : k.library ≡ []
   pub within : IsWithin k
-  pub short : (nodes : ℕ) → all_nodes p.subprograms + length p.subprograms ≤ nodes → 4 * kernel_instructions k ≤ 240 * nodes + 4096
+  pub short : (nodes : ℕ) → sum_by subprogram_nodes p.subprograms ≤ nodes → 4 * kernel_instructions k ≤ 240 * nodes + 4096
+
+-- a typed program whose kernel can be laid out today: it is well-formed and within the limits, composite types are named where they stand, and
+-- so far nothing stands in a generic or at the library level, and there are no composite types
+pub record CanBeLaid (t : TypedProgram) : Type 0 where
+  pub well : IsWellFormedProgram (program_of t)
+  pub named : AreTypesNamed t
+  pub limits : IsWithinLimits t
+  pub outside : AreOutside (program_of t).subprograms
+  pub bare : t.objects ≡ []
+  pub flat : t.types ≡ []
 
 -- an image is that of a kernel of a program: its linked machine code, without data
 pub record IsImageOf (p : Program) (image : Image) : Type 0 where

@@ -1,5 +1,5 @@
 -- The object of a program: what it has beside the image of the kernel.
-use Rattle.std.specs.Prelude.{◌≡◌, ◌+◌, ◌≤◌, true, List, [], length, map}
+use Rattle.std.specs.Prelude.{◌≡◌, ◌≤◌, true, List, [], length, map, sum_by}
 use Rattle.std.specs.List.{All}
 use Rattle.ada_meaning.specs.Collected.{labels_of, decisions_of}
 use Rattle.ada_meaning.specs.Obligations.{IsNumbered, ordered_labels, ordered_decisions}
@@ -12,7 +12,7 @@ use Rattle.cov_base.specs.Lists.{Everywhere}
 use Rattle.compiler.specs.Listed.{obligations_at}
 use Rattle.compiler.specs.Kernels.{IsKernelOf}
 use Rattle.kernel_ir.specs.declared.kernel.Kernel.{Kernel}
-use Rattle.lower.specs.Sizes.{all_nodes}
+use Rattle.statement_code.specs.Sizes.{subprogram_nodes}
 use Rattle.object_format.specs.Counts.{FileFits}
 use Rattle.object_format.specs.Fields.{are_files, are_statements, are_decisions}
 use Rattle.object_format.specs.declared.object.Object.{Object}
@@ -29,7 +29,7 @@ pub record IsCompilable (p : Program) : Type 0 where
   pub decisions_in_order : ordered_decisions p ≡ decisions_of p.subprograms
   pub few_conditions : Everywhere (λ h. conditions_of h.test ≤ 32) (decisions_of p.subprograms)
   pub once : Everywhere (λ h. negates_once (shape_of h.test) ≡ true) (decisions_of p.subprograms)
-  pub few : all_nodes p.subprograms + length p.subprograms ≤ 4096
+  pub few : sum_by subprogram_nodes p.subprograms ≤ 4096
   pub few_statements : length (labels_of p.subprograms) ≤ 4096
 
 -- an object that is made of a program: it holds the image of a kernel of the program, its obligations are the program's statements and

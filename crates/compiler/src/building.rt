@@ -3,16 +3,17 @@
 ghost use Rattle.std.specs.Prelude.{◌≡◌, IfOk, map};
 ghost use Rattle.ada_tree.specs.Programs.{program_of};
 ghost use Rattle.compiler.specs.Built.{IsBuiltOf};
-ghost use Rattle.compiler.specs.Kernels.{IsImageOf};
+ghost use Rattle.compiler.specs.Kernels.{CanBeLaid, IsImageOf};
 ghost use Rattle.compiler.specs.Made.{IsCompilable};
 ghost use Rattle.compiler.specs.Source.{entry_of_file};
-ghost use Rattle.lower.specs.Structured.{IsStructured};
+ghost use Rattle.generic_expand.specs.Expanded.{copies_of};
 
 use ada_tree::Program;
 use codegen_rv32::generate;
 use cov_base::{Bytes, Seq, SourceFile};
+use generic_expand::Copies;
 use linker::{Image, link};
-use lower::lower;
+use lower::lower_copies;
 use object_format::{FileEntry, Object, digest};
 use obligations::obligations;
 use std::alloc::{AllocError, Global};
@@ -22,14 +23,16 @@ pub(crate) fn object_of(
     alloc: Global,
     files: &[SourceFile],
     program: &Program,
+    copies: &Copies,
 ) -> Result<Object, AllocError>
     requires able { IsCompilable (program_of program.now) }
-    requires structured { IsStructured (program_of program.now) }
+    requires laid { CanBeLaid program.now }
+    requires copies { copies.now.bodies ≡ copies_of (program_of program.now) }
     ensures { IfOk result (IsBuiltOf files.now (program_of program.now)) }
 {
     let files = file_entries(alloc, files)?;
     let obligations = obligations(alloc, program)?;
-    let image = image_of(alloc, program)?;
+    let image = image_of(alloc, program, copies)?;
     Ok(Object {
         entry: image.entry,
         text: image.text,
@@ -44,12 +47,13 @@ pub(crate) fn object_of(
 }
 
 /// The image of a program: the linked machine code of its kernel, without data.
-fn image_of(alloc: Global, program: &Program) -> Result<Image, AllocError>
+fn image_of(alloc: Global, program: &Program, copies: &Copies) -> Result<Image, AllocError>
     requires able { IsCompilable (program_of program.now) }
-    requires structured { IsStructured (program_of program.now) }
+    requires laid { CanBeLaid program.now }
+    requires copies { copies.now.bodies ≡ copies_of (program_of program.now) }
     ensures { IfOk result (IsImageOf (program_of program.now)) }
 {
-    let kernel = lower(alloc, program)?;
+    let kernel = lower_copies(alloc, program, copies)?;
     let pieces = generate(alloc, &kernel)?;
     link(alloc, pieces.as_slice(), &[])
 }

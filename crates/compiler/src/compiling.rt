@@ -37,9 +37,9 @@ pub fn compile(
     ensures file { IfOk result (λ c. c.file ≡ object_bytes c.object) }
     ensures refused { IfErr result (RefusesFor files.now main.now) }
 {
-    let program = legal_program(alloc, files, main)?;
-    let object = object_of(alloc, files, &program);
-    discard_program(program);
+    let legal = legal_program(alloc, files, main)?;
+    let object = object_of(alloc, files, &legal.program, &legal.copies);
+    discard_program(legal.program);
     Ok(closed(alloc, object?)?)
 }
 

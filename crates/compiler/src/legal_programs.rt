@@ -1,7 +1,7 @@
 //! What legal programs are like: laws over the typed program of units (Ada RM 2012, 10.1, 10.2). The
 //! functions here do nothing: each carries a law of the definitions as its contract.
 
-ghost use Rattle.std.specs.Prelude.{◌≡◌, ◌≤◌, ◌<◌, ◌+◌, ◌-◌, ◌^◌, ℕ, true, List, [], ◌∷◌, Some, length, map, sum_by};
+ghost use Rattle.std.specs.Prelude.{◌≡◌, ◌≤◌, ◌<◌, ◌+◌, ◌-◌, ◌^◌, ℕ, true, List, [], ◌∷◌, None, Some, length, map, sum_by};
 ghost use Rattle.ada_syntax.specs.Nodes.{capped, unit_nodes};
 ghost use Rattle.ada_syntax.specs.declared.unit.Unit.{Unit as LibraryUnit};
 ghost use Rattle.cov_base.specs.declared.obligations.Region.{Region};
@@ -12,21 +12,23 @@ ghost use Rattle.ada_meaning.specs.Objects.{IsDeclaredOnce};
 ghost use Rattle.ada_meaning.specs.Obligations.{numbers, obligations_of, ordered_labels, ordered_decisions, IsNumbered, IsResolved};
 ghost use Rattle.ada_meaning.specs.Program.{Program};
 ghost use Rattle.ada_meaning.specs.Tree.{shape_of, conditions_of};
+ghost use Rattle.ada_meaning.specs.WellFormed.{IsWellFormed};
 ghost use Rattle.ada_places.specs.Places.{label_at, label_of_found, most_conditions, places_of, decisions_of_units, decision_places};
+ghost use Rattle.ada_tree.specs.declared.program.Program.{Program as TypedProgram};
+ghost use Rattle.ada_tree.specs.Programs.{program_of};
+ghost use Rattle.ada_types.specs.Checked.{entry_of};
 ghost use Rattle.cov_base.specs.Expr.{negates_once};
 ghost use Rattle.ada_types.specs.Legal.{elaborated};
 ghost use Rattle.compiler.specs.Listed.{obligations_at, row_at};
 ghost use Rattle.ada_places.specs.Rising.{DecisionsRise, StatementsRise};
-ghost use Rattle.lower.specs.Marked.{row_of};
-ghost use Rattle.lower.specs.Sizes.{all_nodes};
-ghost use Rattle.lower.specs.Structured.{IsStructured};
+ghost use Rattle.statement_code.specs.Fragments.{row_in};
+ghost use Rattle.statement_code.specs.Sizes.{subprogram_nodes};
+ghost use Rattle.generic_expand.specs.Expanded.{first_past};
+ghost use Rattle.lower.specs.Standing.{AreTypesNamed, IsWithinLimits};
 
-/// A legal program has procedures without parameters, with objects of one word whose values are in the
-/// base range, and of statements those of `IsStructured`. Its main procedure is one of them, and there
-/// is one for each unit.
-pub fn legal_programs_are_structured()
-    ensures structured { (units : List LibraryUnit) (main : List ℕ) (p : Program) → elaborated units main ≡ Some p → IsStructured p }
-    ensures as_many { (units : List LibraryUnit) (main : List ℕ) (p : Program) → elaborated units main ≡ Some p
+/// A legal program has a subprogram for each unit.
+pub fn each_unit_has_a_subprogram()
+    ensures { (units : List LibraryUnit) (main : List ℕ) (p : Program) → elaborated units main ≡ Some p
         → length p.subprograms ≡ length units }
 {}
 
@@ -34,7 +36,7 @@ pub fn legal_programs_are_structured()
 /// nodes.
 pub fn each_node_has_a_token()
     ensures { (units : List LibraryUnit) (main : List ℕ) (p : Program) → elaborated units main ≡ Some p
-        → all_nodes p.subprograms + length p.subprograms ≤ sum_by unit_nodes units }
+        → sum_by subprogram_nodes p.subprograms ≤ sum_by unit_nodes units }
 {}
 
 /// The statement obligations of a legal program stand where the statements of its units stand, and the
@@ -77,6 +79,26 @@ pub fn legal_programs_are_numbered()
     ensures declared_once { (units : List LibraryUnit) (main : List ℕ) (p : Program) → elaborated units main ≡ Some p → IsDeclaredOnce p }
 {}
 
+/// A legal program is well-formed, where the places of its statements and decisions rise: its numbers are
+/// those of its declarations and obligations; its names denote what is visible where they stand; its
+/// objects, values and actuals are scalar, with bounds in the base range; exits stand in loops; and its
+/// main procedure has no parameters.
+pub fn legal_programs_are_well_formed()
+    ensures { (units : List LibraryUnit) (main : List ℕ) (p : Program) → elaborated units main ≡ Some p
+        → StatementsRise units → DecisionsRise units → IsWellFormed p }
+{}
+
+/// The typed tree of a legal program, in which there are no composite types, names its types where they
+/// stand. Where its units are within the limit on nodes, it is within all limits: on declared words, on
+/// the nodes of a body, on the words of the library level and on exceptions.
+pub fn legal_programs_are_within_limits()
+    ensures named { (units : List LibraryUnit) (main : List ℕ) (t : TypedProgram)
+        → elaborated units main ≡ Some (program_of t) → t.types ≡ [] → AreTypesNamed t }
+    ensures limits { (units : List LibraryUnit) (main : List ℕ) (t : TypedProgram)
+        → elaborated units main ≡ Some (program_of t) → t.types ≡ [] → first_past 0 (map entry_of units) ≡ None
+        → IsWithinLimits t }
+{}
+
 /// The obligations of a legal program are its statements, at the places of the text, and its decisions,
 /// where these rise. Nothing stands in a generic, and the exceptions are the predefined ones.
 pub fn obligations_are_statements_and_decisions()
@@ -89,7 +111,7 @@ pub fn obligations_are_statements_and_decisions()
 /// decisions, where they come one after the other.
 pub fn rows_have_the_numbers_of_obligations()
     ensures rows { (units : List LibraryUnit) (main : List ℕ) (p : Program) → elaborated units main ≡ Some p → StatementsRise units
-        → map row_of (labels_of p.subprograms) ≡ map row_at (numbers 0 (length (places_of units))) }
+        → map (row_in 0) (labels_of p.subprograms) ≡ map row_at (numbers 0 (length (places_of units))) }
     ensures decisions { (units : List LibraryUnit) (main : List ℕ) (p : Program) → elaborated units main ≡ Some p → DecisionsRise units
         → map (λ h. h.label.number) (decisions_of p.subprograms) ≡ numbers 0 (length (decisions_of p.subprograms)) }
 {}
@@ -103,5 +125,5 @@ pub fn obligations_are_counted()
     ensures decisions { (units : List LibraryUnit) (main : List ℕ) (p : Program) → elaborated units main ≡ Some p
         → length (decisions_of p.subprograms) ≡ length (decision_places units) }
     ensures limit { (units : List LibraryUnit) (main : List ℕ) (p : Program) (limit : ℕ) → elaborated units main ≡ Some p → limit < 2 ^ 32 - 1
-        → sum_by (λ u. capped (unit_nodes u)) units ≤ limit → all_nodes p.subprograms + length p.subprograms ≤ limit }
+        → sum_by (λ u. capped (unit_nodes u)) units ≤ limit → sum_by subprogram_nodes p.subprograms ≤ limit }
 {}

@@ -33,7 +33,7 @@ mod value;
 
 pub use kernels::lower_copies;
 pub use laws::{
-    kernels_are_laid, kernels_are_small, kernels_do_what_their_programs_do, kernels_end_where_their_programs_end,
-    kernels_hold_the_obligations,
+    kernels_are_laid, kernels_are_small, kernels_do_what_their_programs_do,
+    kernels_end_where_their_programs_end, kernels_hold_the_obligations,
 };
 pub use lowering::lower;

@@ -16,6 +16,6 @@ returns-clause-refused c =
 pub returns-clause-legal : goal.returns-clause-legal
 returns-clause-legal c =
     IfOk-weaker c.small_program-answer.result _ _
-    (λ p h. legal_of c.args.files.now c.in_ok-units.units.items c.as_slice.result.now c.args.main.now (program_of p) c.in_ok-units.ensures.units c.in_ok-units.ensures.rising
+    (λ l h. legal_of c.args.files.now c.in_ok-units.units.items c.as_slice.result.now c.args.main.now (program_of l.program) c.in_ok-units.ensures.units c.in_ok-units.ensures.rising
     c.in_ok-units.ensures.decisions_rising c.in_ok-units.ensures.in_files c.in_ok-units.ensures.decisions_in_files c.in_ok-units.ensures.conditions_in_files c.as_slice.ensures.value h.0 h.1)
     c.small_program-answer.ensures.legal

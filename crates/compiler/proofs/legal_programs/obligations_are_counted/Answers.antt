@@ -1,5 +1,5 @@
 use Rattle.compiler.proofs.Numbered.{count_law, decision_count_law}
-use Rattle.compiler.proofs.PlainPrograms.{limit_law}
+use Rattle.compiler.proofs.LaidPrograms.{limit_law}
 use Rattle.compiler.proofs.legal_programs.obligations_are_counted.Goals as goal
 
 pub returns : goal.returns
