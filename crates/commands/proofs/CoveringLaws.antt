@@ -1,5 +1,5 @@
 -- What adding traces makes of a coverage, and what is made of it.
-use Rattle.std.proofs.Common.{◌≡◌, ◌↔◌, ◌⊎◌, inl, inr, ⊎_elim, ℕ, Bool, true, false, List, [], ◌∷◌, ◌++◌, length, map, Result, Ok, Err, refl, sym, ap, subst, ◌∙◌}
+use Rattle.std.proofs.Common.{◌≡◌, ◌↔◌, ◌⊎◌, inl, inr, ⊎_elim, ℕ, true, false, List, [], ◌∷◌, ◌++◌, length, map, Result, Ok, Err, refl, sym, ap, subst, ◌∙◌}
 use Rattle.std.specs.Prelude.{OnOk}
 use Rattle.annotated_report.specs.Report.{report_text}
 use Rattle.cov_base.specs.declared.event.Event.{Event}
@@ -10,14 +10,11 @@ use Rattle.cov_base.specs.declared.level.Level.{Level}
 use Rattle.coverage_set.specs.Consolidated.{events_in, IsReadOf, IsRefused}
 use Rattle.coverage_set.specs.Covered.{Covered, Has, HasRun, IsCountOfRuns, IsUnion}
 use Rattle.cov_base.specs.Lists.{Somewhere}
-use Rattle.commands.specs.Content.{ByMagic, is_consolidated, RefusesTrace, RefusesConsolidated, RefusesRunTrace, Shows, Counts, IsReport, StandsFor}
-use Rattle.commands.specs.Covering.{Adds, AddsListed, AddsRun, IsBadFit}
+use Rattle.commands.specs.Content.{ByMagic, is_consolidated, RefusesConsolidated, Shows, Counts, IsReport, StandsFor}
+use Rattle.commands.specs.Covering.{Adds, AddsListed, AddsRun}
 use Rattle.commands.specs.Failures.{consolidated_status}
 use Rattle.commands.specs.Reading.{UnlessMemory}
 use Rattle.commands.specs.declared.status.Status.{Status}
-use Rattle.commands.specs.declared.status.Status.TheVariants.{TraceRefused}
-use Rattle.commands.specs.declared.status.TraceWhy.{TraceWhy}
-use Rattle.commands.specs.declared.status.TraceWhy.TheVariants.{File, Fit, Broken, Consolidated}
 use Rattle.object_facts.specs.Object.{facts_of}
 use Rattle.object_format.specs.declared.object.Object.{Object}
 use Rattle.trace_format.specs.Checks.{trace_of}
@@ -199,37 +196,8 @@ report_made level o c count events names text all counted are told = record {
 
 -- ---- refusals
 
--- a trace that fails a check beside the object
-pub bad_fit : (number : ℕ) (o : Object) (bytes : List ℕ) (t : TraceFile) (status : Status) → trace_of bytes ≡ Ok t → IsBadFit number o t status
-    → RefusesRunTrace number o bytes status
-bad_fit number o bytes t status read bad = inr (inl (bad.0, (t, read, bad.1), bad.2))
-
 -- a consolidated file that was not read
 pub bad_list : (number : ℕ) (o : Object) (bytes : List ℕ) (failure : Failure ConsFault) (status : Status) → IsRefused o bytes failure
     → status ≡ consolidated_status number failure → UnlessMemory (RefusesConsolidated number o bytes) status
 bad_list number o bytes (Fault why) status refused is = inr (why, refused, is)
 bad_list number o bytes failures.WantOfMemory status refused is = inl is
-
-pub consolidated_refused : (number : ℕ) (o : Object) (bytes : List ℕ) (status : Status) → is_consolidated bytes ≡ true
-    → UnlessMemory (RefusesConsolidated number o bytes) status → UnlessMemory (RefusesTrace number o bytes) status
-consolidated_refused number o bytes status kind (inl memory) = inl memory
-consolidated_refused number o bytes status kind (inr refused) = inr (as_consolidated bytes kind refused)
-
-pub trace_refused : (number : ℕ) (o : Object) (bytes : List ℕ) (status : Status) → is_consolidated bytes ≡ false
-    → UnlessMemory (RefusesRunTrace number o bytes) status → UnlessMemory (RefusesTrace number o bytes) status
-trace_refused number o bytes status kind (inl memory) = inl memory
-trace_refused number o bytes status kind (inr refused) = inr (as_trace bytes kind refused)
-
--- a refusal is of the trace with its number, for some reason
-pub is_refusal : (number : ℕ) (o : Object) (bytes : List ℕ) (status : Status) → RefusesTrace number o bytes status
-    → (why : TraceWhy) × (status ≡ TraceRefused number why)
-is_refusal number o bytes status refused = by_kind (is_consolidated bytes) refl
-  where
-    of_run : RefusesRunTrace number o bytes status → (why : TraceWhy) × (status ≡ TraceRefused number why)
-    of_run (inl r) = (File r.0, r.2)
-    of_run (inr (inl r)) = (Fit r.0, r.2)
-    of_run (inr (inr r)) = (Broken r.0, r.2)
-
-    by_kind : (b : Bool) → is_consolidated bytes ≡ b → (why : TraceWhy) × (status ≡ TraceRefused number why)
-    by_kind true kind = let r = refused.consolidated kind in (Consolidated r.0, r.2)
-    by_kind false kind = of_run (refused.trace kind)

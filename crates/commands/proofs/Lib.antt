@@ -13,3 +13,4 @@ pub mod ConsolidateLaws
 pub mod FileLaws
 pub mod GroupingLaws
 pub mod CompleteLaws
+pub mod PieceLaws

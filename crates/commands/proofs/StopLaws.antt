@@ -15,11 +15,11 @@ use Rattle.commands.specs.declared.status.Status.{Status}
 use Rattle.commands.specs.declared.status.Status.TheVariants.{ObjectRefused, TraceRefused, InputRefused, OverBudget, Trap, ReadFault, WantOfMemory}
 use Rattle.commands.specs.Outcome.{IsNamed, Prepares, Stops, CannotGet}
 use Rattle.commands.specs.Prepared.{PreparesFrom, StopsOnInput}
-use Rattle.commands.specs.Reading.{IsUnread, IsNoTrace, UnlessMemory, AreRead, StopsAt, StopsAmong}
+use Rattle.commands.specs.Reading.{IsUnread, IsNoTrace, UnlessMemory, AreRead, WereRead, WereAdded, StopsAt, StopsAmong}
 use Rattle.commands.specs.Covering.{Adds, IsMadeOf, Yields, task_for}
 use Rattle.commands.specs.Verdict.{NewFile, Output, AfterRead, AfterObject, AfterInput, AfterTrace, AfterTraces, RunsOn, ComesTo}
 use Rattle.object_format.specs.declared.object.Object.{Object}
-use Rattle.commands.proofs.CoveringLaws.{is_refusal, reports_added, stands_added, more_added}
+use Rattle.commands.proofs.CoveringLaws.{reports_added, stands_added, more_added, nothing_added}
 
 -- what holds whatever is held
 always : (held : Option Held) {P : Type 0} → P → IfSome held (λ told. P)
@@ -66,7 +66,7 @@ no_object (Some told) name bytes Then status holds refuses = rw holds (inl refus
 
 -- all of them were read, and what follows holds of them
 pub all_read : (told : Held) (o : Object) (number : ℕ) (names traces : List (List ℕ)) (Then : List (List ℕ) → Result Output Status → Type 0) (verdict : Result Output Status)
-    → AreRead (Some told) o names traces → Then traces verdict → AfterTraces told o number names Then verdict
+    → AreRead told o names traces → Then traces verdict → AfterTraces told o number names Then verdict
 all_read told o number [] [] Then verdict read says = says
 all_read told o number [] (trace ∷ traces) Then verdict read says = absurd read
 all_read told o number (name ∷ names) [] Then verdict read says = absurd read
@@ -76,7 +76,7 @@ all_read told o number (name ∷ names) (trace ∷ traces) Then verdict read say
 -- those before one were read, and what follows holds of that one and of those behind it
 pub reads_up_to : (told : Held) (o : Object) (number at : ℕ) (earlier : List (List ℕ)) (name : List ℕ) (later traces : List (List ℕ))
     (Then : List (List ℕ) → Result Output Status → Type 0) (verdict : Result Output Status)
-    → at ≡ length earlier + number → AreRead (Some told) o earlier traces
+    → at ≡ length earlier + number → AreRead told o earlier traces
     → ((Next : List ℕ → Result Output Status → Type 0) → AfterRead told at name (λ trace. AfterTrace at o trace (Next trace)) verdict)
     → AfterTraces told o number (earlier ++ (name ∷ later)) Then verdict
 reads_up_to told o number at [] name later [] Then verdict is read says =
@@ -88,39 +88,47 @@ reads_up_to told o number at (first ∷ earlier) name later (trace ∷ traces) T
     let next : at ≡ length earlier + (number + 1) = omega (arith, is) in
     rw read.0 (inr (read.1, reads_up_to told o (number + 1) at earlier name later traces (λ ts. Then (trace ∷ ts)) verdict next read.2 says))
 
--- one more was read
-pub one_more_read : (held : Option Held) (o : Object) (names traces : List (List ℕ)) (name trace : List ℕ)
-    → AreRead held o names traces → IfSome held (Holds name trace) → IsTraceFor o trace
-    → AreRead held o (names ++ (name ∷ [])) (traces ++ (trace ∷ []))
-one_more_read held o [] [] name trace read holds fits = (holds, fits, tt)
-one_more_read held o [] (t ∷ traces) name trace read holds fits = absurd read
-one_more_read held o (n ∷ names) [] name trace read holds fits = absurd read
-one_more_read held o (n ∷ names) (t ∷ traces) name trace read holds fits =
-    (read.0, read.1, one_more_read held o names traces name trace read.2 holds fits)
+-- both these and those were read
+pub both_read : (told : Held) (o : Object) (names others traces more : List (List ℕ))
+    → AreRead told o names traces → AreRead told o others more → AreRead told o (names ++ others) (traces ++ more)
+both_read told o [] others [] more read also = also
+both_read told o [] others (t ∷ traces) more read also = absurd read
+both_read told o (n ∷ names) others [] more read also = absurd read
+both_read told o (n ∷ names) others (t ∷ traces) more read also = (read.0, read.1, both_read told o names others traces more read.2 also)
 
--- the same of names that are seen by `now`
-read_more : {X : Type 0} (now : X → List ℕ) (o : Object) (names : List X) (i : ℕ) (d : X) (held held' : Option Held) (traces : List (List ℕ)) (trace : List ℕ)
-    → i < length names → held' ≡ held → AreRead held o (map now (take i names)) traces → IfSome held' (Holds (now (get_or names i d)) trace) → IsTraceFor o trace
-    → AreRead held o (map now (take (i + 1) names)) (traces ++ (trace ∷ []))
-read_more now o names i d held held' traces trace lt same read holds fits =
-    let there = subst (λ (h : Option Held). IfSome h (Holds (now (get_or names i d)) trace)) same holds in
-    subst (λ (ns : List (List ℕ)). AreRead held o ns (traces ++ (trace ∷ []))) (sym (map_more now names i d lt))
-    (one_more_read held o (map now (take i names)) traces (now (get_or names i d)) trace read there fits)
+-- nothing was added yet
+pub none_added : (held : Option Held) (o : Object) (c : Covered) → WereAdded held o [] c c
+none_added None o c = tt
+none_added (Some told) o c = ([], tt, nothing_added o c)
 
--- and added to a coverage
-pub read_and_added : {X : Type 0} (now : X → List ℕ) (o : Object) (names : List X) (i : ℕ) (d : X) (held held' : Option Held) (traces : List (List ℕ)) (trace : List ℕ) (a b c : Covered)
-    → i < length names → held' ≡ held → AreRead held o (map now (take i names)) traces → IfSome held' (Holds (now (get_or names i d)) trace) → IsTraceFor o trace
-    → Adds o a b traces → Adds o b c (trace ∷ [])
-    → (ts : List (List ℕ)) × AreRead held o (map now (take (i + 1) names)) ts × Adds o a c ts
-read_and_added now o names i d held held' traces trace a b c lt same read holds fits before adds =
-    (traces ++ (trace ∷ []), read_more now o names i d held held' traces trace lt same read holds fits, more_added o a b c traces (trace ∷ []) before adds)
+-- one more was added, of names that are seen by `now`
+pub one_more_added : {X : Type 0} (now : X → List ℕ) (o : Object) (names : List X) (i : ℕ) (d : X) (held held' : Option Held) (a b c : Covered)
+    → i < length names → held' ≡ held → WereAdded held o (map now (take i names)) a b → WereAdded held' o (now (get_or names i d) ∷ []) b c
+    → WereAdded held o (map now (take (i + 1) names)) a c
+one_more_added now o names i d held held' a b c lt same before adds =
+    subst (λ (ns : List (List ℕ)). WereAdded held o ns a c) (sym (map_more now names i d lt))
+    (by_held held before (subst (λ (h : Option Held). WereAdded h o (now (get_or names i d) ∷ []) b c) same adds))
+  where
+    by_held : (h : Option Held) → WereAdded h o (map now (take i names)) a b → WereAdded h o (now (get_or names i d) ∷ []) b c
+        → WereAdded h o (map now (take i names) ++ (now (get_or names i d) ∷ [])) a c
+    by_held None first second = tt
+    by_held (Some told) first second = (
+      first.0 ++ second.0,
+      both_read told o (map now (take i names)) (now (get_or names i d) ∷ []) first.0 second.0 first.1 second.1,
+      more_added o a b c first.0 second.0 first.2 second.2,
+    )
 
--- one that stops the command, behind those that were read
-pub stops_among : {X : Type 0} (now : X → List ℕ) (o : Object) (names : List X) (i : ℕ) (d : X) (held held' : Option Held) (reads reads' reads'' : ℕ) (status : Status) (traces : List (List ℕ))
-    → i < length names → held' ≡ held → reads' ≡ reads → AreRead held o (map now (take i names)) traces
+-- what was added was read
+added_read : (held : Option Held) (o : Object) (names : List (List ℕ)) (a b : Covered) → WereAdded held o names a b → WereRead held o names
+added_read None o names a b added = tt
+added_read (Some told) o names a b added = (added.0, added.1)
+
+-- one that stops the command, behind those that were added
+pub stops_among : {X : Type 0} (now : X → List ℕ) (o : Object) (names : List X) (i : ℕ) (d : X) (held held' : Option Held) (reads reads' reads'' : ℕ) (status : Status) (a b : Covered)
+    → i < length names → held' ≡ held → reads' ≡ reads → WereAdded held o (map now (take i names)) a b
     → StopsAt (i + 1) o (now (get_or names i d)) held' reads' reads'' status
     → StopsAmong o (map now names) held reads reads'' status
-stops_among now o names i d held held' reads reads' reads'' status traces lt same count read stops =
+stops_among now o names i d held held' reads reads' reads'' status a b lt same count added stops =
     let name = now (get_or names i d) in
     let long : i + 1 ≡ length (map now (take i names)) + 1 = omega (arith, length-map (take i names) now, length-take-le i names (omega (arith, lt))) in
     let here = subst (λ (h : Option Held). StopsAt (i + 1) o name h reads' reads'' status) same stops in
@@ -129,10 +137,9 @@ stops_among now o names i d held held' reads reads' reads'' status traces lt sam
       earlier = map now (take i names);
       name = name;
       later = map now (drop (i + 1) names);
-      traces = traces;
       are = ap (map now) (sym (take-append-drop i names) ∙ ap (λ rest. take i names ++ rest) (drop_more names i d lt))
           ∙ map-append now (take i names) (get_or names i d ∷ drop (i + 1) names);
-      read = read;
+      read = added_read held o (map now (take i names)) a b added;
       stops = subst (λ (k : ℕ). StopsAt k o name held reads reads'' status) long then_so;
     }
 
@@ -166,16 +173,16 @@ coverage_no_object held reads reads' product object bytes traces status same hol
     )
 
 -- what follows from the trace at which reading stops, where the files tell
-told_stop : (held : Option Held) (product : Product) (object bytes : List ℕ) (o : Object) (earlier : List (List ℕ)) (name : List ℕ) (later traces : List (List ℕ)) (status : Status)
-    → IfSome held (Holds object bytes) → IsFileOf o bytes → AreRead held o earlier traces
+told_stop : (held : Option Held) (product : Product) (object bytes : List ℕ) (o : Object) (earlier : List (List ℕ)) (name : List ℕ) (later : List (List ℕ)) (status : Status)
+    → IfSome held (Holds object bytes) → IsFileOf o bytes → WereRead held o earlier
     → ((told : Held) → held ≡ Some told → (Next : List ℕ → Result Output Status → Type 0)
     → AfterRead told (length earlier + 1) name (λ trace. AfterTrace (length earlier + 1) o trace (Next trace)) (Err status))
     → IfSome held (λ told. ComesTo told (task_for product object (earlier ++ (name ∷ later))) (Err status))
-told_stop None product object bytes o earlier name later traces status holds is read says = tt
-told_stop (Some told) product object bytes o earlier name later traces status holds is read says =
+told_stop None product object bytes o earlier name later status holds is read says = tt
+told_stop (Some told) product object bytes o earlier name later status holds is read says =
     comes_to (Some told) product object (earlier ++ (name ∷ later)) (Err status)
     (after_object (Some told) object bytes o (λ told o. AfterTraces told o 1 (earlier ++ (name ∷ later)) (Yields product o)) (Err status) holds is
-    (reads_up_to told o 1 (length earlier + 1) earlier name later traces (Yields product o) (Err status) refl read (says told refl)))
+    (reads_up_to told o 1 (length earlier + 1) earlier name later read.0 (Yields product o) (Err status) refl read.1 (says told refl)))
 
 -- a place among the names
 placed : (earlier later : List (List ℕ)) (object name : List ℕ) → length earlier + 1 < length (object ∷ (earlier ++ (name ∷ later)))
@@ -197,34 +204,38 @@ absent_at held name told e absent = subst (λ (h : Option Held). IsAbsent h name
 
 -- one of the traces can't be read
 coverage_absent : (held : Option Held) (reads reads' : ℕ) (product : Product) (object bytes : List ℕ) (o : Object)
-    (earlier : List (List ℕ)) (name : List ℕ) (later traces : List (List ℕ))
-    → IfSome held (Holds object bytes) → IsFileOf o bytes → AreRead held o earlier traces → Rose reads reads' ⊎ IsAbsent held name
+    (earlier : List (List ℕ)) (name : List ℕ) (later : List (List ℕ))
+    → IfSome held (Holds object bytes) → IsFileOf o bytes → WereRead held o earlier → Rose reads reads' ⊎ IsAbsent held name
     → CannotGet (task_for product object (earlier ++ (name ∷ later))) (Word (length earlier + 1)) held reads reads'
-coverage_absent held reads reads' product object bytes o earlier name later traces holds is read (inl rose) =
+coverage_absent held reads reads' product object bytes o earlier name later holds is read (inl rose) =
     cannot_get held reads reads' product object (earlier ++ (name ∷ later)) (length earlier + 1) (placed earlier later object name) (inl rose)
-coverage_absent None reads reads' product object bytes o earlier name later traces holds is read (inr absent) = absurd absent
-coverage_absent (Some told) reads reads' product object bytes o earlier name later traces holds is read (inr absent) =
+coverage_absent None reads reads' product object bytes o earlier name later holds is read (inr absent) = absurd absent
+coverage_absent (Some told) reads reads' product object bytes o earlier name later holds is read (inr absent) =
     cannot_get (Some told) reads reads' product object (earlier ++ (name ∷ later)) (length earlier + 1) (placed earlier later object name)
     (inr (
       rw (name_there object earlier name later) absent,
-      told_stop (Some told) product object bytes o earlier name later traces (ReadFault (Word (length earlier + 1))) holds is read
+      told_stop (Some told) product object bytes o earlier name later (ReadFault (Word (length earlier + 1))) holds is read
           (λ held e Next. rw (absent_at (Some told) name held e absent) refl),
     ))
 
 -- one of the files is no trace that fits
 coverage_refused : (held : Option Held) (reads reads' : ℕ) (product : Product) (object bytes : List ℕ) (o : Object)
-    (earlier : List (List ℕ)) (name : List ℕ) (later traces : List (List ℕ)) (status : Status)
-    → IfSome held (Holds object bytes) → IsFileOf o bytes → AreRead held o earlier traces
+    (earlier : List (List ℕ)) (name : List ℕ) (later : List (List ℕ)) (status : Status)
+    → IfSome held (Holds object bytes) → IsFileOf o bytes → WereRead held o earlier
     → IsNoTrace (length earlier + 1) o name held reads reads' status
     → Stops (task_for product object (earlier ++ (name ∷ later))) held reads reads' status
-coverage_refused held reads reads' product object bytes o earlier name later traces status holds is read stop =
-    let number = length earlier + 1 in
-    let says : (status : Status) → RefusesTrace number o stop.trace status
-    → IfSome held (λ told. ComesTo told (task_for product object (earlier ++ (name ∷ later))) (Err status)) =
-    λ status refused. told_stop held product object bytes o earlier name later traces status holds is read
-    (λ told e Next. rw (subst (λ (h : Option Held). IfSome h (Holds name stop.trace)) e stop.holds) (inl refused)) in
-    let why = is_refusal number o stop.trace status stop.refused in
-    rw why.1 (stop.count, says (TraceRefused number why.0) (subst (λ (s : Status). RefusesTrace number o stop.trace s) why.1 stop.refused))
+coverage_refused held reads reads' product object bytes o earlier name later status holds is read stop =
+    rw stop.is (stop.count, by_held held holds read (subst (λ (s : Status). Refused held s) stop.is stop.refused))
+  where
+    Refused : Option Held → Status → Type 0
+    Refused h s = IfSome h (λ told. (trace : List ℕ) × Holds name trace told × RefusesTrace (length earlier + 1) o trace s)
+
+    by_held : (h : Option Held) → IfSome h (Holds object bytes) → WereRead h o earlier → Refused h (TraceRefused (length earlier + 1) stop.why)
+        → IfSome h (λ told. ComesTo told (task_for product object (earlier ++ (name ∷ later))) (Err (TraceRefused (length earlier + 1) stop.why)))
+    by_held None there before refused = tt
+    by_held (Some told) there before refused =
+        told_stop (Some told) product object bytes o earlier name later (TraceRefused (length earlier + 1) stop.why) there is before
+        (λ known e Next. rw (subst (λ (k : Option Held). IfSome k (Holds name refused.0)) e refused.1) (inl refused.2))
 
 stops_told : (held : Option Held) (reads reads' : ℕ) (product : Product) (object bytes : List ℕ) (names : List (List ℕ)) (o : Object) (status : Status)
     → IfSome held (Holds object bytes) → IsFileOf o bytes → StopsAmong o names held reads reads' status
@@ -236,9 +247,9 @@ stops_told held reads reads' product object bytes names o status holds is stop =
         → Stops (task_for product object (stop.earlier ++ (stop.name ∷ stop.later))) held reads reads' status
     by_cause (inl (inl memory)) = rw memory tt
     by_cause (inl (inr (e, cause))) =
-        rw e (coverage_absent held reads reads' product object bytes o stop.earlier stop.name stop.later stop.traces holds is stop.read cause)
+        rw e (coverage_absent held reads reads' product object bytes o stop.earlier stop.name stop.later holds is stop.read cause)
     by_cause (inr no_trace) =
-        coverage_refused held reads reads' product object bytes o stop.earlier stop.name stop.later stop.traces status holds is stop.read no_trace
+        coverage_refused held reads reads' product object bytes o stop.earlier stop.name stop.later status holds is stop.read no_trace
 
 -- the same, of what is held and counted after the object was read
 pub coverage_stops : (held held' : Option Held) (reads reads' reads'' : ℕ) (product : Product) (object bytes : List ℕ) (names : List (List ℕ)) (o : Object) (status : Status)
@@ -273,33 +284,33 @@ yields (products.File name) traces o old new output fit own no_event no_run adds
 )
 
 -- each of the files that were read is a trace
-all_fit : (held : Option Held) (o : Object) (names traces : List (List ℕ)) → AreRead held o names traces → AllByRecursion (IsTraceFor o) traces
-all_fit held o [] [] read = tt
-all_fit held o [] (t ∷ traces) read = absurd read
-all_fit held o (n ∷ names) [] read = absurd read
-all_fit held o (n ∷ names) (t ∷ traces) read = (read.1, all_fit held o names traces read.2)
+all_fit : (told : Held) (o : Object) (names traces : List (List ℕ)) → AreRead told o names traces → AllByRecursion (IsTraceFor o) traces
+all_fit told o [] [] read = tt
+all_fit told o [] (t ∷ traces) read = absurd read
+all_fit told o (n ∷ names) [] read = absurd read
+all_fit told o (n ∷ names) (t ∷ traces) read = (read.1, all_fit told o names traces read.2)
 
 -- the traces were read and added to a coverage of nothing, and this was made of it
-pub coverage_made : (held held' : Option Held) (reads reads' : ℕ) (product : Product) (object bytes : List ℕ) (names traces : List (List ℕ)) (o : Object) (old new : Covered) (verdict : Result Output Status)
-    → held' ≡ held → reads' ≡ reads → IfSome held (Holds object bytes) → IsFileOf o bytes → AreRead held' o names traces
-    → old.object ≡ o → ((e : Event) → Has old e → ⊥) → ((d : List ℕ) → HasRun old d → ⊥) → Adds o old new traces → IsMadeOf product o new verdict
+pub coverage_made : (held held' : Option Held) (reads reads' : ℕ) (product : Product) (object bytes : List ℕ) (names : List (List ℕ)) (o : Object) (old new : Covered) (verdict : Result Output Status)
+    → held' ≡ held → reads' ≡ reads → IfSome held (Holds object bytes) → IsFileOf o bytes → WereAdded held' o names old new
+    → old.object ≡ o → ((e : Event) → Has old e → ⊥) → ((d : List ℕ) → HasRun old d → ⊥) → IsMadeOf product o new verdict
     → Prepares (task_for product object names) held reads reads' verdict
-coverage_made held held' reads reads' product object bytes names traces o old new (Err status) same count holds is read own no_event no_run adds made =
+coverage_made held held' reads reads' product object bytes names o old new (Err status) same count holds is added own no_event no_run made =
     rw (for_memory product o new status made) tt
-coverage_made held held' reads reads' product object bytes names traces o old new (Ok output) same count holds is read own no_event no_run adds made = (
+coverage_made held held' reads reads' product object bytes names o old new (Ok output) same count holds is added own no_event no_run made = (
   count,
   made_named product object names o new output made,
-  told held holds (subst (λ (h : Option Held). AreRead h o names traces) same read),
+  told held holds (subst (λ (h : Option Held). WereAdded h o names old new) same added),
 )
   where
-    told : (held : Option Held) → IfSome held (Holds object bytes) → AreRead held o names traces
+    told : (held : Option Held) → IfSome held (Holds object bytes) → WereAdded held o names old new
         → IfSome held (λ told. ComesTo told (task_for product object names) (Ok output))
-    told None holds read = tt
-    told (Some h) holds read =
+    told None holds added = tt
+    told (Some h) holds added =
         comes_to (Some h) product object names (Ok output)
         (after_object (Some h) object bytes o (λ told o. AfterTraces told o 1 names (Yields product o)) (Ok output) holds is
-        (all_read h o 1 names traces (Yields product o) (Ok output) read
-        (yields product traces o old new output (all_fit (Some h) o names traces read) own no_event no_run adds made)))
+        (all_read h o 1 names added.0 (Yields product o) (Ok output) added.1
+        (yields product added.0 o old new output (all_fit h o names added.0 added.1) own no_event no_run added.2 made)))
 
 -- ---- run
 

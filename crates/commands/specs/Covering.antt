@@ -1,5 +1,5 @@
 -- What adding traces makes of a coverage, and what is made of it.
-use Rattle.std.specs.Prelude.{◌≡◌, ◌↔◌, ◌⊎◌, ℕ, List, None, Some, Result, Ok, Err}
+use Rattle.std.specs.Prelude.{◌≡◌, ◌↔◌, ◌⊎◌, ℕ, List, None, Result, Ok, Err}
 use Rattle.command_words.specs.Task.{Task, Coverage, Consolidate}
 use Rattle.cov_base.specs.declared.event.Event.{Event}
 use Rattle.cov_base.specs.declared.event.Event.TheVariants.{Done}
@@ -8,21 +8,16 @@ use Rattle.cov_base.specs.declared.level.Level.{Level}
 use Rattle.cov_base.specs.declared.position.DecId.{DecId}
 use Rattle.cov_base.specs.declared.position.InstId.{InstId}
 use Rattle.coverage_set.specs.Covered.{Covered, Has, HasRun}
-use Rattle.decision_map.specs.declared.fault.FitFault.{FitFault}
 use Rattle.decision_map.specs.Decisions.{graph_at}
-use Rattle.decision_map.specs.Fits.{fault_of}
 use Rattle.cov_base.specs.Lists.{Somewhere}
 use Rattle.cov_base.specs.Path.{IsPathVector}
-use Rattle.commands.specs.Content.{FailsAlone, RunShows, ClosesWith, ListsEvent, ListsRun, Shows, Counts, IsReport, TellsFile}
+use Rattle.commands.specs.Content.{RunShows, ClosesWith, ListsEvent, ListsRun, Shows, Counts, IsReport, TellsFile}
 use Rattle.commands.specs.declared.ready.coverage.Product.{Product}
 use Rattle.commands.specs.declared.ready.coverage.Product.TheVariants as products
 use Rattle.commands.specs.declared.status.Status.{Status}
-use Rattle.commands.specs.declared.status.Status.TheVariants.{TraceRefused, WantOfMemory}
-use Rattle.commands.specs.declared.status.TraceWhy.TheVariants.{File, Fit}
+use Rattle.commands.specs.declared.status.Status.TheVariants.{WantOfMemory}
 use Rattle.commands.specs.Verdict.{Output, Covers, Consolidates, Writes}
 use Rattle.object_format.specs.declared.object.Object.{Object}
-use Rattle.trace_format.specs.declared.fault.TraceFault.{TraceFault}
-use Rattle.trace_format.specs.Trace.{TraceFile}
 
 -- a coverage has what another had, and these events and runs with digests
 pub record AddsWhat (old new : Covered) (IsThere : Event → Type 0) (IsCounted : List ℕ → Type 0) : Type 0 where
@@ -73,13 +68,3 @@ Yields (products.File name) o = Consolidates name.now o
 abbrev pub IsMadeOf : Product → Object → Covered → Result Output Status → Type 0
 IsMadeOf (products.Report level annotate) o c verdict = IsReportOf level o c verdict
 IsMadeOf (products.File name) o c verdict = IsConsolidationOf name.now c verdict
-
--- ---- refusals
-
--- the status of a trace that fails a check of its file alone
-abbrev pub IsBadFile : (number : ℕ) → (trace : List ℕ) → Status → Type 0
-IsBadFile number trace status = (why : TraceFault) × FailsAlone trace why × (status ≡ TraceRefused number (File why))
-
--- the status of one that fails a check beside the object
-abbrev pub IsBadFit : (number : ℕ) → Object → TraceFile → Status → Type 0
-IsBadFit number o trace status = (why : FitFault) × (fault_of o trace ≡ Some why) × (status ≡ TraceRefused number (Fit why))

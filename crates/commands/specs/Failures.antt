@@ -8,11 +8,15 @@ use Rattle.rv32_emulator.specs.declared.input_file.InputFault.{InputFault}
 use Rattle.rv32_emulator.specs.declared.emulator.RunFault.{RunFault}
 use Rattle.rv32_emulator.specs.declared.emulator.RunFault.TheVariants as runs
 use Rattle.commands.specs.declared.status.Status.{Status}
-use Rattle.commands.specs.declared.status.Status.TheVariants.{SourceRefused, ObjectRefused, TraceRefused, InputRefused, OverBudget, Trap, WantOfMemory}
-use Rattle.commands.specs.declared.status.TraceWhy.TheVariants.{Broken, Consolidated}
+use Rattle.commands.specs.declared.status.FileRef.TheVariants.{Word}
+use Rattle.commands.specs.declared.status.Status.TheVariants.{SourceRefused, ObjectRefused, TraceRefused, InputRefused, OverBudget, Trap, ReadFault, WantOfMemory}
+use Rattle.commands.specs.declared.status.TraceWhy.TheVariants.{File, Fit, Broken, Consolidated}
+use Rattle.coverage_set.specs.declared.fault.AddFault.{AddFault}
+use Rattle.coverage_set.specs.declared.fault.AddFault.TheVariants as adds
+use Rattle.trace_format.specs.declared.entry.ReaderFault.{ReaderFault}
+use Rattle.trace_format.specs.declared.entry.ReaderFault.TheVariants as readers
 use Rattle.object_format.specs.declared.fault.ObjectFault.{ObjectFault}
 use Rattle.trace_format.specs.declared.consolidated.fault.ConsFault.{ConsFault}
-use Rattle.vector_rebuild.specs.declared.fault.BrokenHistory.{BrokenHistory}
 
 abbrev pub source_status : Failure SourceFault → Status
 source_status (Fault fault) = SourceRefused fault.file fault.line fault.col fault.why
@@ -31,9 +35,19 @@ run_status (Fault (runs.OverBudget count)) = OverBudget count
 run_status (Fault (runs.Trap pc why)) = Trap pc why
 run_status failures.WantOfMemory = WantOfMemory
 
-abbrev pub history_status : ℕ → Failure BrokenHistory → Status
-history_status number (Fault why) = TraceRefused number (Broken why)
-history_status number failures.WantOfMemory = WantOfMemory
+-- of the trace with this number, where its front was not read
+abbrev pub opened_status : ℕ → Failure ReaderFault → Status
+opened_status number (Fault readers.Read) = ReadFault (Word number)
+opened_status number (Fault (readers.Trace why)) = TraceRefused number (File why)
+opened_status number failures.WantOfMemory = WantOfMemory
+
+-- and where it was not added
+abbrev pub added_status : ℕ → Failure AddFault → Status
+added_status number (Fault adds.Read) = ReadFault (Word number)
+added_status number (Fault (adds.Trace why)) = TraceRefused number (File why)
+added_status number (Fault (adds.Fit why)) = TraceRefused number (Fit why)
+added_status number (Fault (adds.Broken at)) = TraceRefused number (Broken (record { at = at }))
+added_status number failures.WantOfMemory = WantOfMemory
 
 abbrev pub consolidated_status : ℕ → Failure ConsFault → Status
 consolidated_status number (Fault why) = TraceRefused number (Consolidated why)

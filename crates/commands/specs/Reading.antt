@@ -1,11 +1,16 @@
 -- What reading files says.
-use Rattle.std.specs.Prelude.{◌≡◌, ℕ, ◌+◌, List, [], ◌∷◌, ◌++◌, length, Option, IfSome, ◌⊎◌}
+use Rattle.std.specs.Prelude.{◌≡◌, ℕ, ◌+◌, List, [], ◌∷◌, ◌++◌, length, take, Option, IfSome, IsSomeAnd, ◌⊎◌}
+use Rattle.std.specs.FinMap as finmap
 use Rattle.cov_io.specs.Outside.{Held, Holds, Rose, IsAbsent}
-use Rattle.commands.specs.Content.{IsTraceFor, RefusesTrace}
+use Rattle.commands.specs.Content.{IsTraceFor, IsRunTraceFor, RefusesTrace, RefusesRunTrace}
+use Rattle.commands.specs.Covering.{Adds, AddsRun}
 use Rattle.commands.specs.declared.status.Status.{Status}
-use Rattle.commands.specs.declared.status.Status.TheVariants.{WantOfMemory, ReadFault}
+use Rattle.commands.specs.declared.status.Status.TheVariants.{WantOfMemory, ReadFault, TraceRefused}
+use Rattle.commands.specs.declared.status.TraceWhy.{TraceWhy}
 use Rattle.commands.specs.declared.status.FileRef.TheVariants.{Word}
+use Rattle.coverage_set.specs.Covered.{Covered}
 use Rattle.object_format.specs.declared.object.Object.{Object}
+use Rattle.trace_format.specs.Stream.{AreTold}
 
 -- why the file in this place was not read
 abbrev pub IsUnread : ℕ → List ℕ → Option Held → ℕ → ℕ → Status → Type 0
@@ -18,19 +23,27 @@ UnlessMemory Says status = (status ≡ WantOfMemory) ⊎ Says status
 
 -- ---- one trace after another
 
--- the files of these names were read, and each is a trace that fits the object
-abbrev pub AreRead : Option Held → Object → (names traces : List (List ℕ)) → Type 0
-AreRead held o [] [] = Unit {0}
-AreRead held o [] (trace ∷ traces) = ⊥
-AreRead held o (name ∷ names) [] = ⊥
-AreRead held o (name ∷ names) (trace ∷ traces) = IfSome held (Holds name trace) × IsTraceFor o trace × AreRead held o names traces
+-- the files of these names hold these bytes, and each is a trace that fits the object
+abbrev pub AreRead : Held → Object → (names traces : List (List ℕ)) → Type 0
+AreRead told o [] [] = Unit {0}
+AreRead told o [] (trace ∷ traces) = ⊥
+AreRead told o (name ∷ names) [] = ⊥
+AreRead told o (name ∷ names) (trace ∷ traces) = Holds name trace told × IsTraceFor o trace × AreRead told o names traces
+
+-- where the files tell what they hold, each of these names has a trace that fits the object
+abbrev pub WereRead : Option Held → Object → (names : List (List ℕ)) → Type 0
+WereRead held o names = IfSome held (λ told. (traces : List (List ℕ)) × AreRead told o names traces)
+
+-- and what they show was added to a coverage
+abbrev pub WereAdded : Option Held → Object → (names : List (List ℕ)) → (old new : Covered) → Type 0
+WereAdded held o names old new = IfSome held (λ told. (traces : List (List ℕ)) × AreRead told o names traces × Adds o old new traces)
 
 -- the file of this name was read, and is no trace that fits the object
 pub record IsNoTrace (number : ℕ) (o : Object) (name : List ℕ) (held : Option Held) (reads reads' : ℕ) (status : Status) : Type 0 where
-  pub trace : List ℕ
+  pub why : TraceWhy
+  pub is : status ≡ TraceRefused number why
   pub count : reads' ≡ reads
-  pub holds : IfSome held (Holds name trace)
-  pub refused : RefusesTrace number o trace status
+  pub refused : IfSome held (λ told. (trace : List ℕ) × Holds name trace told × RefusesTrace number o trace status)
 
 -- why the trace with this number stops the command
 abbrev pub StopsAt : (number : ℕ) → Object → (name : List ℕ) → Option Held → ℕ → ℕ → Status → Type 0
@@ -41,7 +54,27 @@ pub record StopsAmong (o : Object) (names : List (List ℕ)) (held : Option Held
   pub earlier : List (List ℕ)
   pub name : List ℕ
   pub later : List (List ℕ)
-  pub traces : List (List ℕ)
   pub are : names ≡ earlier ++ (name ∷ later)
-  pub read : AreRead held o earlier traces
+  pub read : WereRead held o earlier
   pub stops : StopsAt (length earlier + 1) o name held reads reads' status
+
+-- ---- one trace
+
+-- the first bytes of the file of this name, as many as 8
+abbrev pub HasFront : Option Held → (name front : List ℕ) → Type 0
+HasFront held name front = IfSome held (λ told. IsSomeAnd (finmap.get told name) (λ bytes. front ≡ take 8 bytes))
+
+-- where the files tell the bytes of this name, they are a trace that fits the object, and what it shows was added
+abbrev pub RunWasAdded : Option Held → Object → (name : List ℕ) → (old new : Covered) → Type 0
+RunWasAdded held o name old new = (bytes : List ℕ) → AreTold held name bytes → IsRunTraceFor o bytes × AddsRun o old new bytes
+
+-- the trace of this name was read, and is none that fits the object
+pub record IsNoRun (number : ℕ) (o : Object) (name : List ℕ) (held : Option Held) (reads reads' : ℕ) (status : Status) : Type 0 where
+  pub why : TraceWhy
+  pub is : status ≡ TraceRefused number why
+  pub count : reads' ≡ reads
+  pub refused : (bytes : List ℕ) → AreTold held name bytes → RefusesRunTrace number o bytes status
+
+-- why it was not added
+abbrev pub StopsRun : (number : ℕ) → Object → (name : List ℕ) → Option Held → ℕ → ℕ → Status → Type 0
+StopsRun number o name held reads reads' status = IsUnread number name held reads reads' status ⊎ IsNoRun number o name held reads reads' status

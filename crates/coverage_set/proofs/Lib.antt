@@ -21,3 +21,4 @@ pub mod RowsSeen
 pub mod ReplaySeen
 pub mod FoundSeen
 pub mod ReadLaws
+pub mod PieceLaw

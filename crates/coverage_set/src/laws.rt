@@ -1,6 +1,6 @@
 //! Laws of unions, of consolidated files, and of the traces of runs.
 
-ghost use Rattle.std.specs.Prelude.{◌≡◌, ◌↔◌, ℕ, ◌≤◌, ℤ, List, [], length, None};
+ghost use Rattle.std.specs.Prelude.{◌≡◌, ◌↔◌, ◌⊎◌, ℕ, ◌≤◌, ℤ, List, [], length, None, Ok};
 ghost use Rattle.cov_base.specs.declared.event.Event.{Event};
 ghost use Rattle.cov_base.specs.declared.failure.Failure.TheVariants.{Fault};
 ghost use Rattle.decision_map.specs.Fits.{fault_of};
@@ -10,14 +10,16 @@ ghost use Rattle.object_format.specs.declared.object.Object.{Object};
 ghost use Rattle.rv_machine.specs.Objects.{object_run};
 ghost use Rattle.rv_semantics.specs.Run.Outcome.{Ended};
 ghost use Rattle.trace_format.specs.declared.consolidated.fault.ConsFault.{ConsFault};
-ghost use Rattle.trace_format.specs.Trace.{closed_by};
+ghost use Rattle.trace_format.specs.Checks.{trace_of};
+ghost use Rattle.trace_format.specs.Trace.{TraceFile, closed_by};
 ghost use Rattle.trace_record.specs.Written.{traced};
 ghost use Rattle.transcript.specs.Reading.{Tells, AllFollow, IsDisciplined};
 ghost use Rattle.transcript.specs.Trace.{Says};
 ghost use Rattle.vector_rebuild.specs.Entries.{trace_in};
 ghost use Rattle.vector_rebuild.specs.Rebuilt.{visits_of};
 ghost use Rattle.coverage_set.specs.Consolidated.{IsReadOf, IsRefused};
-ghost use Rattle.coverage_set.specs.Covered.{Covered, AreSame, IsUnion};
+ghost use Rattle.coverage_set.specs.Covered.{Covered, Has, HasRun, AreSame, IsUnion};
+ghost use Rattle.coverage_set.specs.Read.{AddsTraceIn};
 ghost use Rattle.coverage_set.specs.Written.{IsFileOf};
 
 /// Coverages of one object may be joined in any order and grouping, and one may be joined twice.
@@ -64,4 +66,14 @@ pub fn own_traces_pass_all_checks()
         → IsDisciplined (facts_of o) (object_run o budget input).entries
         → AllFollow (facts_of o) []
         (visits_of (facts_of o) (closed_by (traced o (object_run o budget input).entries ending) closing).history) }
+{}
+
+/// A trace that was added in pieces was added as a view of its bytes is: coverages that come of both stand
+/// for the same.
+pub fn a_trace_in_pieces_is_the_trace()
+    ensures { (o : Object) (bytes : List ℕ) (t : TraceFile) (old pieces whole : Covered) → trace_of bytes ≡ Ok t
+        → pieces.object ≡ whole.object → AddsTraceIn o bytes old pieces
+        → ((e : Event) → Has whole e ↔ (Has old e ⊎ Says (facts_of o) (trace_in t) e))
+        → ((digest : List ℕ) → HasRun whole digest ↔ (HasRun old digest ⊎ (t.closing ≡ digest)))
+        → AreSame pieces whole }
 {}

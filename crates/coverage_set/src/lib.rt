@@ -31,6 +31,6 @@ pub use coverage::{Coverage, read_consolidated, write_consolidated};
 pub use fault::AddFault;
 pub use join::Join;
 pub use laws::{
-    a_coverage_has_one_file, own_traces_pass_all_checks, traces_of_runs_say_what_the_runs_tell,
-    unions_have_their_laws,
+    a_coverage_has_one_file, a_trace_in_pieces_is_the_trace, own_traces_pass_all_checks,
+    traces_of_runs_say_what_the_runs_tell, unions_have_their_laws,
 };

@@ -6,7 +6,9 @@ use crate::blobs::Blobs;
 use crate::fault::{Answer, CaseFault};
 use crate::objects::object_named;
 use crate::words::split_word;
-use crate::{consolidated, decisions, generics, instructions, lists, objects, runs, sources};
+use crate::{
+    consolidated, decisions, generics, instructions, lists, objects, pieces, runs, sources,
+};
 use cov_base::Failure;
 use object_format::Object;
 use std::alloc::Global;
@@ -50,7 +52,7 @@ fn asked(alloc: Global, blobs: &Blobs, out: &mut String, line: &str) -> Answer {
         "pairs" => decisions::pairs(alloc, out, words),
         "longs" => lists::longs(alloc, out, words),
         "generic" => generics::generic(alloc, out, words),
-        "run" | "words" | "fit" | "events" | "covered" => {
+        "run" | "words" | "fit" | "events" | "covered" | "fitting" | "added" | "rebuilt" => {
             of_object(alloc, blobs, out, command, words)
         }
         _ => of_latest(alloc, out, command, words, blobs.latest()?),
@@ -70,6 +72,8 @@ fn of_latest(alloc: Global, out: &mut String, command: &str, words: &str, blob: 
         "plain" => objects::plain(alloc, out, blob),
         "input" => objects::input(alloc, out, blob),
         "trace" => runs::trace(out, blob),
+        "pieces" => pieces::pieces(alloc, out, words, blob),
+        "portion" => pieces::portion(alloc, out, words, blob),
         "consolidated" => consolidated::consolidated(alloc, out, blob),
         _ => Err(Failure::Fault(CaseFault::Command)),
     }
@@ -98,6 +102,9 @@ fn asked_of_object(
         "words" => objects::words_at(alloc, out, object, words),
         "fit" => runs::fit_latest(alloc, blobs, out, object),
         "covered" => consolidated::covered(alloc, out, object, blobs.latest()?),
+        "fitting" => pieces::fitting(alloc, out, object, words, blobs.latest()?),
+        "added" => pieces::added(alloc, out, object, words, blobs.latest()?),
+        "rebuilt" => pieces::rebuilt(alloc, out, object, words, blobs.latest()?),
         _ => runs::events(alloc, blobs, out, object, words),
     }
 }

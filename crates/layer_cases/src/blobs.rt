@@ -75,6 +75,7 @@ impl Blobs {
             "+" => self.add(words.as_bytes()),
             "*" => self.add_repeated(words),
             "hex" => self.add_hex(alloc, words),
+            "many" => self.add_many(alloc, words),
             "lines" => self.add_lines(alloc, words),
             "part" => self.add_part(alloc, words),
             "digest" => self.add_digest(),
@@ -92,6 +93,15 @@ impl Blobs {
     fn add_hex(&mut self, alloc: Global, digits: &str) -> Answer {
         let bytes = bytes(alloc, digits)?;
         self.add(bytes.as_slice())
+    }
+
+    fn add_many(&mut self, alloc: Global, words: &str) -> Answer {
+        let (count, digits) = split_word(words);
+        let bytes = bytes(alloc, digits)?;
+        for _ in 0..number(count)? {
+            self.add(bytes.as_slice())?;
+        }
+        Ok(())
     }
 
     fn add_lines(&mut self, alloc: Global, words: &str) -> Answer {

@@ -4,7 +4,7 @@ use cov_base::Failure;
 use decision_map::FitFault;
 use object_format::ObjectFault;
 use std::fmt;
-use trace_format::TraceFault;
+use trace_format::{ReaderFault, TraceFault};
 use vector_rebuild::BrokenHistory;
 
 /// Why a line asks nothing.
@@ -21,6 +21,7 @@ pub(crate) enum CaseFault {
     Input(u64),
     Object(ObjectFault),
     Trace(TraceFault),
+    Reader(ReaderFault),
     Fit(FitFault),
     Broken(BrokenHistory),
 }
@@ -39,7 +40,8 @@ impl CaseFault {
             CaseFault::Tokens => "no tokens",
             CaseFault::Input(_) => "input line ",
             CaseFault::Object(_) => "object: ",
-            CaseFault::Trace(_) | CaseFault::Fit(_) | CaseFault::Broken(_) => "trace: ",
+            CaseFault::Trace(_) | CaseFault::Reader(_) | CaseFault::Fit(_) | CaseFault::Broken(_) =>
+                "trace: ",
         }
     }
 }
@@ -51,6 +53,7 @@ impl fmt::Display for CaseFault {
             CaseFault::Input(line) => write!(f, "{line} refused"),
             CaseFault::Object(fault) => write!(f, "{fault}"),
             CaseFault::Trace(fault) => write!(f, "{fault}"),
+            CaseFault::Reader(fault) => write!(f, "{fault}"),
             CaseFault::Fit(fault) => write!(f, "{fault}"),
             CaseFault::Broken(fault) => write!(f, "{fault}"),
             _ => Ok(()),

@@ -10,6 +10,7 @@
 //! | `+ TEXT` | adds the text, without the line's end |
 //! | `* COUNT TEXT` | adds the text so many times |
 //! | `hex DIGITS` | adds bytes |
+//! | `many COUNT DIGITS` | adds bytes so many times |
 //! | `lines NAME FIRST LAST` | adds lines of another blob, counted from 1 |
 //! | `part NAME FROM TO` | adds bytes of another blob, counted from 0, without that at TO |
 //! | `digest` | adds the SHA-256 of what is there |
@@ -29,6 +30,7 @@ mod instructions;
 mod laws;
 mod lists;
 mod objects;
+mod pieces;
 mod runs;
 mod sources;
 mod words;

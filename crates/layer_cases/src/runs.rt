@@ -20,13 +20,13 @@ use std::alloc::{AllocError, Global};
 use trace_format::{Block, HistoryEntry, TraceView};
 
 /// Adds a block.
-fn add_block(out: &mut String, block: Block) -> Result<(), AllocError> {
+pub(crate) fn add_block(out: &mut String, block: Block) -> Result<(), AllocError> {
     let Block { start, last, flags } = block;
     writeln!(out, "block {start:x} to {last:x} flags {flags}")
 }
 
 /// Adds an entry of a history.
-fn add_entry(out: &mut String, entry: HistoryEntry) -> Result<(), AllocError> {
+pub(crate) fn add_entry(out: &mut String, entry: HistoryEntry) -> Result<(), AllocError> {
     let HistoryEntry { address, x8, edge } = entry;
     writeln!(out, "entry {address:x} frame {x8:x} edge {edge}")
 }
@@ -53,7 +53,7 @@ pub(crate) fn trace(out: &mut String, bytes: &[u8]) -> Answer {
 }
 
 /// A view of a trace file.
-fn view_of(bytes: &[u8]) -> Result<TraceView<'_>, Failure<CaseFault>> {
+pub(crate) fn view_of(bytes: &[u8]) -> Result<TraceView<'_>, Failure<CaseFault>> {
     match TraceView::view(bytes) {
         Ok(view) => Ok(view),
         Err(fault) => Err(Failure::Fault(CaseFault::Trace(fault))),

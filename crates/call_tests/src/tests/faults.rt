@@ -101,7 +101,8 @@ fn are_refused(alloc: Global, before: &MemFiles, cases: &[Case<'_>]) -> Result<b
     Ok(true)
 }
 
-fn file_faults() -> [Case<'static>; 10] {
+/// Of each trace the front is read first, then its parts, the last of which tells that nothing follows.
+fn file_faults() -> [Case<'static>; 14] {
     [
         unread(COMPILE, 0, &[0], "gnatcov: cannot read p1.adb\n"),
         unwritten(COMPILE, &[1]),
@@ -110,9 +111,13 @@ fn file_faults() -> [Case<'static>; 10] {
         unwritten(RUN, &[2]),
         unread(COVERAGE, 0, &[0], "gnatcov: cannot read p1.obj\n"),
         unread(COVERAGE, 1, &[1], "gnatcov: cannot read p1.trace\n"),
-        unread(COVERAGE, 2, &[2], "gnatcov: cannot read copy.trace\n"),
-        unread(CONSOLIDATE, 2, &[2], "gnatcov: cannot read copy.trace\n"),
-        unwritten(CONSOLIDATE, &[3]),
+        unread(COVERAGE, 1, &[2], "gnatcov: cannot read p1.trace\n"),
+        unread(COVERAGE, 1, &[3], "gnatcov: cannot read p1.trace\n"),
+        unread(COVERAGE, 2, &[4], "gnatcov: cannot read copy.trace\n"),
+        unread(COVERAGE, 2, &[5], "gnatcov: cannot read copy.trace\n"),
+        unread(CONSOLIDATE, 2, &[4], "gnatcov: cannot read copy.trace\n"),
+        unread(CONSOLIDATE, 2, &[6], "gnatcov: cannot read copy.trace\n"),
+        unwritten(CONSOLIDATE, &[7]),
     ]
 }
 

@@ -13,6 +13,10 @@ enum Call<'a> {
     Reads(&'a str, &'a [u8]),
     /// It is not read, and leaves no bytes.
     FailsToRead(&'a str),
+    /// Of this file the part from a place on, of at most so many bytes, has these.
+    ReadsPart(&'a str, u64, usize, &'a [u8]),
+    /// No part of it is read, and no bytes are left.
+    FailsToReadPart(&'a str),
     /// These bytes are written to it.
     Writes(&'a str, &'a [u8]),
     /// They are not.
@@ -32,6 +36,12 @@ fn comes<F: Files>(files: &mut F, into: &mut Vec<u8>, call: Call<'_>) -> bool {
         Call::Reads(name, bytes) => files.read(name, into) == Ok(()) && into.as_slice() == bytes,
         Call::FailsToRead(name) => {
             files.read(name, into) == Err(FileFault::Failed) && into.is_empty()
+        }
+        Call::ReadsPart(name, from, most, bytes) => {
+            files.read_part(name, from, most.max(1), into) == Ok(()) && into.as_slice() == bytes
+        }
+        Call::FailsToReadPart(name) => {
+            files.read_part(name, 0, 1, into) == Err(FileFault::Failed) && into.is_empty()
         }
         Call::Writes(name, bytes) => files.write(name, bytes) == Ok(()),
         Call::FailsToWrite(name, bytes) => files.write(name, bytes) == Err(FileFault::Failed),
@@ -68,7 +78,7 @@ fn come_in_memory(alloc: Global, failing: &[u64], steps: &[Step<'_>]) -> Result<
     Ok(come(alloc, &mut files, steps))
 }
 
-static WRITTEN: [Step<'static>; 5] = [
+static WRITTEN: [Step<'static>; 8] = [
     Step {
         call: Call::Writes("a", b"new"),
         faults: (0, 0),
@@ -87,6 +97,18 @@ static WRITTEN: [Step<'static>; 5] = [
     },
     Step {
         call: Call::Reads("c", b"added"),
+        faults: (0, 0),
+    },
+    Step {
+        call: Call::ReadsPart("c", 1, 3, b"dde"),
+        faults: (0, 0),
+    },
+    Step {
+        call: Call::ReadsPart("c", 3, 9, b"ed"),
+        faults: (0, 0),
+    },
+    Step {
+        call: Call::ReadsPart("c", 5, 1, b""),
         faults: (0, 0),
     },
 ];
@@ -160,7 +182,7 @@ fn files_are_read_past_interruptions(rt: HostRuntime) {
 /// A file of the system, which is made and removed.
 const NAME: &str = "read_back.tmp";
 
-/// Whether bytes that are written to a file are read back while it is there.
+/// Whether 10,000 bytes that are written to a file are read back while it is there.
 fn are_read_back<R: rt::Files>(alloc: Global, rt: &R, bytes: &[u8]) -> bool {
     let there = [
         Step {
@@ -175,6 +197,14 @@ fn are_read_back<R: rt::Files>(alloc: Global, rt: &R, bytes: &[u8]) -> bool {
             call: Call::Reads(NAME, bytes),
             faults: (0, 0),
         },
+        Step {
+            call: Call::ReadsPart(NAME, 9_997, 2, &[7, 7]),
+            faults: (0, 0),
+        },
+        Step {
+            call: Call::ReadsPart(NAME, 10_000, 2, &[]),
+            faults: (0, 0),
+        },
     ];
     let gone = [
         Step {
@@ -184,6 +214,10 @@ fn are_read_back<R: rt::Files>(alloc: Global, rt: &R, bytes: &[u8]) -> bool {
         Step {
             call: Call::FailsToWrite("", bytes),
             faults: (1, 1),
+        },
+        Step {
+            call: Call::FailsToReadPart(NAME),
+            faults: (2, 1),
         },
     ];
     come(alloc, &mut HostFiles::new(rt), &there)

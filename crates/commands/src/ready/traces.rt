@@ -1,29 +1,32 @@
 //! The traces that a command names, read one after another and added to a coverage.
 
-ghost use Rattle.std.specs.Prelude.{◌≡◌, ℕ, List, [], ◌∷◌, ◌≤◌, length, map, None, Ok, IfErr, IfOk, IfSome, OnOk};
-ghost use Rattle.cov_io.specs.Outside.{Holds};
-ghost use Rattle.commands.specs.Content.{IsTraceFor, IsConsolidatedFor, IsRunTraceFor, RefusesTrace, RefusesConsolidated, RefusesRunTrace};
-ghost use Rattle.commands.specs.Covering.{Adds, AddsListed, AddsRun, IsBadFile, IsBadFit};
+ghost use Rattle.std.specs.Prelude.{◌≡◌, ℕ, List, [], ◌∷◌, ◌≤◌, ◌<◌, ◌-◌, length, map, IfErr, IfOk, IfSome, OnOk};
+ghost use Rattle.cov_io.specs.Outside.{HoldsPart};
+ghost use Rattle.commands.specs.Content.{IsConsolidatedFor, RefusesConsolidated};
+ghost use Rattle.commands.specs.Covering.{AddsListed};
+ghost use Rattle.commands.specs.Failures.{consolidated_status, added_status, opened_status};
 ghost use Rattle.commands.specs.declared.status.Status.TheVariants.{TraceRefused};
-ghost use Rattle.commands.specs.Failures.{consolidated_status, history_status};
-ghost use Rattle.commands.specs.Reading.{AreRead, StopsAt, StopsAmong, UnlessMemory};
+ghost use Rattle.commands.specs.Reading.{WereAdded, StopsAt, StopsAmong, UnlessMemory, IsUnread, HasFront, RunWasAdded, StopsRun};
 ghost use Rattle.coverage_set.specs.Consolidated.{IsReadOf};
-ghost use Rattle.decision_map.specs.Fits.{fault_of};
+ghost use Rattle.coverage_set.specs.Read.{IsOpened};
 ghost use Rattle.object_format.specs.Checked.{IsSound};
-ghost use Rattle.trace_format.specs.Checks.{trace_of};
+ghost use Rattle.trace_format.specs.Reader.{file_name};
 
 use crate::ready::read_file;
-use crate::status::{Status, TraceWhy};
+use crate::status::{FileRef, Status, TraceWhy};
 use cov_base::Failure;
-use cov_io::Files;
-use coverage_set::{Coverage, Join, read_consolidated};
+use cov_io::{FileFault, Files};
+use coverage_set::{AddFault, Coverage, Join, read_consolidated};
 use decision_map::DecisionMap;
 use std::alloc::Global;
-use trace_format::{ConsFault, TraceView};
+use trace_format::{ConsFault, ReaderFault, TraceReader};
 use vector_rebuild::BrokenHistory;
 
 /// The bytes that begin a consolidated file.
 const CONSOLIDATED_MAGIC: [u8; 4] = *b"GCCV";
+
+/// How many of a file's bytes are looked at to tell which of both it is.
+const FRONT: usize = 8;
 
 /// Adds what the traces of these names tell of runs of the object, in their order.
 pub fn add_traces<'a, F: Files>(
@@ -36,7 +39,8 @@ pub fn add_traces<'a, F: Files>(
     requires few { length names.now ≤ 4096 }
     requires sound { IsSound decisions.now }
     requires object { decisions.now ≡ coverage.old.object }
-    ensures read { OnOk result ((traces : List (List ℕ)) × AreRead (F.held files.old) decisions.now (map (λ name. name.now) names.now) traces × Adds decisions.now coverage.old coverage.new traces) }
+    ensures object { coverage.new.object ≡ coverage.old.object }
+    ensures added { OnOk result (WereAdded (F.held files.old) decisions.now (map (λ name. name.now) names.now) coverage.old coverage.new) }
     ensures reads { OnOk result (F.reads_failed files.new ≡ F.reads_failed files.old) }
     ensures stopped { IfErr result (StopsAmong decisions.now (map (λ name. name.now) names.now) (F.held files.old) (F.reads_failed files.old) (F.reads_failed files.new)) }
     ensures same { F.held files.new ≡ F.held files.old }
@@ -55,7 +59,8 @@ pub fn add_traces<'a, F: Files>(
     Ok(())
 }
 
-/// Adds what the trace file of this name tells, which has this number among the traces.
+/// Adds what the file of this name tells, which has this number among the traces. It is a trace, which is
+/// read in pieces, or a consolidated file, which is read whole, as its first bytes say.
 fn add_file<'a, F: Files>(
     alloc: Global,
     decisions: &DecisionMap<'a>,
@@ -66,35 +71,71 @@ fn add_file<'a, F: Files>(
 ) -> Result<(), Status>
     requires sound { IsSound decisions.now }
     requires object { decisions.now ≡ coverage.old.object }
-    ensures read { OnOk result ((trace : List ℕ) × IfSome (F.held files.old) (Holds name.now trace) × IsTraceFor decisions.now trace × Adds decisions.now coverage.old coverage.new (trace ∷ [])) }
+    ensures object { coverage.new.object ≡ coverage.old.object }
+    ensures added { OnOk result (WereAdded (F.held files.old) decisions.now (name.now ∷ []) coverage.old coverage.new) }
     ensures reads { OnOk result (F.reads_failed files.new ≡ F.reads_failed files.old) }
     ensures stopped { IfErr result (StopsAt number decisions.now name.now (F.held files.old) (F.reads_failed files.old) (F.reads_failed files.new)) }
     ensures same { F.held files.new ≡ F.held files.old }
     ensures writes { F.writes_failed files.new ≡ F.writes_failed files.old }
 {
-    let bytes = read_file(alloc, number, name, files)?;
-    add_read(alloc, decisions, number, bytes.as_slice(), coverage)
+    let front = front_of(alloc, number, name, files)?;
+    if front.as_slice().starts_with(&CONSOLIDATED_MAGIC) {
+        let bytes = read_file(alloc, number, name, files)?;
+        return add_consolidated(alloc, decisions, number, bytes.as_slice(), coverage);
+    }
+    add_trace(alloc, decisions, number, name, files, coverage)
 }
 
-/// Adds what a file tells of runs of the object. It is a trace or a consolidated file, as its first
-/// bytes say.
-fn add_read<'a>(
+/// The first bytes of the file with this number among the traces: 8 of them, or all where it has fewer.
+fn front_of<F: Files>(
     alloc: Global,
-    decisions: &DecisionMap<'a>,
     number: u32,
-    bytes: &[u8],
-    coverage: &mut Coverage<'a>,
-) -> Result<(), Status>
-    requires sound { IsSound decisions.now }
-    requires object { decisions.now ≡ coverage.old.object }
-    ensures fits { OnOk result (IsTraceFor decisions.now bytes.now) }
-    ensures added { OnOk result (Adds decisions.now coverage.old coverage.new (bytes.now ∷ [])) }
-    ensures refused { IfErr result (UnlessMemory (RefusesTrace number decisions.now bytes.now)) }
+    name: &str,
+    files: &mut F,
+) -> Result<Vec<u8>, Status>
+    ensures front { IfOk result (λ front. HasFront (F.held files.old) name.now front.items) }
+    ensures reads { OnOk result (F.reads_failed files.new ≡ F.reads_failed files.old) }
+    ensures unread { IfErr result (IsUnread number name.now (F.held files.old) (F.reads_failed files.old) (F.reads_failed files.new)) }
+    ensures same { F.held files.new ≡ F.held files.old }
+    ensures writes { F.writes_failed files.new ≡ F.writes_failed files.old }
 {
-    if bytes.starts_with(&CONSOLIDATED_MAGIC) {
-        add_consolidated(alloc, decisions, number, bytes, coverage)
-    } else {
-        add_trace(decisions, number, bytes, coverage)
+    let mut front = Vec::new(alloc);
+    let mut part = Vec::new(alloc);
+    for _ in 0..FRONT {
+        read_next(number, name, files, front.len(), &mut part)?;
+        if part.is_empty() {
+            return Ok(front);
+        }
+        front.extend_from_slice(part.as_slice())?;
+        if front.len() >= FRONT {
+            return Ok(front);
+        }
+    }
+    Ok(front)
+}
+
+/// Reads the bytes behind the first ones of which a file's front has so many already.
+fn read_next<F: Files>(
+    number: u32,
+    name: &str,
+    files: &mut F,
+    from: usize,
+    part: &mut Vec<u8>,
+) -> Result<(), Status>
+    requires { from < 8 }
+    ensures part { OnOk result (IfSome (F.held files.old) (HoldsPart name.now from part.new.items)) }
+    ensures few { length part.new.items ≤ 8 - from }
+    ensures reads { OnOk result (F.reads_failed files.new ≡ F.reads_failed files.old) }
+    ensures unread { IfErr result (IsUnread number name.now (F.held files.old) (F.reads_failed files.old) (F.reads_failed files.new)) }
+    ensures same { F.held files.new ≡ F.held files.old }
+    ensures writes { F.writes_failed files.new ≡ F.writes_failed files.old }
+{
+    match files.read_part(name, from as u64, FRONT - from, part) {
+        Ok(()) => Ok(()),
+        Err(FileFault::Failed) => Err(Status::ReadFault {
+            file: FileRef::Word(number),
+        }),
+        Err(FileFault::NoMemory) => Err(Status::WantOfMemory),
     }
 }
 
@@ -107,6 +148,7 @@ fn add_consolidated<'a>(
     coverage: &mut Coverage<'a>,
 ) -> Result<(), Status>
     requires { decisions.now ≡ coverage.old.object }
+    ensures object { coverage.new.object ≡ coverage.old.object }
     ensures fits { OnOk result (IsConsolidatedFor decisions.now bytes.now) }
     ensures added { OnOk result (AddsListed coverage.old coverage.new bytes.now) }
     ensures refused { IfErr result (UnlessMemory (RefusesConsolidated number decisions.now bytes.now)) }
@@ -132,43 +174,32 @@ fn listed_in<'a>(
     }
 }
 
-/// Adds what a trace file tells of a run of the object.
-fn add_trace(
+/// Adds what the trace file of this name tells of a run of the object, which is read in pieces.
+fn add_trace<F: Files>(
+    alloc: Global,
     decisions: &DecisionMap<'_>,
     number: u32,
-    trace: &[u8],
+    name: &str,
+    files: &mut F,
     coverage: &mut Coverage<'_>,
 ) -> Result<(), Status>
     requires sound { IsSound decisions.now }
     requires object { decisions.now ≡ coverage.old.object }
-    ensures fits { OnOk result (IsRunTraceFor decisions.now trace.now) }
-    ensures added { OnOk result (AddsRun decisions.now coverage.old coverage.new trace.now) }
-    ensures refused { IfErr result (UnlessMemory (RefusesRunTrace number decisions.now trace.now)) }
+    ensures object { coverage.new.object ≡ coverage.old.object }
+    ensures added { OnOk result (RunWasAdded (F.held files.old) decisions.now name.now coverage.old coverage.new) }
+    ensures reads { OnOk result (F.reads_failed files.new ≡ F.reads_failed files.old) }
+    ensures stopped { IfErr result (StopsRun number decisions.now name.now (F.held files.old) (F.reads_failed files.old) (F.reads_failed files.new)) }
+    ensures same { F.held files.new ≡ F.held files.old }
+    ensures writes { F.writes_failed files.new ≡ F.writes_failed files.old }
 {
-    let view = view_of(number, trace)?;
-    check_fit(decisions, number, &view)?;
-    match coverage.add_trace(decisions, &view) {
+    let mut reader = match TraceReader::open(alloc, files, name) {
+        Ok(reader) => reader,
+        Err(failure) => return Err(unopened(number, failure)),
+    };
+    match coverage.add_read(decisions, files, &mut reader) {
         Ok(()) => Ok(()),
-        Err(failure) => Err(refused_history(number, failure)),
+        Err(failure) => Err(refused_trace(number, failure)),
     }
-}
-
-/// A view of the trace with this number.
-fn view_of(number: u32, trace: &[u8]) -> Result<TraceView<'_>, Status>
-    ensures read { IfOk result (λ view. trace_of trace.now ≡ Ok view) }
-    ensures refused { IfErr result (IsBadFile number trace.now) }
-{
-    TraceView::view(trace).map_err(|why| refusal(number, TraceWhy::File(why)))
-}
-
-/// Checks that the trace with this number can be one of the object.
-fn check_fit(decisions: &DecisionMap<'_>, number: u32, view: &TraceView<'_>) -> Result<(), Status>
-    ensures fits { OnOk result (fault_of decisions.now view.now ≡ None) }
-    ensures refused { IfErr result (IsBadFit number decisions.now view.now) }
-{
-    decisions
-        .fit(view)
-        .map_err(|why| refusal(number, TraceWhy::Fit(why)))
 }
 
 /// The status of the trace with this number, where it fails a check.
@@ -178,12 +209,33 @@ fn refusal(number: u32, why: TraceWhy) -> Status
     Status::TraceRefused { index: number, why }
 }
 
-/// The status of the trace with this number, where its history was not taken.
-fn refused_history(number: u32, failure: Failure<BrokenHistory>) -> Status
-    ensures { result ≡ history_status number failure }
+/// The status of the trace with this number, where its front was not read.
+fn unopened(number: u32, failure: Failure<ReaderFault>) -> Status
+    ensures { result ≡ opened_status number failure }
 {
     match failure {
-        Failure::Fault(why) => refusal(number, TraceWhy::Broken(why)),
+        Failure::Fault(ReaderFault::Read) => Status::ReadFault {
+            file: FileRef::Word(number),
+        },
+        Failure::Fault(ReaderFault::Trace(why)) => refusal(number, TraceWhy::File(why)),
+        Failure::WantOfMemory => Status::WantOfMemory,
+    }
+}
+
+/// The status of the trace with this number, where it was not added.
+fn refused_trace(number: u32, failure: Failure<AddFault>) -> Status
+    ensures { result ≡ added_status number failure }
+{
+    match failure {
+        Failure::Fault(AddFault::Read) => Status::ReadFault {
+            file: FileRef::Word(number),
+        },
+        Failure::Fault(AddFault::Trace(why)) => refusal(number, TraceWhy::File(why)),
+        Failure::Fault(AddFault::Fit(why)) => refusal(number, TraceWhy::Fit(why)),
+        Failure::Fault(AddFault::Broken { at }) => refusal(
+            number,
+            TraceWhy::Broken(BrokenHistory { at }),
+        ),
         Failure::WantOfMemory => Status::WantOfMemory,
     }
 }

@@ -24,14 +24,13 @@ pub made-requires-clause-sound : goal.made-requires-clause-sound
 made-requires-clause-sound g c = c.requires.object.sound
 
 pub made-requires-clause-own : goal.made-requires-clause-own
-made-requires-clause-own g c = c.in_ok-add_traces.ensures.read.2.object ∙ c.new-coverage.ensures.object
+made-requires-clause-own g c = c.in_ok-add_traces.ensures.object ∙ c.new-coverage.ensures.object
 
 pub returns-clause-prepares : goal.returns-clause-prepares
 returns-clause-prepares g c =
-    let traces = c.in_ok-add_traces.ensures.read in
     let made = subst (λ (o : Object). IsMadeOf c.args.product o c.add_traces.new.coverage (verdict_view c.made.result)) (sym c.in_ok-decisions.ensures) c.made.ensures in
     λ name bytes holds is.
     let of_map : IsFileOf c.in_ok-decisions.decisions bytes = subst (λ (o : Object). IsFileOf o bytes) (sym c.in_ok-decisions.ensures) is in
-    coverage_made _ _ _ _ c.args.product name bytes (map (λ name. name.now) c.args.traces.now) traces.0
-    c.in_ok-decisions.decisions _ _ _ refl c.in_ok-add_traces.ensures.reads holds of_map traces.1
-    (c.new-coverage.ensures.object ∙ sym c.in_ok-decisions.ensures) c.new-coverage.ensures.events c.new-coverage.ensures.runs traces.2 made
+    coverage_made _ _ _ _ c.args.product name bytes (map (λ name. name.now) c.args.traces.now)
+    c.in_ok-decisions.decisions _ _ _ refl c.in_ok-add_traces.ensures.reads holds of_map c.in_ok-add_traces.ensures.added
+    (c.new-coverage.ensures.object ∙ sym c.in_ok-decisions.ensures) c.new-coverage.ensures.events c.new-coverage.ensures.runs made
