@@ -1,0 +1,5 @@
+pub mod Parts
+pub mod ScopeLaws
+pub mod Walks
+pub mod Local
+pub mod PartLaws
