@@ -1,9 +1,13 @@
-//! Names and expressions: what they come to by the rules on their parts (Ada RM 2012, 4.1 to 4.6, 6.4).
+//! Names and expressions: the walk over them, as the rules have it (Ada RM 2012, 4.1 to 4.6, 6.4).
 //!
-//! A [`Scope`] is where a construct stands. There [`Denoted`] is what a name denotes: its parts, its
-//! attributes, indices, conversions and calls with their actuals, and what it is as an expression. And
-//! [`Decisions`] are numbered, counted against their limit and closed. The walk over the trees is to
-//! stand on these.
+//! The contract that the layers above use: wherever a [`Scope`] stands, [`judged`] and [`denoted`]
+//! answer what the rules say of an expression and of a name, in the step of names and in that of types,
+//! with the numbers of the decisions in it; where they refuse it, they stand at the rules' own place.
+//! Of want of memory nothing is said.
+//!
+//! Each function of the walk has one shape of contract, `ComesTo` of `specs/Answers.antt`: the rules'
+//! answer is what is returned, as it is seen. What grows to the right, as a chain of operators or the
+//! parts of a name, is a loop over turns, and no nesting.
 #![tactic(auto)]
 
 mod actuals;
@@ -12,6 +16,7 @@ mod attributes;
 mod circuits;
 mod decisions;
 mod names;
+mod phrases;
 mod routines;
 mod scope;
 mod suffixes;
@@ -19,4 +24,5 @@ mod suffixes;
 pub use circuits::Role;
 pub use decisions::Decisions;
 pub use names::Denoted;
+pub use phrases::{denoted, judged};
 pub use scope::{Scope, Step};
