@@ -6,3 +6,4 @@ pub mod PartLaws
 pub mod Closed
 pub mod Turns
 pub mod Ends
+pub mod DecisionLaws

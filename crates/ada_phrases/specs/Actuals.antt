@@ -1,4 +1,5 @@
--- Actual parameters, as the checker finds them. Each is a step of the list that they are: the actual, and those behind it.
+-- Actual parameters, as the checker finds them. Each is a step of the list that they are: the actual, and those
+-- behind it.
 use Rattle.std.specs.Prelude.{◌≡◌, ℕ, List, [], ◌∷◌, ◌&&◌, map, reverse, Option, Some, None, option_map, if◌then◌else◌}
 use Rattle.std.specs.Option.{option_and_then}
 use Rattle.std.specs.declared.alloc.Global.{Global}
@@ -37,7 +38,8 @@ HasSubtype k q t = q.subtype ≡ subtype_of k.types t
 
 abbrev pub IsByName : Subtype → Variable → Option Actual → Type 0
 IsByName t v o =
-    (k : Tables) (q : entities.Parameter) (rest : tree.Actuals) → HasSubtype k q t → in_front o rest ≡ rules.by_name q rest (variable_of k v)
+    (k : Tables) (q : entities.Parameter) (rest : tree.Actuals) → HasSubtype k q t → in_front o rest
+    ≡ rules.by_name q rest (variable_of k v)
 
 abbrev pub IsByObject : Subtype → Form → Option Actual → Type 0
 IsByObject t f o =
@@ -47,15 +49,18 @@ IsByObject t f o =
 abbrev pub IsPassedByName : Subtype → Judged → Option Actual → Type 0
 IsPassedByName t x o =
     (k : Tables) (q : entities.Parameter) (rest : tree.Actuals) → HasSubtype k q t
-    → in_front o rest ≡ (if (judged_of k x).is_name then option_and_then (rules.by_name q rest) (judged_of k x).variable else None)
+    → in_front o rest
+    ≡ (if (judged_of k x).is_name then option_and_then (rules.by_name q rest) (judged_of k x).variable else None)
 
 abbrev pub IsComposite : Form → Option Actual → Type 0
 IsComposite f o =
-    (k : Tables) (rest : tree.Actuals) → in_front o rest ≡ option_map (λ v. tree.by_composite v.object v.parts rest) (variable_in k f)
+    (k : Tables) (rest : tree.Actuals) → in_front o rest
+    ≡ option_map (λ v. tree.by_composite v.object v.parts rest) (variable_in k f)
 
 abbrev pub IsByValue : Subtype → Judged → Option Actual → Type 0
 IsByValue t x o =
-    (k : Tables) (q : entities.Parameter) (rest : tree.Actuals) → HasSubtype k q t → in_front o rest ≡ rules.by_value q (judged_of k x) rest
+    (k : Tables) (q : entities.Parameter) (rest : tree.Actuals) → HasSubtype k q t → in_front o rest
+    ≡ rules.by_value q (judged_of k x) rest
 
 abbrev pub IsPassed : Mode → Subtype → Judged → Option Actual → Type 0
 IsPassed m t x o =

@@ -41,7 +41,8 @@ IsElementOf types v x o =
 
 abbrev pub IsApplied : Scope → Denoted → List Judged → Option Denoted → Type 0
 IsApplied scope d xs o =
-    (k : Tables) (env : Env) → StandsIn scope k env → option_map (denotes k) o ≡ rules.applied_to (denotes k d) (map (judged_of k) xs)
+    (k : Tables) (env : Env) → StandsIn scope k env → option_map (denotes k) o
+    ≡ rules.applied_to (denotes k d) (map (judged_of k) xs)
 
 -- a call, a name without actuals, and any name as an expression
 abbrev pub IsCallValue : Scope → Pos → RoutineName → List Actual → Option Judged → Type 0

@@ -40,7 +40,8 @@ IsClosable None x = Unit
 IsClosable (Some l) x = x.variable ≡ None
 
 -- an expression that was closed, from these decisions to those
-abbrev pub IsClosed : (old new : Decisions) → (own closed : Judged) → (Given rules.Judged → Given rules.Judged) → Option tree.Label → Type 0
+abbrev pub IsClosed : (old new : Decisions) → (own closed : Judged) → (Given rules.Judged → Given rules.Judged)
+    → Option tree.Label → Type 0
 IsClosed old new own closed f l =
     (k : Tables) (s : State) → IsClosable l (judged_of k own)
     → given (judged_of k closed) (counted new s) ≡ f (given (judged_of k own) (counted old s))

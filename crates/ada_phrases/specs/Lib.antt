@@ -7,3 +7,4 @@ pub mod Routines
 pub mod Actuals
 pub mod Applied
 pub mod Steps
+pub mod DecisionView

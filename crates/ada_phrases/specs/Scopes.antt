@@ -43,7 +43,8 @@ pub record StandsIn (scope : Scope) (k : Tables) (env : Env) : Type 0 where
 -- what a name denotes there
 abbrev pub IsVisible : Scope → List ℕ → Option Entity → Type 0
 IsVisible scope name x =
-    (k : Tables) (env : Env) → StandsIn scope k env → option_map (entity_of k) x ≡ entities.visible name (regions_of env)
+    (k : Tables) (env : Env) → StandsIn scope k env → option_map (entity_of k) x
+    ≡ entities.visible name (regions_of env)
 
 abbrev pub IsPartOfUnit : Scope → ℕ → List ℕ → Option Entity → Type 0
 IsPartOfUnit scope n name x =

@@ -31,7 +31,8 @@ use Rattle.ada_phrases.specs.Closing.{closing_in}
 
 -- one more operand of an operator with two
 abbrev pub operand_in : Env → Pos → Given rules.Judged → Operand → Plan (Given rules.Judged)
-operand_in env p x o = judged env itself x.next o.operand >>= (λ y. typed_as env y.next (binary_of p o.operator x.value y.value))
+operand_in env p x o = judged env itself x.next o.operand >>= (λ y. typed_as env y.next (binary_of p
+    o.operator x.value y.value))
 
 -- one more operand of a logical operator
 abbrev pub joined_in : Env → Pos → LogicalOperator → Given rules.Judged → source.Expr → Plan (Given rules.Judged)
@@ -41,7 +42,8 @@ joined_in env p op x e = judged env operand x.next e >>= (λ y. typed_as env y.n
 abbrev pub applied_in : Env → Pos → Given rules.Denoted → source.Exprs → Plan (Given rules.Denoted)
 applied_in env p d es =
     all_judged env d.next p es
-    >>= (λ xs. typed_rule env.step (given a_thing xs.next) (option_map (λ x. given x xs.next) (applied_to d.value xs.value)))
+    >>= (λ xs. typed_rule env.step (given a_thing xs.next) (option_map (λ x. given x xs.next) (applied_to
+    d.value xs.value)))
 
 abbrev pub suffix_in : Env → Pos → Given rules.Denoted → Suffix → Plan (Given rules.Denoted)
 suffix_in env p d (suffix.Selected i) = selection env d.next d.value (key i)
@@ -56,7 +58,8 @@ finished step l p (Err q) = Err q
 -- a name at this place that denotes an entity
 abbrev pub IsNamed : Pos → Option Entity → Result Denoted (Failure Refusal) → Type 0
 IsNamed p x result =
-    (k : Tables) (s : State) → Answers (λ d. given (denotes k d) s) (answer_at p (named s (option_map (entity_of k) x)).outcome) result
+    (k : Tables) (s : State)
+    → Answers (λ d. given (denotes k d) s) (answer_at p (named s (option_map (entity_of k) x)).outcome) result
 
 -- a part or an attribute of what a name at this place denotes
 abbrev pub IsSelected : Scope → Pos → (prefix : Denoted) → List ℕ → Result Denoted (Failure Refusal) → Type 0

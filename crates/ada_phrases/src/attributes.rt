@@ -32,7 +32,8 @@ pub fn is_attribute(name: &[u8]) -> bool
 
 /// The first or the last one of a range of values of a type.
 fn limit_of(name: &[u8], of: AdaType, range: ScalarRange) -> Option<Attribute>
-    ensures { (k : TypeTables) → option_map (value_and_kind k) result ≡ rules.limit_of name.now (type_of k of) (scalar_range_of range) }
+    ensures { (k : TypeTables) → option_map (value_and_kind k) result
+        ≡ rules.limit_of name.now (type_of k of) (scalar_range_of range) }
 {
     if name == "first".as_bytes() {
         return Some(Attribute {
@@ -64,7 +65,8 @@ fn extent_of(name: &[u8], index: Subtype) -> Option<Attribute>
 
 /// An attribute of an array, where these are the subtypes of its index and of its components.
 fn attribute_of_array(name: &[u8], parts: Option<(Subtype, Subtype)>) -> Option<Attribute>
-    ensures { (k : TypeTables) → option_map (value_and_kind k) result ≡ extent_in name.now (option_map (parts_of k) parts) }
+    ensures { (k : TypeTables) → option_map (value_and_kind k) result
+        ≡ extent_in name.now (option_map (parts_of k) parts) }
 {
     match parts {
         Some((index, _)) => extent_of(name, index),
@@ -84,7 +86,8 @@ fn attribute_of_type(types: &Types, name: &[u8], subtype: Subtype) -> Option<Att
 
 /// A static attribute, where there is one.
 fn static_attribute(found: Option<Attribute>) -> Option<Denoted>
-    ensures { (k : Tables) → option_map (denotes k) result ≡ option_map rules.static_attribute (option_map (value_and_kind k.types) found) }
+    ensures { (k : Tables) → option_map (denotes k) result
+        ≡ option_map rules.static_attribute (option_map (value_and_kind k.types) found) }
 {
     match found {
         Some(attribute) => Some(Denoted::Value(valued(

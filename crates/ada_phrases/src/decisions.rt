@@ -86,7 +86,8 @@ impl Decisions {
 
     /// Takes the number of an expression that begins at this place, where it is a decision of its own.
     pub fn enter(&mut self, opens: bool, pos: Pos) -> Result<Option<Label>, AllocError>
-        ensures label { IfOk result (λ l. (s : State) → option_map label_of l ≡ label_if opens (counted self.old s) pos) }
+        ensures label { IfOk result (λ l. (s : State) → option_map label_of l
+            ≡ label_if opens (counted self.old s) pos) }
         ensures entered { OnOk result ((s : State) → counted self.new s ≡ entered opens (counted self.old s)) }
     {
         if !opens {
@@ -116,7 +117,8 @@ pub fn closed(
     pos: Pos,
     value: Judged,
 ) -> Result<Judged, AllocError>
-    ensures { IfOk result (λ x. IsClosed decisions.old decisions.new value x (closing (option_map label_of label) pos) (option_map label_of label)) }
+    ensures { IfOk result (λ x. IsClosed decisions.old decisions.new value x
+        (closing (option_map label_of label) pos) (option_map label_of label)) }
 {
     let Some(label) = label else {
         return Ok(value);
@@ -143,7 +145,8 @@ pub fn closed_in(
     pos: Pos,
     value: Judged,
 ) -> Result<Judged, AllocError>
-    ensures { IfOk result (λ x. IsClosed decisions.old decisions.new value x (closing_in (step_of step) (option_map label_of label) pos) (option_map label_of label)) }
+    ensures { IfOk result (λ x. IsClosed decisions.old decisions.new value x
+        (closing_in (step_of step) (option_map label_of label) pos) (option_map label_of label)) }
 {
     match step {
         Step::Naming => Ok(value),

@@ -49,7 +49,8 @@ pub(crate) fn valued(
     known: Option<StaticTree>,
     values: Option<Values>,
 ) -> Judged
-    ensures { (k : Tables) → judged_of k result ≡ rules.valued expr (kind_of k.types kind) known (option_map (values_of k) values) }
+    ensures { (k : Tables) → judged_of k result
+        ≡ rules.valued expr (kind_of k.types kind) known (option_map (values_of k) values) }
 {
     Judged {
         form: Form::Plain(expr),
@@ -78,7 +79,8 @@ fn literal(of: AdaType, position: i32) -> Judged
 
 /// The value of a formal object (RM 12.4).
 fn formal_object(subtype: Subtype, owner: Owner, value: StaticValue) -> Judged
-    ensures { (k : Tables) → judged_of k result ≡ formal_of (subtype_of k.types subtype) (static_by owner (static_value_of value)) }
+    ensures { (k : Tables) → judged_of k result
+        ≡ formal_of (subtype_of k.types subtype) (static_by owner (static_value_of value)) }
 {
     let value = Static::Value(owner, value);
     valued(

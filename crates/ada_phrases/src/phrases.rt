@@ -223,7 +223,8 @@ fn chained(
     others: &[Expr],
 ) -> Result<Judged, Failure<Refusal>>
     ensures { ComesTo judged_of scope.now decisions.old decisions.new
-        (λ k env s. along pos (joined_in env pos operator) (rules.judged env rules.operand s first.now).answer others.now) result }
+        (λ k env s. along pos (joined_in env pos operator)
+        (rules.judged env rules.operand s first.now).answer others.now) result }
 {
     let mut value = judged(alloc, scope, Role::Operand, decisions, first)?;
     for other in others {
@@ -306,7 +307,8 @@ fn applied(
     exprs: &[Expr],
 ) -> Result<Denoted, Failure<Refusal>>
     ensures { ComesTo denotes scope.now decisions.old decisions.new
-        (λ k env s. answer_at pos (applied_in env pos (given (denotes k prefix) s) (exprs_of exprs.now)).outcome) result }
+        (λ k env s. answer_at pos (applied_in env pos
+        (given (denotes k prefix) s) (exprs_of exprs.now)).outcome) result }
 {
     let values = all_judged(alloc, scope, decisions, exprs)?;
     let found = prefix.applied(alloc, scope, values)?;
