@@ -32,5 +32,6 @@ abbrev pub IsDecision : (old new : Decisions) → Step → Pos → Label → Jud
 IsDecision old new step p l x result =
     (k : Tables) (s : State)
     → Answers (λ d. given (decision_of k d) (counted new s))
-    (answer_at p (typed_rule (step_of step) (given (label_of l, test_of (judged_of k x).at (judged_of k x).form) (counted old s))
+    (answer_at p (typed_rule (step_of step)
+    (given (label_of l, test_of (judged_of k x).at (judged_of k x).form) (counted old s))
     (option_map (λ t. given (label_of l, t) (measured p t (counted old s))) (tested (judged_of k x)))).outcome) result

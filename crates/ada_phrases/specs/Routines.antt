@@ -38,7 +38,10 @@ abbrev pub IsSeenResult : TypeTables → ResultMark → Values → Owner → Ret
 IsSeenResult types m v o r =
     (k : Tables) → k.types ≡ types
     → returned_of k r
-    ≡ (subtype_by types o (subtype_of types m.subtype), values_by o (values_of k v) (subtype_by types o (subtype_of types m.subtype)))
+    ≡ (
+      subtype_by types o (subtype_of types m.subtype),
+      values_by o (values_of k v) (subtype_by types o (subtype_of types m.subtype)),
+    )
 
 abbrev pub IsReturned : TypeTables → Option (Bor Routine) → Owner → Option Returned → Type 0
 IsReturned types found o r =
