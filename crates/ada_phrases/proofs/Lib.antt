@@ -1,0 +1,9 @@
+pub mod Parts
+pub mod ScopeLaws
+pub mod Walks
+pub mod Local
+pub mod PartLaws
+pub mod Closed
+pub mod Turns
+pub mod Ends
+pub mod DecisionLaws

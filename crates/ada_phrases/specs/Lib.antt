@@ -1,0 +1,10 @@
+pub mod Scopes
+pub mod Answers
+pub mod Closing
+pub mod DenotedView
+pub mod Attributes
+pub mod Routines
+pub mod Actuals
+pub mod Applied
+pub mod Steps
+pub mod DecisionView
