@@ -13,7 +13,7 @@ use codegen_rv32::generate;
 use cov_base::{Bytes, Seq, SourceFile};
 use generic_expand::Copies;
 use linker::{Image, link};
-use lower::lower_copies;
+use lower::lower;
 use object_format::{FileEntry, Object, digest};
 use obligations::obligations;
 use std::alloc::{AllocError, Global};
@@ -53,7 +53,7 @@ fn image_of(alloc: Global, program: &Program, copies: &Copies) -> Result<Image, 
     requires copies { copies.now.bodies ≡ copies_of (program_of program.now) }
     ensures { IfOk result (IsImageOf (program_of program.now)) }
 {
-    let kernel = lower_copies(alloc, program, copies)?;
+    let kernel = lower(alloc, program, copies)?;
     let pieces = generate(alloc, &kernel)?;
     link(alloc, pieces.as_slice(), &[])
 }

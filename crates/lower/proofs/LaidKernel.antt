@@ -1,5 +1,5 @@
 -- The kernel of a typed program is laid out.
-use Rattle.std.proofs.Common.{◌≡◌, ℕ, ◌+◌, ◌*◌, ◌^◌, ◌<◌, ◌≤◌, ℤ, List, length, map, Option, Some, slice_get, refl, sym, ap, ◌∙◌, subst, arith}
+use Rattle.std.proofs.Common.{◌≡◌, ℕ, ◌+◌, List, map, Option, Some, slice_get, refl, sym, ap, ◌∙◌, subst, arith}
 use Rattle.std.proofs.lemmas.List.{length-map}
 use Rattle.cov_base.specs.Lists.{Everywhere}
 use Rattle.ada_meaning.specs.Bodies.{bodies_of, StandsIn, IsBody}
@@ -7,10 +7,8 @@ use Rattle.ada_meaning.specs.Declared.{object_shape}
 use Rattle.ada_meaning.specs.Program as meaning
 use Rattle.ada_meaning.specs.Program.{body_target}
 use Rattle.ada_meaning.specs.Obligations.{numbers}
-use Rattle.ada_meaning.specs.Resolved.{owner_in, parameters_of}
-use Rattle.ada_meaning.specs.Tree as tree
-use Rattle.ada_meaning.specs.Types as type
-use Rattle.ada_meaning.specs.WellFormed.{IsWellFormed, IsSubprogram, StartSees}
+use Rattle.ada_meaning.specs.Resolved.{parameters_of}
+use Rattle.ada_meaning.specs.WellFormed.{IsWellFormed, IsSubprogram}
 use Rattle.ada_meaning.proofs.FormedLaws.{body_formed}
 use Rattle.ada_tree.specs.declared.program.Program.{Program}
 use Rattle.ada_tree.specs.declared.program.Subprogram.{Subprogram}
@@ -20,20 +18,16 @@ use Rattle.generic_expand.specs.declared.copies.BodyCopy.{BodyCopy}
 use Rattle.generic_expand.specs.Expanded.{copy_of, copies_of}
 use Rattle.kernel_ir.specs.declared.kernel.Body.{Body as CodeBody}
 use Rattle.kernel_ir.specs.declared.kernel.Kernel.{Kernel}
-use Rattle.kernel_ir.specs.Limits.{most_words, widest}
-use Rattle.kernel_ir.specs.Meaning as code
 use Rattle.kernel_ir.specs.Sequence.{joined}
-use Rattle.kernel_ir.specs.World.{data_word, area_end}
 use Rattle.statement_code.specs.Bodies.{body_code, ending_code, parameters_code}
-use Rattle.statement_code.specs.Initial.{AreAddressed, HasInitialWords, IsObjectOf}
 use Rattle.statement_code.specs.Kernels.{Scheme}
 use Rattle.statement_code.specs.Laid.{IsLaidOut, IsLaidKernel}
-use Rattle.statement_code.specs.Programs.{Plan, IsHome, IsLibrary}
+use Rattle.statement_code.specs.Programs.{Plan}
 use Rattle.storage_layout.specs.Layouts.{HasWord, layouts_of}
-use Rattle.storage_layout.specs.Library.{library_places, library_words}
+use Rattle.storage_layout.specs.Library.{library_places}
 use Rattle.lower.specs.Context.{Surroundings, home_by, layout_by, names_by, parameter_at, shape_by, site_by}
 use Rattle.lower.specs.Kernel.{body_by, body_in, body_of_copy, kernel_for, surroundings_in}
-use Rattle.lower.specs.Schemes.{address_in, library_standings, plan_by, plan_in, scheme_for}
+use Rattle.lower.specs.Schemes.{plan_by, plan_in, scheme_for}
 use Rattle.lower.specs.Standing.{AreTypesNamed, IsWithinLimits}
 use Rattle.lower.proofs.Copies.{body_is, number_is}
 use Rattle.lower.proofs.LaidProgram.{fit_law, small_law}

@@ -1,13 +1,11 @@
--- How the nodes of a short-circuit control form are made: those of its first operand, and of each one right of it, in order.
-use Rattle.std.specs.Prelude.{ℕ, ◌+◌, max, Bool, true, false, not, List, [], ◌∷◌}
+-- Nodes before others, and how the edges of a short-circuit control form lead: from its first operand, and from each one right of it, in order.
+use Rattle.std.specs.Prelude.{ℕ, ◌+◌, Bool, true, false, not, List, [], ◌∷◌}
 use Rattle.ada_meaning.specs.Tree as tree
 use Rattle.kernel_ir.specs.declared.code.Edge.{Edge}
 use Rattle.kernel_ir.specs.declared.code.Edge.TheVariants as edge
 use Rattle.kernel_ir.specs.declared.code.Node.{Node}
 use Rattle.kernel_ir.specs.Tree.{Nodes, and_node}
-use Rattle.lower.specs.Known.{Known}
 use Rattle.statement_code.specs.Values.{past}
-use Rattle.lower.specs.Lowered.{end_of_test, nodes_code}
 
 -- nodes before others
 abbrev pub with_nodes : List Node → Nodes → Nodes
@@ -31,14 +29,3 @@ true_before neutral right e = edge_before neutral right e
 
 abbrev pub false_before : (neutral : Bool) → List tree.Test → Edge → Edge
 false_before neutral right e = edge_before (not neutral) right e
-
--- the nodes of operands before others
-abbrev pub operand_nodes : Known → (k : ℕ) → (neutral : Bool) → List tree.Test → (on_true on_false : Edge) → Nodes → Nodes
-operand_nodes known k neutral [] t f rest = rest
-operand_nodes known k neutral (u ∷ us) t f rest =
-    nodes_code known k u (true_before neutral us t) (false_before neutral us f) (operand_nodes known k neutral us t f rest)
-
--- the first slot behind those that their conditions are worked out in
-abbrev pub end_of_tests : (k : ℕ) → List tree.Test → ℕ
-end_of_tests k [] = k + 1
-end_of_tests k (t ∷ ts) = max (end_of_test k t) (end_of_tests k ts)

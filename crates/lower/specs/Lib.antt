@@ -1,12 +1,4 @@
-pub mod Structured
-pub mod Sizes
-pub mod Known
-pub mod Lowered
-pub mod Same
-pub mod Marked
-pub mod Chain
 pub mod Forms
-pub mod AllFuels
 pub mod Context
 pub mod Pieces
 pub mod Settings

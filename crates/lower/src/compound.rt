@@ -16,11 +16,10 @@ ghost use Rattle.lower.specs.Stated.{all_for, alternatives_for, branches_for, ex
 use crate::calls::slots_behind;
 use crate::choosing::{put_bounds, put_choices, put_compared, put_decided, put_exception_choices};
 use crate::context::{BodyContext, Home};
-use crate::decisions::leaving;
 use crate::expressions::slot_behind;
 use crate::procedures::put_procedure;
 use crate::sets::put_assignment;
-use crate::simple::{put_declarations, put_exit_when, put_raise, put_result, put_start};
+use crate::simple::{leaving, put_declarations, put_exit_when, put_raise, put_result, put_start};
 use crate::value::put_value;
 use ada_tree::{
     Alternative, Block, Branch, Decision, Direction, ForScheme, Handler, Object, Statement,

@@ -119,7 +119,7 @@ fn exception_count(declared: &[Raisable]) -> Result<u32, AllocError>
 
 /// The kernel of a program, with the copies of its bodies in their order: the code of each in its instance,
 /// the words of the library level, and the layouts of types, whose first values are numbers of 32 bits.
-pub fn lower_copies(alloc: Global, program: &Program, copies: &Copies) -> Result<Kernel, AllocError>
+pub fn lower(alloc: Global, program: &Program, copies: &Copies) -> Result<Kernel, AllocError>
     ensures kernel { IfOk result (λ kernel. kernel ≡ spec.kernel_for program.now copies.now.bodies) }
     ensures words { IfOk result (λ kernel. Everywhere HasWord kernel.layouts) }
 {

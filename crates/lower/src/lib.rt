@@ -1,14 +1,14 @@
 //! From the typed program to the kernel.
 //!
-//! The contract that the layers above use: [`lower`] gives the kernel of a structured program, and
-//! [`kernels_do_what_their_programs_do`] says of it that it has the program's events, output and
-//! ending on every input, at no more than three times the cost.
+//! The contract that the layers above use: [`lower`] gives the kernel of a program, with the copies of its bodies;
+//! and [`kernels_are_laid`] says that the kernel of a well-formed program within the limits is laid out, and so is
+//! whole, of which `statement_code` proves that it does what its program does.
 //!
-//! Beside them stands the code of the whole language, from expressions to bodies, by what the names of a
-//! text come to in an instance (`context`): `value`, `parts`, `calls` and `nodes` for expressions; `sets`,
-//! `procedures` and `simple` for simple statements and declarations; `choosing` and `compound` for those that
-//! hold others; `bodies`. Each function there puts exactly the code of which `statement_code` proves what it
-//! does. `lower` does not stand on it yet: how wide frames are, and where objects stand, is not worked out.
+//! The code is that of the whole language, by what the names of a text come to in an instance (`context`):
+//! `expressions`, `value`, `parts`, `calls`, `edges` and `nodes` for expressions; `sets`, `procedures` and `simple`
+//! for simple statements and declarations; `choosing` and `compound` for those that hold others; `bodies`. Each
+//! function there puts exactly the code of which `statement_code` proves what it does. `kernels` has the bodies in
+//! their frames, the words of the library level and the layouts; `laws` says what holds of it.
 #![tactic(auto)]
 
 mod bodies;
@@ -16,24 +16,16 @@ mod calls;
 mod choosing;
 mod compound;
 mod context;
-mod decisions;
 mod edges;
 mod expressions;
 mod kernels;
 mod laws;
-mod lowering;
 mod nodes;
 mod parts;
 mod procedures;
 mod sets;
 mod simple;
-mod statements;
-mod statics;
 mod value;
 
-pub use kernels::lower_copies;
-pub use laws::{
-    kernels_are_laid, kernels_are_small, kernels_do_what_their_programs_do,
-    kernels_end_where_their_programs_end, kernels_hold_the_obligations,
-};
-pub use lowering::lower;
+pub use kernels::lower;
+pub use laws::kernels_are_laid;

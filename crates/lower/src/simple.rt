@@ -1,6 +1,6 @@
 //! Code of declarations and of simple statements (Ada RM 2012, 3.3.1, 5.1).
 
-ghost use Rattle.std.specs.Prelude.{◌≡◌, ℕ, map, option_map, OnOk};
+ghost use Rattle.std.specs.Prelude.{◌≡◌, ℕ, map, option_map, IfOk, OnOk};
 ghost use Rattle.ada_meaning.specs.Tree as tree;
 ghost use Rattle.ada_tree.specs.View.{declaration_of, exception_of, label_of, scalar_range_of};
 ghost use Rattle.ada_tree.specs.Programs.{bounds_of};
@@ -15,7 +15,6 @@ ghost use Rattle.lower.specs.Stated.{declaration_for, declarations_for, first_by
 
 use crate::choosing::{first_number, put_decided};
 use crate::context::{BASE, BodyContext};
-use crate::decisions::leaving;
 use crate::expressions::within;
 use crate::sets::put_assignment;
 use crate::value::put_value;
@@ -122,6 +121,15 @@ pub(crate) fn put_declarations(
         put_declaration(alloc, context, code, slot, declaration)?;
     }
     Ok(())
+}
+
+/// Code that leaves the innermost loop (RM 5.7).
+pub(crate) fn leaving(alloc: Global) -> Result<Code, AllocError>
+    ensures { IfOk result (λ code. code ≡ single exit) }
+{
+    let mut code = Code::new(alloc);
+    code.push(Op::Exit)?;
+    Ok(code)
 }
 
 /// Puts behind code what leaves the innermost loop where a decision is True (RM 5.7).
