@@ -1,5 +1,5 @@
 -- The table of composite types: each is built of those before it.
-use Rattle.std.specs.Prelude.{◌≡◌, ℕ, ◌+◌, Bool, true, ◌&&◌, List, [], ◌∷◌, ◌++◌, map, Option, Some, None, option_map}
+use Rattle.std.specs.Prelude.{◌≡◌, ℕ, ◌+◌, Bool, true, ◌&&◌, List, [], ◌∷◌, ◌++◌, map, length, Option, Some, None, option_map}
 use Rattle.std.specs.Borrow.{Bor}
 use Rattle.std.specs.List.{list_all}
 use Rattle.ada_meaning.specs.Types.{Owner}
@@ -47,6 +47,12 @@ is_earlier m n (definition.Record cs) = are_known n m cs
 abbrev pub are_earlier : (instances types : ℕ) → List Definition → Bool
 are_earlier m n [] = true
 are_earlier m n (d ∷ ds) = is_earlier m n d && are_earlier m (n + 1) ds
+
+-- the definitions that a table holds, each built of types that stand before it
+pub record AreDefinitions (k : TypeTables) (ds : List Definition) : Type 0 where
+  pub given : List (List (Option ScalarType))
+  pub are : k ≡ tables_of given ds
+  pub earlier : are_earlier (length given) 0 ds ≡ true
 
 -- the subtypes of the index and of the components of an array (RM 3.6)
 abbrev pub array_parts : AdaType → Option (AdaSubtype × AdaSubtype)

@@ -7,7 +7,7 @@ ghost use Rattle.ada_tree.specs.View.{owner_of};
 ghost use Rattle.ada_rules.specs.Entities.{given_type};
 ghost use Rattle.ada_rules.specs.Denoted.{field_among};
 ghost use Rattle.ada_entities.specs.Views.{TypeTables, actuals_of, shape_at, given_of, is_known, is_known_owner, scalar_type_of, type_of, type_by, subtype_of, subtype_by};
-ghost use Rattle.ada_entities.specs.Tables.{shape_of, are_known, is_earlier, no_tables, with_shape, with_instance, fields_of, array_parts, parts_of, field_in, field_of, shape_from, shape_parts, shape_fields, AreSeenParts, IsSeenField};
+ghost use Rattle.ada_entities.specs.Tables.{shape_of, are_known, is_earlier, no_tables, with_shape, with_instance, fields_of, array_parts, parts_of, field_in, field_of, shape_from, shape_parts, shape_fields, AreDefinitions, AreSeenParts, IsSeenField};
 ghost use Rattle.ada_entities.specs.TypeTable.{tables};
 
 use crate::composite::{Component, Definition, Types};
@@ -106,6 +106,13 @@ impl Types {
 }
 
 impl Types {
+    /// The definitions of all composite types, by their numbers.
+    pub fn definitions(&self) -> &[Definition]
+        ensures { AreDefinitions (tables self.now) result.now }
+    {
+        self.definitions.as_slice()
+    }
+
     /// The definition with a number.
     fn definition(&self, number: u32) -> Option<&Definition>
         ensures { shape_at (tables self.now) number ≡ shape_from (tables self.now) result }

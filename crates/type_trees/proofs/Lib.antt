@@ -1,0 +1,3 @@
+mod Seen
+pub mod Unfolding
+pub mod TableLaws
