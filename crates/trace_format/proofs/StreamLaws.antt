@@ -3,7 +3,9 @@ use Rattle.std.proofs.Common.{◌≡◌, ℕ, ◌+◌, ◌-◌, ◌^◌, ◌<◌
 use Rattle.std.specs.Prelude.{IfSome, IsSomeAnd, slice_get, slice_set}
 use Rattle.std.specs.FinMap as map
 use Rattle.std.proofs.Math.Seq.{take-add, take-suc}
-use Rattle.std.proofs.lemmas.List.{length-take, length-drop, get_or-take, get_or-drop, get_or-set_same, length-set, take-take, take-set-le, take_all}
+use Rattle.std.proofs.lemmas.List.{length-take, length-drop, get_or-take, get_or-drop, get_or-set_same, length-set, take-take, take-set-le, take_all, drop-take, drop-drop}
+use Rattle.std.specs.List.{between}
+use Rattle.std.proofs.lemmas.Slice.{between_is}
 use Rattle.std.proofs.lemmas.Bool.{cases_lt}
 use Rattle.std.proofs.lemmas.Option.{slice_get_past, slice_get_within, slice_get-get_or, get_or_from_slice_get}
 use Rattle.sha2.specs.Hashers.{Holds256}
@@ -75,6 +77,28 @@ byte_taken s new bytes taken b st e part fetched hasher at = record {
   reach = rw fetched st.reach;
   taken_is = omega (arith, st.taken_is, at);
   within = rw part (omega (arith, at, slice_get_within s.part.items s.at b e));
+}
+
+-- so many bytes of the part in memory are the next of the file
+pub bytes_ahead : (s : Stream) (bytes : List ℕ) (taken room : ℕ) → StandsAt s bytes taken → s.at + room ≤ length s.part.items
+    → between s.at (s.at + room) s.part.items ≡ take room (drop taken bytes)
+bytes_ahead s bytes taken room st h =
+    let rest = drop st.start bytes in
+    between_is s.part.items s.at (s.at + room) ∙ ap (λ (p : List ℕ). drop s.at (take (s.at + room) p)) st.part
+    ∙ ap (drop s.at) (take-take (s.at + room) (length s.part.items) rest h) ∙ drop-take s.at room rest
+    ∙ ap (take room) (drop-drop s.at st.start bytes ∙ ap (λ (n : ℕ). drop n bytes) (sym st.taken_is))
+
+-- and were taken
+pub ahead_taken : (s new : Stream) (bytes : List ℕ) (taken room : ℕ) → StandsAt s bytes taken → s.at + room ≤ length s.part.items
+    → new.part ≡ s.part → new.fetched ≡ s.fetched → new.hasher ≡ s.hasher → new.at ≡ s.at + room → StandsAt new bytes (taken + room)
+ahead_taken s new bytes taken room st h part fetched hasher at = record {
+  start = st.start;
+  hashed = rw hasher st.hashed;
+  part = rw part st.part;
+  fetched = rw (part, fetched) st.fetched;
+  reach = rw fetched st.reach;
+  taken_is = omega (arith, st.taken_is, at);
+  within = rw part (omega (arith, at, h));
 }
 
 -- what was hashed, and what was taken of the part, is all that was taken

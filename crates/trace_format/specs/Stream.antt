@@ -1,5 +1,5 @@
 -- Where a file that is fetched a part at a time stands.
-use Rattle.std.specs.Prelude.{◌≡◌, ℕ, ◌+◌, ◌<◌, ◌≤◌, ◌⊎◌, List, length, take, drop, Option, None, Some, IsSomeAnd}
+use Rattle.std.specs.Prelude.{◌≡◌, ℕ, ◌+◌, ◌<◌, ◌≤◌, ◌⊎◌, Bool, true, false, List, length, take, drop, Option, None, Some, IsSomeAnd}
 use Rattle.sha2.specs.Hashers.{Holds256}
 use Rattle.cov_io.specs.Outside.{Held, Holds}
 use Rattle.trace_format.specs.declared.stream.Stream.{Stream}
@@ -17,6 +17,11 @@ pub record StandsAt (s : Stream) (bytes : List ℕ) (taken : ℕ) : Type 0 where
   pub reach : s.fetched ≤ length bytes
   pub taken_is : taken ≡ start + s.at
   pub within : s.at ≤ length s.part.items
+
+-- whether there were as many bytes as there was room for in the part in memory: then they were taken, and else none
+abbrev pub TookAhead : Bool → Stream → (into bytes : List ℕ) → (taken room : ℕ) → Type 0
+TookAhead true s into bytes taken room = (into ≡ take room (drop taken bytes)) × StandsAt s bytes (taken + room)
+TookAhead false s into bytes taken room = StandsAt s bytes taken
 
 -- how many were taken
 abbrev pub count_of : Option ℕ → ℕ

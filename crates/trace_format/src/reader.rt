@@ -67,7 +67,8 @@ impl TraceReader {
         name: &str,
     ) -> Result<TraceReader, Failure<ReaderFault>>
         ensures name { IfOk result (λ reader. file_name reader ≡ name.now) }
-        ensures reads { (bytes : List ℕ) → AreTold (F.held files.old) name.now bytes → IfOk result (λ reader. Reads reader bytes []) }
+        ensures reads { (bytes : List ℕ) → AreTold (F.held files.old) name.now bytes
+            → IfOk result (λ reader. Reads reader bytes []) }
         ensures cause { (bytes : List ℕ) → AreTold (F.held files.old) name.now bytes → IfErr result (IsCause bytes) }
         ensures gave { IfOk result (λ reader. Gave reader []) }
         ensures fresh { IfOk result (λ reader. reader.stage ≡ stages.Head) }
@@ -135,7 +136,8 @@ impl TraceReader {
     fn advance<F: Files>(&mut self, files: &mut F) -> Result<Option<Entry>, Failure<ReaderFault>>
         ensures answers { (bytes : List ℕ) (given : List Entry) → AreTold (F.held files.old) (file_name self.old) bytes
             → Reads self.old bytes given → Answers result self.new bytes given }
-        ensures gave { (given : List Entry) → Gave self.old given → IfOk result (λ _. Gave self.new (and_then given result)) }
+        ensures gave { (given : List Entry) → Gave self.old given
+            → IfOk result (λ _. Gave self.new (and_then given result)) }
         ensures began { (given : List Entry) → Gave self.old given → OnErr result (Began given) }
         ensures closes { IfOk result (λ answer. IsEnd answer ↔ (self.new.stage ≡ Closed)) }
         ensures unfailed { OnOk result ((failure : Failure ReaderFault) → self.new.stage ≢ Failed failure) }
@@ -176,7 +178,8 @@ impl TraceReader {
     ) -> Result<Entry, Failure<ReaderFault>>
         ensures gives { (bytes : List ℕ) (given : List Entry) → AreTold (F.held files.old) (file_name self.old) bytes
             → InBlocks self.old bytes given left → Gives result self.new bytes given }
-        ensures gave { (given : List Entry) → GaveBlocks given left → IfOk result (λ entry. Gave self.new (given ++ entry ∷ [])) }
+        ensures gave { (given : List Entry) → GaveBlocks given left
+            → IfOk result (λ entry. Gave self.new (given ++ entry ∷ [])) }
         ensures closes { IfOk result (λ entry. IsEnd (Some entry) ↔ (self.new.stage ≡ Closed)) }
         ensures unfailed { OnOk result ((failure : Failure ReaderFault) → self.new.stage ≢ Failed failure) }
         ensures name { file_name self.new ≡ file_name self.old }
@@ -203,7 +206,8 @@ impl TraceReader {
     ) -> Result<Entry, Failure<ReaderFault>>
         ensures gives { (bytes : List ℕ) (given : List Entry) → AreTold (F.held files.old) (file_name self.old) bytes
             → InHistory self.old bytes given left → Gives result self.new bytes given }
-        ensures gave { (given : List Entry) → GaveHistory given left → IfOk result (λ entry. Gave self.new (given ++ entry ∷ [])) }
+        ensures gave { (given : List Entry) → GaveHistory given left
+            → IfOk result (λ entry. Gave self.new (given ++ entry ∷ [])) }
         ensures closes { IfOk result (λ entry. IsEnd (Some entry) ↔ (self.new.stage ≡ Closed)) }
         ensures unfailed { OnOk result ((failure : Failure ReaderFault) → self.new.stage ≢ Failed failure) }
         ensures name { file_name self.new ≡ file_name self.old }
@@ -229,7 +233,8 @@ impl TraceReader {
     ) -> Result<Entry, Failure<ReaderFault>>
         ensures gives { (bytes : List ℕ) (given : List Entry) → AreTold (F.held files.old) (file_name self.old) bytes
             → InBlocks self.old bytes given (left + 1) → Gives result self.new bytes given }
-        ensures gave { (given : List Entry) → GaveBlocks given (left + 1) → IfOk result (λ entry. Gave self.new (given ++ entry ∷ [])) }
+        ensures gave { (given : List Entry) → GaveBlocks given (left + 1)
+            → IfOk result (λ entry. Gave self.new (given ++ entry ∷ [])) }
         ensures closes { IfOk result (λ entry. IsEnd (Some entry) ↔ (self.new.stage ≡ Closed)) }
         ensures unfailed { OnOk result ((failure : Failure ReaderFault) → self.new.stage ≢ Failed failure) }
         ensures name { file_name self.new ≡ file_name self.old }
@@ -283,7 +288,8 @@ impl TraceReader {
     ) -> Result<Entry, Failure<ReaderFault>>
         ensures gives { (bytes : List ℕ) (given : List Entry) → AreTold (F.held files.old) (file_name self.old) bytes
             → InHistory self.old bytes given (left + 1) → Gives result self.new bytes given }
-        ensures gave { (given : List Entry) → GaveHistory given (left + 1) → IfOk result (λ entry. Gave self.new (given ++ entry ∷ [])) }
+        ensures gave { (given : List Entry) → GaveHistory given (left + 1)
+            → IfOk result (λ entry. Gave self.new (given ++ entry ∷ [])) }
         ensures closes { IfOk result (λ entry. IsEnd (Some entry) ↔ (self.new.stage ≡ Closed)) }
         ensures unfailed { OnOk result ((failure : Failure ReaderFault) → self.new.stage ≢ Failed failure) }
         ensures name { file_name self.new ≡ file_name self.old }
@@ -312,7 +318,8 @@ impl TraceReader {
     fn close<F: Files>(&mut self, files: &mut F) -> Result<Entry, Failure<ReaderFault>>
         ensures gives { (bytes : List ℕ) (given : List Entry) → AreTold (F.held files.old) (file_name self.old) bytes
             → InHistory self.old bytes given 0 → Gives result self.new bytes given }
-        ensures gave { (given : List Entry) → GaveHistory given 0 → IfOk result (λ entry. Gave self.new (given ++ entry ∷ [])) }
+        ensures gave { (given : List Entry) → GaveHistory given 0
+            → IfOk result (λ entry. Gave self.new (given ++ entry ∷ [])) }
         ensures closes { IfOk result (λ entry. IsEnd (Some entry) ↔ (self.new.stage ≡ Closed)) }
         ensures unfailed { OnOk result ((failure : Failure ReaderFault) → self.new.stage ≢ Failed failure) }
         ensures name { file_name self.new ≡ file_name self.old }

@@ -4,7 +4,7 @@ ghost use Rattle.std.specs.Prelude.{◌≡◌, ◌≢◌, ℕ, ◌+◌, ◌^◌,
 ghost use Rattle.sha2.specs.Sha256.{sha256};
 ghost use Rattle.cov_io.specs.declared.files.FileFault.{FileFault};
 ghost use Rattle.cov_io.specs.Outside.{Rose, IsAbsent};
-ghost use Rattle.trace_format.specs.Stream.{AreTold, StandsAt, HasNext, count_of};
+ghost use Rattle.trace_format.specs.Stream.{AreTold, StandsAt, TookAhead, HasNext, count_of};
 
 use cov_base::Digest;
 use cov_io::{FileFault, Files};
@@ -44,7 +44,8 @@ impl Stream {
     pub fn fill<F: Files>(&mut self, files: &mut F, into: &mut [u8]) -> Result<usize, FileFault>
         ensures takes { (bytes : List ℕ) (taken : ℕ) → AreTold (F.held files.old) (string_bytes self.old.name) bytes
             → StandsAt self.old bytes taken → taken < 2 ^ 40 → length into.old < 2 ^ 16
-            → IfOk result (λ n. (take n into.new ≡ take (length into.old) (drop taken bytes)) × StandsAt self.new bytes (taken + n)) }
+            → IfOk result (λ n. (take n into.new ≡ take (length into.old) (drop taken bytes))
+            × StandsAt self.new bytes (taken + n)) }
         ensures count { IfOk result (λ n. n ≤ length into.old) }
         ensures len { length into.new ≡ length into.old }
         ensures name { string_bytes self.new.name ≡ string_bytes self.old.name }
@@ -56,6 +57,9 @@ impl Stream {
         ensures later { F.reads_failed files.old ≤ F.reads_failed files.new }
         ensures writes { F.writes_failed files.new ≡ F.writes_failed files.old }
     {
+        if self.take_ahead(into) {
+            return Ok(into.len());
+        }
         for place in 0..into.len() {
             let Some(byte) = self.byte(files)? else {
                 return Ok(place);
@@ -63,6 +67,23 @@ impl Stream {
             into[place] = byte;
         }
         Ok(into.len())
+    }
+
+    /// Takes as many bytes as `into` has room for out of the part in memory, where that many are left in it.
+    fn take_ahead(&mut self, into: &mut [u8]) -> bool
+        ensures takes { (bytes : List ℕ) (taken : ℕ) → StandsAt self.old bytes taken
+            → TookAhead result self.new into.new bytes taken (length into.old) }
+        ensures len { length into.new ≡ length into.old }
+        ensures name { string_bytes self.new.name ≡ string_bytes self.old.name }
+    {
+        let room = into.len();
+        let end = self.at.saturating_add(room);
+        if end > self.part.len() {
+            return false;
+        }
+        into.copy_from_slice(&self.part[self.at..end]);
+        self.at = end;
+        true
     }
 
     /// Takes the next byte. There is none at the end of the file.
@@ -114,7 +135,8 @@ impl Stream {
 
     /// The SHA-256 of all that was taken.
     pub fn digest(&self) -> Result<Digest, AllocError>
-        ensures { (bytes : List ℕ) (taken : ℕ) → StandsAt self.now bytes taken → IfOk result (λ d. d ≡ sha256 (take taken bytes)) }
+        ensures { (bytes : List ℕ) (taken : ℕ) → StandsAt self.now bytes taken
+            → IfOk result (λ d. d ≡ sha256 (take taken bytes)) }
     {
         let mut hasher = self.hasher.clone()?;
         hasher.update(&self.part[..self.part.len().min(self.at)]);

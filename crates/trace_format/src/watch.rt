@@ -32,7 +32,8 @@ impl<T: Copy + Drop, C: Check<T>> Watch<T, C> {
 
     /// Takes the next entry, of fewer than 2^32.
     pub fn see(&mut self, entry: &T)
-        ensures { (seen : List T) → Watched C.passes self.old.before self.old.at self.old.failing seen → length seen < 2 ^ 32 - 1
+        ensures { (seen : List T) → Watched C.passes self.old.before self.old.at self.old.failing seen
+            → length seen < 2 ^ 32 - 1
             → Watched C.passes self.new.before self.new.at self.new.failing (seen ++ entry.now ∷ []) }
     {
         let passes = C::passes(&self.before, entry);

@@ -17,11 +17,13 @@ pub fn write_trace(alloc: Global, trace: &Trace) -> Result<Vec<u8>, AllocError>
     requires passes { Passes trace.now }
 
     ensures spelled { IfOk result (λ bytes. bytes.items ≡ trace_spelling trace.now) }
-    ensures len { IfOk result (λ bytes. length bytes.items ≡ 84 + 9 * (length trace.now.blocks + length trace.now.history)) }
+    ensures len { IfOk result (λ bytes. length bytes.items
+        ≡ 84 + 9 * (length trace.now.blocks + length trace.now.history)) }
 
     // What was written is read as the same trace, closed by the digest that ends the bytes.
     ensures closed { OnOk result (IsClosed (closed_by trace.now (trace_digest trace.now))) }
-    ensures reads_back { IfOk result (λ bytes. trace_of bytes.items ≡ Ok (closed_by trace.now (trace_digest trace.now))) }
+    ensures reads_back { IfOk result (λ bytes. trace_of bytes.items
+        ≡ Ok (closed_by trace.now (trace_digest trace.now))) }
 {
     write_parts(
         alloc,
@@ -41,11 +43,13 @@ pub fn write_parts(alloc: Global, trace: &TraceParts<'_>) -> Result<Vec<u8>, All
     requires passes { Passes trace.now }
 
     ensures spelled { IfOk result (λ bytes. bytes.items ≡ trace_spelling trace.now) }
-    ensures len { IfOk result (λ bytes. length bytes.items ≡ 84 + 9 * (length trace.now.blocks + length trace.now.history)) }
+    ensures len { IfOk result (λ bytes. length bytes.items
+        ≡ 84 + 9 * (length trace.now.blocks + length trace.now.history)) }
 
     // What was written is read as the same trace, closed by the digest that ends the bytes.
     ensures closed { OnOk result (IsClosed (closed_by trace.now (trace_digest trace.now))) }
-    ensures reads_back { IfOk result (λ bytes. trace_of bytes.items ≡ Ok (closed_by trace.now (trace_digest trace.now))) }
+    ensures reads_back { IfOk result (λ bytes. trace_of bytes.items
+        ≡ Ok (closed_by trace.now (trace_digest trace.now))) }
 {
     write_file(alloc, &MAGIC, VERSION, trace)
 }

@@ -23,7 +23,8 @@ pub fn write_consolidated(
 
     // What was written is read as the same, closed by the digest that ends the bytes.
     ensures closed { OnOk result (IsSealed (sealed_by parts.now (consolidated_digest parts.now))) }
-    ensures reads_back { IfOk result (λ bytes. consolidated_of bytes.items ≡ Ok (sealed_by parts.now (consolidated_digest parts.now))) }
+    ensures reads_back { IfOk result (λ bytes. consolidated_of bytes.items
+        ≡ Ok (sealed_by parts.now (consolidated_digest parts.now))) }
 {
     write_file(alloc, &MAGIC, VERSION, parts)
 }
