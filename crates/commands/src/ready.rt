@@ -46,7 +46,8 @@ pub fn prepare<'a, F: Files>(
     files: &mut F,
 ) -> Result<Ready<'a>, Status>
     requires { IsWithinLimits (task_view command.now) }
-    ensures prepares { Prepares (task_view command.now) (F.held files.old) (F.reads_failed files.old) (F.reads_failed files.new) (verdict_view result) }
+    ensures prepares { Prepares (task_view command.now) (F.held files.old) (F.reads_failed files.old)
+        (F.reads_failed files.new) (verdict_view result) }
     ensures same { F.held files.new ≡ F.held files.old }
     ensures writes { F.writes_failed files.new ≡ F.writes_failed files.old }
 {
@@ -94,7 +95,8 @@ fn read_file<F: Files>(
 ) -> Result<Vec<u8>, Status>
     ensures read { IfOk result (λ bytes. IfSome (F.held files.old) (Holds name.now bytes.items)) }
     ensures reads { OnOk result (F.reads_failed files.new ≡ F.reads_failed files.old) }
-    ensures unread { IfErr result (IsUnread place name.now (F.held files.old) (F.reads_failed files.old) (F.reads_failed files.new)) }
+    ensures unread { IfErr result (IsUnread place name.now (F.held files.old) (F.reads_failed files.old)
+        (F.reads_failed files.new)) }
     ensures same { F.held files.new ≡ F.held files.old }
     ensures writes { F.writes_failed files.new ≡ F.writes_failed files.old }
 {

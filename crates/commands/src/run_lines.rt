@@ -20,7 +20,8 @@ pub fn run_lines(
     ending: Ending,
     trace: &[u8],
 ) -> Result<Vec<u8>, AllocError>
-    ensures { IfOk result (λ text. text.items ≡ lines.run_lines exceptions.now put.now ending.number ending.count trace.now) }
+    ensures { IfOk result (λ text. text.items
+        ≡ lines.run_lines exceptions.now put.now ending.number ending.count trace.now) }
 {
     let mut text = put_lines(alloc, put)?;
     push_ending(&mut text, exception_name(exceptions, ending.number))?;
@@ -57,7 +58,8 @@ fn exception_name(exceptions: &[ExceptionName], number: u32) -> Option<&Exceptio
 
 /// Appends the line of how the run ended: by return, or by the exception of this name.
 fn push_ending(text: &mut Vec<u8>, exception: Option<&ExceptionName>) -> Result<(), AllocError>
-    ensures { OnOk result (text.new.items ≡ text.old.items ++ lines.ending_line (option_map (λ name. name.now) exception.entry)) }
+    ensures { OnOk result (text.new.items
+        ≡ text.old.items ++ lines.ending_line (option_map (λ name. name.now) exception.entry)) }
 {
     match exception {
         Some(name) => {

@@ -31,46 +31,83 @@ pub fn gnatcov<F: Files, S: Sink>(
     out: &mut S,
 ) -> Status
     // Why each status comes, and what it leaves.
-    ensures answers { Answers (task_of (map string_bytes words.now)) (call_of F.held F.reads_failed F.writes_failed S.written S.failures files.old files.new out.old out.new) result }
+    ensures answers { Answers (task_of (map string_bytes words.now))
+        (call_of F.held F.reads_failed F.writes_failed S.written S.failures files.old files.new out.old out.new)
+        result }
 
     // What follows from it, for a reader.
     ensures usage { UsageIsExact (task_of (map string_bytes words.now)) result }
-    ensures done { DoneIsWhole (task_of (map string_bytes words.now)) (call_of F.held F.reads_failed F.writes_failed S.written S.failures files.old files.new out.old out.new) result }
-    ensures unchanged { RefusalsLeaveFiles (call_of F.held F.reads_failed F.writes_failed S.written S.failures files.old files.new out.old out.new) result }
-    ensures others { OthersStay (task_of (map string_bytes words.now)) (call_of F.held F.reads_failed F.writes_failed S.written S.failures files.old files.new out.old out.new) }
-    ensures one_line { RefusalsPutOneLine (task_of (map string_bytes words.now)) (call_of F.held F.reads_failed F.writes_failed S.written S.failures files.old files.new out.old out.new) result }
-    ensures read_rose { RisenReadsAreTold (call_of F.held F.reads_failed F.writes_failed S.written S.failures files.old files.new out.old out.new) result }
-    ensures read_fault { ReadFaultHasCause (task_of (map string_bytes words.now)) (call_of F.held F.reads_failed F.writes_failed S.written S.failures files.old files.new out.old out.new) result }
-    ensures write_fault { WriteFaultHasCause (task_of (map string_bytes words.now)) (call_of F.held F.reads_failed F.writes_failed S.written S.failures files.old files.new out.old out.new) result }
+    ensures done { DoneIsWhole (task_of (map string_bytes words.now))
+        (call_of F.held F.reads_failed F.writes_failed S.written S.failures files.old files.new out.old out.new)
+        result }
+    ensures unchanged { RefusalsLeaveFiles
+        (call_of F.held F.reads_failed F.writes_failed S.written S.failures files.old files.new out.old out.new)
+        result }
+    ensures others { OthersStay (task_of (map string_bytes words.now))
+        (call_of F.held F.reads_failed F.writes_failed S.written S.failures files.old files.new out.old out.new) }
+    ensures one_line { RefusalsPutOneLine (task_of (map string_bytes words.now))
+        (call_of F.held F.reads_failed F.writes_failed S.written S.failures files.old files.new out.old out.new)
+        result }
+    ensures read_rose { RisenReadsAreTold
+        (call_of F.held F.reads_failed F.writes_failed S.written S.failures files.old files.new out.old out.new)
+        result }
+    ensures read_fault { ReadFaultHasCause (task_of (map string_bytes words.now))
+        (call_of F.held F.reads_failed F.writes_failed S.written S.failures files.old files.new out.old out.new)
+        result }
+    ensures write_fault { WriteFaultHasCause (task_of (map string_bytes words.now))
+        (call_of F.held F.reads_failed F.writes_failed S.written S.failures files.old files.new out.old out.new)
+        result }
 
     // What coverage puts, over an object and the traces of its runs; and over the object of a program and
     // traces of its runs: the report of the program's own executions.
-    ensures runs { RunsAreCovered (task_of (map string_bytes words.now)) (call_of F.held F.reads_failed F.writes_failed S.written S.failures files.old files.new out.old out.new) result }
-    ensures source { CoverageTellsTheSource (task_of (map string_bytes words.now)) (call_of F.held F.reads_failed F.writes_failed S.written S.failures files.old files.new out.old out.new) result }
+    ensures runs { RunsAreCovered (task_of (map string_bytes words.now))
+        (call_of F.held F.reads_failed F.writes_failed S.written S.failures files.old files.new out.old out.new)
+        result }
+    ensures source { CoverageTellsTheSource (task_of (map string_bytes words.now))
+        (call_of F.held F.reads_failed F.writes_failed S.written S.failures files.old files.new out.old out.new)
+        result }
 
     // At a level that asks for pairs, that report ends in the least pairs of vectors that occurred in the
     // program's own executions, one for each condition that has a pair.
-    ensures pairs { LeastPairsAreShown (task_of (map string_bytes words.now)) (call_of F.held F.reads_failed F.writes_failed S.written S.failures files.old files.new out.old out.new) result }
+    ensures pairs { LeastPairsAreShown (task_of (map string_bytes words.now))
+        (call_of F.held F.reads_failed F.writes_failed S.written S.failures files.old files.new out.old out.new)
+        result }
 
     // What consolidate writes over an object and the traces of its runs: the one file of these runs. And over
     // the object of a program and traces of its runs on any inputs.
-    ensures consolidated { RunsAreConsolidated (task_of (map string_bytes words.now)) (call_of F.held F.reads_failed F.writes_failed S.written S.failures files.old files.new out.old out.new) result }
-    ensures merged { ProgramsAreConsolidated (task_of (map string_bytes words.now)) (call_of F.held F.reads_failed F.writes_failed S.written S.failures files.old files.new out.old out.new) result }
+    ensures consolidated { RunsAreConsolidated (task_of (map string_bytes words.now))
+        (call_of F.held F.reads_failed F.writes_failed S.written S.failures files.old files.new out.old out.new)
+        result }
+    ensures merged { ProgramsAreConsolidated (task_of (map string_bytes words.now))
+        (call_of F.held F.reads_failed F.writes_failed S.written S.failures files.old files.new out.old out.new)
+        result }
 
     // Legal programs compile, their runs end in time and never trap, and the traces of these are covered
     // and consolidated.
-    ensures compiles { LegalSourcesCompile (task_of (map string_bytes words.now)) (call_of F.held F.reads_failed F.writes_failed S.written S.failures files.old files.new out.old out.new) result }
-    ensures ends { ProgramsRun (task_of (map string_bytes words.now)) (call_of F.held F.reads_failed F.writes_failed S.written S.failures files.old files.new out.old out.new) result }
-    ensures no_trap { ProgramsDoNotTrap (task_of (map string_bytes words.now)) (call_of F.held F.reads_failed F.writes_failed S.written S.failures files.old files.new out.old out.new) result }
-    ensures covers { TracesAreCovered (task_of (map string_bytes words.now)) (call_of F.held F.reads_failed F.writes_failed S.written S.failures files.old files.new out.old out.new) result }
-    ensures consolidates { TracesAreConsolidated (task_of (map string_bytes words.now)) (call_of F.held F.reads_failed F.writes_failed S.written S.failures files.old files.new out.old out.new) result }
+    ensures compiles { LegalSourcesCompile (task_of (map string_bytes words.now))
+        (call_of F.held F.reads_failed F.writes_failed S.written S.failures files.old files.new out.old out.new)
+        result }
+    ensures ends { ProgramsRun (task_of (map string_bytes words.now))
+        (call_of F.held F.reads_failed F.writes_failed S.written S.failures files.old files.new out.old out.new)
+        result }
+    ensures no_trap { ProgramsDoNotTrap (task_of (map string_bytes words.now))
+        (call_of F.held F.reads_failed F.writes_failed S.written S.failures files.old files.new out.old out.new)
+        result }
+    ensures covers { TracesAreCovered (task_of (map string_bytes words.now))
+        (call_of F.held F.reads_failed F.writes_failed S.written S.failures files.old files.new out.old out.new)
+        result }
+    ensures consolidates { TracesAreConsolidated (task_of (map string_bytes words.now))
+        (call_of F.held F.reads_failed F.writes_failed S.written S.failures files.old files.new out.old out.new)
+        result }
 {
     answer(alloc, words, files, out)
 }
 
 /// The answer to the words.
 fn answer<F: Files, S: Sink>(alloc: Global, words: &[String], files: &mut F, out: &mut S) -> Status
-    ensures { Answers (task_of (map string_bytes words.now)) (call_of F.held F.reads_failed F.writes_failed S.written S.failures files.old files.new out.old out.new) result }
+    ensures { Answers (task_of (map string_bytes words.now))
+        (call_of F.held F.reads_failed F.writes_failed S.written S.failures files.old files.new out.old out.new)
+        result }
 {
     match words_of(alloc, words) {
         Ok(command) => obey(alloc, &command, files, out),
@@ -93,7 +130,9 @@ fn obey<F: Files, S: Sink>(
     out: &mut S,
 ) -> Status
     requires { IsWithinLimits (task_view command.now) }
-    ensures { Because (task_view command.now) (call_of F.held F.reads_failed F.writes_failed S.written S.failures files.old files.new out.old out.new) result }
+    ensures { Because (task_view command.now)
+        (call_of F.held F.reads_failed F.writes_failed S.written S.failures files.old files.new out.old out.new)
+        result }
 {
     match prepare(alloc, command, files) {
         Ok(ready) => deliver(&ready, files, out),
@@ -103,7 +142,9 @@ fn obey<F: Files, S: Sink>(
 
 /// Writes the file, then puts the text. Nothing is put after a put that failed.
 fn deliver<F: Files, S: Sink>(ready: &Ready, files: &mut F, out: &mut S) -> Status
-    ensures delivers { Delivers (output_view ready.now) (call_of F.held F.reads_failed F.writes_failed S.written S.failures files.old files.new out.old out.new) result }
+    ensures delivers { Delivers (output_view ready.now)
+        (call_of F.held F.reads_failed F.writes_failed S.written S.failures files.old files.new out.old out.new)
+        result }
     ensures reads { F.reads_failed files.new ≡ F.reads_failed files.old }
 {
     if let Some(file) = &ready.file {
@@ -128,7 +169,8 @@ fn deliver<F: Files, S: Sink>(ready: &Ready, files: &mut F, out: &mut S) -> Stat
 /// Puts the line of a refusal. Where there is no memory for the line, that is the answer.
 fn refuse<S: Sink>(alloc: Global, command: &Command<'_>, status: Status, out: &mut S) -> Status
     ensures status { (result ≡ status) ⊎ (result ≡ WantOfMemory) }
-    ensures puts { PutsText (line_of (name_of (task_view command.now) result) result) (S.written out.old) (S.written out.new) (S.failures out.old) (S.failures out.new) }
+    ensures puts { PutsText (line_of (name_of (task_view command.now) result) result) (S.written out.old)
+        (S.written out.new) (S.failures out.old) (S.failures out.new) }
 {
     match status.line(alloc, name_of(command, status)) {
         Ok(line) => {

@@ -155,7 +155,8 @@ impl<'a> Coverage<'a> {
         // What becomes of the files.
         ensures same { F.held files.new ≡ F.held files.old }
         ensures failed { IsErrOf result (Fault Read)
-            → Rose (F.reads_failed files.old) (F.reads_failed files.new) ⊎ IsAbsent (F.held files.old) (file_name reader.old) }
+            → Rose (F.reads_failed files.old) (F.reads_failed files.new)
+            ⊎ IsAbsent (F.held files.old) (file_name reader.old) }
         ensures stays { result ≢ Err (Fault Read) → F.reads_failed files.new ≡ F.reads_failed files.old }
         ensures later { F.reads_failed files.old ≤ F.reads_failed files.new }
         ensures writes { F.writes_failed files.new ≡ F.writes_failed files.old }
@@ -171,8 +172,10 @@ impl<'a> Coverage<'a> {
     fn grow(&mut self, found: &SortedSet<Event>, closing: Digest) -> Result<(), AllocError>
         requires { ArePossible self.old.object found.now }
         ensures object { self.new.object ≡ self.old.object }
-        ensures events { OnOk result ((e : Event) → Has self.new e ↔ (Has self.old e ⊎ Somewhere (λ x. x ≡ e) found.now)) }
-        ensures runs { OnOk result ((digest : List ℕ) → HasRun self.new digest ↔ (HasRun self.old digest ⊎ (closing ≡ digest))) }
+        ensures events { OnOk result ((e : Event)
+            → Has self.new e ↔ (Has self.old e ⊎ Somewhere (λ x. x ≡ e) found.now)) }
+        ensures runs { OnOk result ((digest : List ℕ)
+            → HasRun self.new digest ↔ (HasRun self.old digest ⊎ (closing ≡ digest))) }
         ensures refused { OnErr result (self.new ≡ self.old) }
     {
         let single = SortedSet::single(self.alloc, closing)?;

@@ -47,7 +47,8 @@ impl Found {
     /// Takes the next block.
     pub fn see_block(&mut self, map: &DecisionMap<'_>, block: Block) -> Result<(), AllocError>
         requires { IsSound map.now }
-        ensures { OnOk result ((blocks : List Block) (history : List HistoryEntry) → Finds map.now self.old blocks history
+        ensures { OnOk result ((blocks : List Block) (history : List HistoryEntry)
+            → Finds map.now self.old blocks history
             → Finds map.now self.new (blocks ++ block ∷ []) history) }
     {
         self.starts.see(map.object(), block)?;

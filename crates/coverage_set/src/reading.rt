@@ -86,7 +86,8 @@ impl<'a> Reading<'a> {
             → IfErr result (IsUnreadFile bytes) }
         ensures same { F.held files.new ≡ F.held files.old }
         ensures failed { IsErrOf result (Fault Read)
-            → Rose (F.reads_failed files.old) (F.reads_failed files.new) ⊎ IsAbsent (F.held files.old) (file_name reader.old) }
+            → Rose (F.reads_failed files.old) (F.reads_failed files.new)
+            ⊎ IsAbsent (F.held files.old) (file_name reader.old) }
         ensures stays { result ≢ Err (Fault Read) → F.reads_failed files.new ≡ F.reads_failed files.old }
         ensures later { F.reads_failed files.old ≤ F.reads_failed files.new }
         ensures writes { F.writes_failed files.new ≡ F.writes_failed files.old }
@@ -103,10 +104,12 @@ impl<'a> Reading<'a> {
 
     /// All events that the trace tells, where it fits the object and its history follows.
     pub fn end(self) -> Result<SortedSet<Event>, Failure<AddFault>>
-        ensures whole { (o : Object) (t : TraceFile) → IsSound o → HasRead o self.entry t.object t.ending t.blocks t.history → Passes (trace_in t)
+        ensures whole { (o : Object) (t : TraceFile) → IsSound o
+            → HasRead o self.entry t.object t.ending t.blocks t.history → Passes (trace_in t)
             → IfOk result (IsWhole o t) }
         ensures possible { (o : Object) → IsSound o → TookTrace o self.entry → IfOk result (ArePossible o) }
-        ensures unfit { (o : Object) (t : TraceFile) → IsSound o → HasRead o self.entry t.object t.ending t.blocks t.history → Passes (trace_in t)
+        ensures unfit { (o : Object) (t : TraceFile) → IsSound o
+            → HasRead o self.entry t.object t.ending t.blocks t.history → Passes (trace_in t)
             → IfErr result (IsUnfit o t) }
         ensures unread { result ≢ Err (Fault Read) }
     {
@@ -129,7 +132,8 @@ fn next_of<F: Files>(files: &mut F, reader: &mut TraceReader) -> Result<Entry, F
         → Reads reader.old bytes given → IfErr result (IsUnreadFile bytes) }
     ensures same { F.held files.new ≡ F.held files.old }
     ensures failed { IsErrOf result (Fault Read)
-        → Rose (F.reads_failed files.old) (F.reads_failed files.new) ⊎ IsAbsent (F.held files.old) (file_name reader.old) }
+        → Rose (F.reads_failed files.old) (F.reads_failed files.new)
+        ⊎ IsAbsent (F.held files.old) (file_name reader.old) }
     ensures stays { result ≢ Err (Fault Read) → F.reads_failed files.new ≡ F.reads_failed files.old }
     ensures later { F.reads_failed files.old ≤ F.reads_failed files.new }
     ensures writes { F.writes_failed files.new ≡ F.writes_failed files.old }

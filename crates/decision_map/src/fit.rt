@@ -79,7 +79,8 @@ fn check_blocks(kinds: &[WordKind], view: &TraceView<'_>) -> Result<(), FitFault
 /// Whether a block has flags exactly where it ends with a conditional branch, and those of the block
 /// before it where both end there.
 fn has_its_flags(kinds: &[WordKind], before: Option<Block>, block: Block) -> bool
-    ensures { result ≡ (same (not (block.flags == 0)) (has_edges (kind_in kinds.now block.last)) && agrees before block) }
+    ensures { result ≡ (same (not (block.flags == 0))
+        (has_edges (kind_in kinds.now block.last)) && agrees before block) }
 {
     (block.flags != 0) == kind_in(kinds, block.last).has_edges()
         && before.is_none_or(|known| known.last != block.last || known.flags == block.flags)

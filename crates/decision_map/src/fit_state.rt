@@ -74,13 +74,16 @@ impl<'a> FitState<'a> {
     /// Takes the next entry of a trace: its head, then its blocks, then its history, then its closing
     /// digest.
     pub fn see(&mut self, entry: &Entry)
-        ensures head { (o : Object) (object : List ℕ) (ending : ℕ) → IsFresh o self.old → entry.now ≡ entries.Head object ending
+        ensures head { (o : Object) (object : List ℕ) (ending : ℕ) → IsFresh o self.old
+            → entry.now ≡ entries.Head object ending
             → HasSeen o self.new object ending [] [] }
         ensures block { (o : Object) (object : List ℕ) (ending : ℕ) (blocks : List Block) (block : Block)
             → HasSeen o self.old object ending blocks [] → entry.now ≡ block_given block
             → HasSeen o self.new object ending (blocks ++ block ∷ []) [] }
-        ensures history { (o : Object) (object : List ℕ) (ending : ℕ) (blocks : List Block) (history : List HistoryEntry) (next : HistoryEntry)
-            → HasSeen o self.old object ending blocks history → length history < 2 ^ 32 - 1 → entry.now ≡ history_given next
+        ensures history { (o : Object) (object : List ℕ) (ending : ℕ) (blocks : List Block)
+            (history : List HistoryEntry) (next : HistoryEntry)
+            → HasSeen o self.old object ending blocks history → length history < 2 ^ 32 - 1
+            → entry.now ≡ history_given next
             → HasSeen o self.new object ending blocks (history ++ next ∷ []) }
         ensures close { (digest : List ℕ) → entry.now ≡ entries.Close digest → self.new ≡ self.old }
     {
@@ -98,7 +101,8 @@ impl<'a> FitState<'a> {
 
     /// Whether the trace fits the object, where all its entries were seen: the first check that fails.
     pub fn end(&self) -> Result<(), FitFault>
-        ensures { (o : Object) (t : TraceFile) → HasSeen o self.now t.object t.ending t.blocks t.history → Passes (trace_in t)
+        ensures { (o : Object) (t : TraceFile) → HasSeen o self.now t.object t.ending t.blocks t.history
+            → Passes (trace_in t)
             → result_err result ≡ fault_of o t }
     {
         let found = either(self.head, self.block);
@@ -111,7 +115,8 @@ impl<'a> FitState<'a> {
 
     /// Takes the next block. Behind one that is none of the text's, no other is looked at.
     fn see_block(&mut self, block: Block)
-        ensures { (o : Object) (object : List ℕ) (ending : ℕ) (blocks : List Block) → HasSeen o self.old object ending blocks []
+        ensures { (o : Object) (object : List ℕ) (ending : ℕ) (blocks : List Block)
+            → HasSeen o self.old object ending blocks []
             → HasSeen o self.new object ending (blocks ++ block ∷ []) [] }
     {
         if self.block.is_some() {
@@ -145,7 +150,8 @@ impl<'a> FitState<'a> {
 /// The first fault of a trace's head: it is another object's, or ended by an exception that the object
 /// doesn't hold.
 fn head_fault(map: &DecisionMap<'_>, kept: &Digest, ending: u32) -> Option<FitFault>
-    ensures { result ≡ option_or (foreign map.now (trace_with kept.now ending)) (beyond_exceptions map.now (trace_with kept.now ending)) }
+    ensures { result ≡ option_or (foreign map.now (trace_with kept.now ending))
+        (beyond_exceptions map.now (trace_with kept.now ending)) }
 {
     let object = map.object();
     if *kept != object.closing {
@@ -162,7 +168,8 @@ fn head_fault(map: &DecisionMap<'_>, kept: &Digest, ending: u32) -> Option<FitFa
 
 /// Whether a block is one of the text, where the one before it is.
 fn is_next_block(map: &DecisionMap<'_>, before: Option<Block>, block: Block) -> bool
-    ensures { IfSome before (λ (k : Block). is_block (kinds_of_text map.now.text) k ≡ true) → result ≡ is_block (kinds_of_text map.now.text) block }
+    ensures { IfSome before (λ (k : Block). is_block (kinds_of_text map.now.text) k ≡ true)
+        → result ≡ is_block (kinds_of_text map.now.text) block }
 {
     if block.start % 4 != 0 {
         return false;
@@ -178,7 +185,8 @@ fn is_next_block(map: &DecisionMap<'_>, before: Option<Block>, block: Block) -> 
 /// Whether a block has flags exactly where it ends with a conditional branch, and those of the block
 /// before it where both end there.
 fn has_its_flags(map: &DecisionMap<'_>, before: Option<Block>, block: Block) -> bool
-    ensures { result ≡ (same (not (block.flags == 0)) (has_edges (kind_in (kinds_of_text map.now.text) block.last)) && agrees before block) }
+    ensures { result ≡ (same (not (block.flags == 0))
+        (has_edges (kind_in (kinds_of_text map.now.text) block.last)) && agrees before block) }
 {
     (block.flags != 0) == map.has_edges(block.last)
         && before.is_none_or(|known| known.last != block.last || known.flags == block.flags)

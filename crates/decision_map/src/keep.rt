@@ -30,7 +30,8 @@ pub(crate) fn role_at(roles: &[Role], pc: u32) -> Option<Role>
 /// Whether a role is that of a condition of a decision whose graph is no tree.
 fn is_kept(object: &Object, graphs: &[DecisionGraph], role: Role) -> bool
     requires { graphs.now ≡ map graph_of_entry object.now.obligations.decisions }
-    ensures { result ≡ option_map_or (λ (c : Condition). not (is_tree_at object.now c.decision.0)) (condition_of role) false }
+    ensures { result ≡ option_map_or (λ (c : Condition). not (is_tree_at object.now c.decision.0))
+        (condition_of role) false }
 {
     let Some(condition) = condition_of(role) else {
         return false;

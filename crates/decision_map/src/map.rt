@@ -120,7 +120,8 @@ impl<'a> DecisionMap<'a> {
     pub fn graph(&self, decision: DecId) -> &Graph
         requires { decision.0 < length self.now.obligations.decisions }
         ensures exact { result.now ≡ graph_at self.now decision.0 }
-        ensures spelled { (entry : DecEntry) (e : Expr) → slice_get self.now.obligations.decisions decision.0 ≡ Some entry
+        ensures spelled { (entry : DecEntry) (e : Expr)
+            → slice_get self.now.obligations.decisions decision.0 ≡ Some entry
             → IsPostfixOf entry.expression.postfix e → result.now ≡ graph e }
     {
         &self.graphs[decision.0 as usize].graph

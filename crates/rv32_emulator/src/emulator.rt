@@ -47,7 +47,8 @@ pub fn run(
     requires object { IsSound object.now }
     requires same { recorder.old.object ≡ object.now }
     requires fresh { Records recorder.old [] }
-    ensures answers { Answers budget (object_run object.now budget input.now) recorder.new out.old.items out.new.items result }
+    ensures answers { Answers budget (object_run object.now budget input.now) recorder.new out.old.items out.new.items
+        result }
     ensures object { recorder.new.object ≡ recorder.old.object }
 {
     let mut machine = Machine::new(alloc, object)?;

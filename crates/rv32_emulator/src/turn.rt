@@ -34,8 +34,10 @@ pub fn take_turn<'a>(
     ensures image { image_of machine.new ≡ image_of machine.old }
     ensures object { recorder.new.object ≡ recorder.old.object }
     ensures turned { (run : Run) (left count : ℕ) (first : List ℤ) → IsTranscript recorder.old.object run.entries
-        → Stands run (image_of machine.old) (suc left) (state_of machine.old) words.now recorder.old first out.old.items count
-        → Turns run (image_of machine.old) left (state_of machine.new) recorder.new first out.new.items count (result_ok result) }
+        → Stands run (image_of machine.old) (suc left)
+        (state_of machine.old) words.now recorder.old first out.old.items count
+        → Turns run (image_of machine.old) left (state_of machine.new) recorder.new first out.new.items count
+        (result_ok result) }
 {
     match machine.step() {
         Stepped::Went(seen) => {

@@ -77,7 +77,8 @@ impl Flags for Mark {
 pub fn set_bit(marks: &mut Vec<Mark>, pc: u32, bit: Mark)
     ensures len { length marks.new.items ≡ length marks.old.items }
     ensures each { (place : ℕ) (d : Mark) → place < length marks.old.items
-        → (slice_index_or marks.new.items place d).0 ≡ with_bit (pc == address_of place) bit.0 (slice_index_or marks.old.items place d).0 }
+        → (slice_index_or marks.new.items place d).0
+        ≡ with_bit (pc == address_of place) bit.0 (slice_index_or marks.old.items place d).0 }
 {
     if let Some(place) = place_of(pc)
         && place < marks.len()
@@ -90,7 +91,8 @@ pub fn set_bit(marks: &mut Vec<Mark>, pc: u32, bit: Mark)
 pub fn set_edge(marks: &mut Vec<Mark>, pc: u32, edge: Option<bool>)
     ensures len { length marks.new.items ≡ length marks.old.items }
     ensures each { (place : ℕ) (d : Mark) → place < length marks.old.items
-        → (slice_index_or marks.new.items place d).0 ≡ with_edge (pc == address_of place) edge (slice_index_or marks.old.items place d).0 }
+        → (slice_index_or marks.new.items place d).0
+        ≡ with_edge (pc == address_of place) edge (slice_index_or marks.old.items place d).0 }
 {
     match edge {
         Some(true) => set_bit(marks, pc, Mark::TAKEN),

@@ -108,12 +108,15 @@ impl Recorder<'_> {
         // Nothing was seen, or the last instruction was a control transfer.
         requires recorded { (ss : List Seen) × Records self.now ss × IsEnded (facts_of self.now.object) ss }
         requires short_history { length self.now.history < 2 ^ 32 }
-        ensures written { IfOk result (λ bytes. (ss : List Seen) → Records self.now ss → IsEnded (facts_of self.now.object) ss
+        ensures written { IfOk result (λ bytes. (ss : List Seen) → Records self.now ss
+            → IsEnded (facts_of self.now.object) ss
             → bytes.items ≡ trace_spelling (traced self.now.object ss ending)) }
 
         // What was written is read as that trace, closed by the digest that ends the bytes.
-        ensures reads_back { IfOk result (λ bytes. (ss : List Seen) → Records self.now ss → IsEnded (facts_of self.now.object) ss
-            → trace_of bytes.items ≡ Ok (closed_by (traced self.now.object ss ending) (trace_digest (traced self.now.object ss ending)))) }
+        ensures reads_back { IfOk result (λ bytes. (ss : List Seen) → Records self.now ss
+            → IsEnded (facts_of self.now.object) ss
+            → trace_of bytes.items ≡ Ok (closed_by (traced self.now.object ss ending)
+            (trace_digest (traced self.now.object ss ending)))) }
     {
         let blocks = blocks_of(self.alloc, &self.map, self.marks.as_slice())?;
         let trace = TraceParts {

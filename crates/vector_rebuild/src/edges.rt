@@ -37,9 +37,11 @@ pub fn from_edges(
         → Somewhere (λ x. x ≡ e) events.items ↔ FlagsSay (facts_of map.now) (trace_in view.now) e) }
 
     // Of a run, they are the evaluations of tree decisions that its instructions completed.
-    ensures run { IfOk result (λ events. (ss : List Seen) → IsDisciplined (facts_of map.now) ss → trace_in view.now ≡ trace_of (facts_of map.now) ss
+    ensures run { IfOk result (λ events. (ss : List Seen) → IsDisciplined (facts_of map.now) ss
+        → trace_in view.now ≡ trace_of (facts_of map.now) ss
         → (d : DecId) (i : InstId) (vector : Vector) → (facts_of map.now).tree d ≡ true
-        → Somewhere (λ x. x ≡ Done d i vector) events.items ↔ IsCompletedFrom (facts_of map.now) [] (visits (facts_of map.now) ss) d i vector) }
+        → Somewhere (λ x. x ≡ Done d i vector) events.items
+        ↔ IsCompletedFrom (facts_of map.now) [] (visits (facts_of map.now) ss) d i vector) }
 {
     let mut events = Vec::new(alloc);
     for at in 0..view.blocks() {

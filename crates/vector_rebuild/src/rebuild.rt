@@ -114,10 +114,13 @@ impl Rebuild {
         requires few { count_of self.old < 2 ^ 32 - 1 }
         ensures answer { IfOk result (λ completed. taken_by (place_of next) (visit_as visit.now).step
             (begun (kept_of self.old (visit_as visit.now).key) visit.now.step.node.0) ≡ Some completed) }
-        ensures after { OnOk result ((k : Activation) → kept_of self.new k ≡ put_half (kept_of self.old) (visit_as visit.now).key
-            (under_way (place_of next) (visit_as visit.now).step (begun (kept_of self.old (visit_as visit.now).key) visit.now.step.node.0)) k) }
+        ensures after { OnOk result ((k : Activation)
+            → kept_of self.new k ≡ put_half (kept_of self.old) (visit_as visit.now).key
+            (under_way (place_of next) (visit_as visit.now).step
+            (begun (kept_of self.old (visit_as visit.now).key) visit.now.step.node.0)) k) }
         ensures count { OnOk result (self.new.fed ≡ self.old.fed + 1) }
-        ensures off { IfErr result (IsOff self.old.fed (begun (kept_of self.old (visit_as visit.now).key) visit.now.step.node.0)) }
+        ensures off { IfErr result (IsOff self.old.fed
+            (begun (kept_of self.old (visit_as visit.now).key) visit.now.step.node.0)) }
         ensures err { OnErr result (IsAsBefore self.old self.new) }
         ensures roomy { 0 < room_of self.old → result ≢ Err WantOfMemory }
         ensures room { room_of self.old ≤ room_of self.new + 1 }
@@ -152,7 +155,8 @@ impl Rebuild {
         ensures event { IfOk result (λ event. (fed : List HistoryEntry) → Rebuilds (facts_of map.now) self.old fed
             → IsEventOf (facts_of map.now) fed entry event) }
         ensures computed { IfOk result (λ event. (fed : List HistoryEntry) → Rebuilds (facts_of map.now) self.old fed
-            → option_to_list event ≡ done_at (facts_of map.now) (onto (visits_of (facts_of map.now) fed) []) (visit_in (facts_of map.now) (branched_of entry))) }
+            → option_to_list event ≡ done_at (facts_of map.now) (onto (visits_of (facts_of map.now) fed) [])
+            (visit_in (facts_of map.now) (branched_of entry))) }
 
         // It is refused exactly where it follows none of them.
         ensures broken { IfErr result (λ failure. (fed : List HistoryEntry) → Rebuilds (facts_of map.now) self.old fed

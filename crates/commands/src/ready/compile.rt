@@ -27,7 +27,8 @@ pub fn prepare<'a, F: Files>(
     files: &mut F,
 ) -> Result<Ready<'a>, Status>
     requires { length source.now ≤ 4096 }
-    ensures prepares { Prepares (Compile main.now object.now source.now) (F.held files.old) (F.reads_failed files.old) (F.reads_failed files.new) (verdict_view result) }
+    ensures prepares { Prepares (Compile main.now object.now source.now) (F.held files.old) (F.reads_failed files.old)
+        (F.reads_failed files.new) (verdict_view result) }
     ensures same { F.held files.new ≡ F.held files.old }
     ensures writes { F.writes_failed files.new ≡ F.writes_failed files.old }
 {
@@ -64,7 +65,8 @@ fn compiled(
     source: Vec<u8>,
 ) -> Result<(Vec<u8>, Vec<u8>), Status>
     requires { length name.now ≤ 4096 }
-    ensures made { IfOk result (λ made. CompilesTo main.now name.now source.items (record { file = made.0.items; text = made.1.items })) }
+    ensures made { IfOk result (λ made. CompilesTo main.now name.now source.items
+        (record { file = made.0.items; text = made.1.items })) }
     ensures refused { IfErr result (UnlessMemory (RefusesSource main.now name.now source.items)) }
 {
     let files = sources(alloc, name, source)?;
@@ -92,7 +94,8 @@ fn compiled_from(
 
 /// The object file that was compiled, and the lines that tell of it.
 fn told(alloc: Global, compiled: Compiled) -> Result<(Vec<u8>, Vec<u8>), Status>
-    ensures made { IfOk result (λ made. (made.0.items ≡ compiled.file) × (made.1.items ≡ object_lines compiled.object)) }
+    ensures made { IfOk result (λ made. (made.0.items ≡ compiled.file)
+        × (made.1.items ≡ object_lines compiled.object)) }
     ensures refused { IfErr result (λ status. status ≡ WantOfMemory) }
 {
     let text = lines(alloc, &compiled.object)?;

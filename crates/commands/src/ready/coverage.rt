@@ -39,7 +39,8 @@ pub fn prepare<'a, F: Files>(
     files: &mut F,
 ) -> Result<Ready<'a>, Status>
     requires { length traces.now ≤ 4096 }
-    ensures prepares { Prepares (task_for product.entry object.now (map (λ name. name.now) traces.now)) (F.held files.old) (F.reads_failed files.old) (F.reads_failed files.new) (verdict_view result) }
+    ensures prepares { Prepares (task_for product.entry object.now (map (λ name. name.now) traces.now))
+        (F.held files.old) (F.reads_failed files.old) (F.reads_failed files.new) (verdict_view result) }
     ensures same { F.held files.new ≡ F.held files.old }
     ensures writes { F.writes_failed files.new ≡ F.writes_failed files.old }
 {
@@ -56,7 +57,8 @@ fn from_file<'a, F: Files>(
     files: &mut F,
 ) -> Result<Ready<'a>, Status>
     requires { length traces.now ≤ 4096 }
-    ensures prepares { PreparesFrom (λ object. task_for product.entry object (map (λ name. name.now) traces.now)) bytes.now
+    ensures prepares { PreparesFrom (λ object. task_for product.entry object (map (λ name. name.now) traces.now))
+        bytes.now
         (F.held files.old) (F.reads_failed files.old) (F.reads_failed files.new) (verdict_view result) }
     ensures same { F.held files.new ≡ F.held files.old }
     ensures writes { F.writes_failed files.new ≡ F.writes_failed files.old }
@@ -75,7 +77,8 @@ fn over_object<'a, F: Files>(
 ) -> Result<Ready<'a>, Status>
     requires few { length traces.now ≤ 4096 }
     requires object { IsObject object.now }
-    ensures prepares { PreparesOver (λ object. task_for product.entry object (map (λ name. name.now) traces.now)) object.now
+    ensures prepares { PreparesOver (λ object. task_for product.entry object (map (λ name. name.now) traces.now))
+        object.now
         (F.held files.old) (F.reads_failed files.old) (F.reads_failed files.new) (verdict_view result) }
     ensures same { F.held files.new ≡ F.held files.old }
     ensures writes { F.writes_failed files.new ≡ F.writes_failed files.old }

@@ -35,7 +35,8 @@ pub fn prepare<'a, F: Files>(
     object: &str,
     files: &mut F,
 ) -> Result<Ready<'a>, Status>
-    ensures prepares { Prepares (Run input.now budget trace.now object.now) (F.held files.old) (F.reads_failed files.old) (F.reads_failed files.new) (verdict_view result) }
+    ensures prepares { Prepares (Run input.now budget trace.now object.now) (F.held files.old)
+        (F.reads_failed files.old) (F.reads_failed files.new) (verdict_view result) }
     ensures same { F.held files.new ≡ F.held files.old }
     ensures writes { F.writes_failed files.new ≡ F.writes_failed files.old }
 {
@@ -92,7 +93,8 @@ fn executed_on(
     input: &[u8],
 ) -> Result<(Vec<u8>, Vec<u8>), Status>
     requires { IsSound object.now }
-    ensures ran { IfOk result (λ made. RunsOnInput object.now budget input.now (record { file = made.0.items; text = made.1.items })) }
+    ensures ran { IfOk result (λ made. RunsOnInput object.now budget input.now
+        (record { file = made.0.items; text = made.1.items })) }
     ensures stopped { IfErr result (UnlessMemory (StopsOnInput object.now budget input.now)) }
 {
     let numbers = numbers_of(alloc, input)?;
@@ -118,7 +120,8 @@ fn executed(
     input: &[i32],
 ) -> Result<(Vec<u8>, Vec<u8>), Status>
     requires { IsSound object.now }
-    ensures ran { IfOk result (λ made. RunsTo object.now budget input.now (record { file = made.0.items; text = made.1.items })) }
+    ensures ran { IfOk result (λ made. RunsTo object.now budget input.now
+        (record { file = made.0.items; text = made.1.items })) }
     ensures stopped { IfErr result (UnlessMemory (StopsRun object.now budget input.now)) }
 {
     let mut recorder = Recorder::new(alloc, object)?;
@@ -144,7 +147,8 @@ fn told(
     requires short_history { length recorder.now.history < 2 ^ 32 }
     ensures file { IfOk result (λ made. IsTraceOf recorder.now ending.number made.0.items) }
     ensures text { IfOk result (λ made.
-        made.1.items ≡ lines.run_lines object.now.obligations.exceptions put.now ending.number ending.count made.0.items) }
+        made.1.items ≡ lines.run_lines object.now.obligations.exceptions put.now ending.number ending.count
+        made.0.items) }
 {
     let trace = recorder.trace(ending.number)?;
     let exceptions = object.obligations.exceptions.as_slice();

@@ -40,9 +40,11 @@ pub fn add_traces<'a, F: Files>(
     requires sound { IsSound decisions.now }
     requires object { decisions.now ≡ coverage.old.object }
     ensures object { coverage.new.object ≡ coverage.old.object }
-    ensures added { OnOk result (WereAdded (F.held files.old) decisions.now (map (λ name. name.now) names.now) coverage.old coverage.new) }
+    ensures added { OnOk result (WereAdded (F.held files.old) decisions.now
+        (map (λ name. name.now) names.now) coverage.old coverage.new) }
     ensures reads { OnOk result (F.reads_failed files.new ≡ F.reads_failed files.old) }
-    ensures stopped { IfErr result (StopsAmong decisions.now (map (λ name. name.now) names.now) (F.held files.old) (F.reads_failed files.old) (F.reads_failed files.new)) }
+    ensures stopped { IfErr result (StopsAmong decisions.now (map (λ name. name.now) names.now) (F.held files.old)
+        (F.reads_failed files.old) (F.reads_failed files.new)) }
     ensures same { F.held files.new ≡ F.held files.old }
     ensures writes { F.writes_failed files.new ≡ F.writes_failed files.old }
 {
@@ -74,7 +76,8 @@ fn add_file<'a, F: Files>(
     ensures object { coverage.new.object ≡ coverage.old.object }
     ensures added { OnOk result (WereAdded (F.held files.old) decisions.now (name.now ∷ []) coverage.old coverage.new) }
     ensures reads { OnOk result (F.reads_failed files.new ≡ F.reads_failed files.old) }
-    ensures stopped { IfErr result (StopsAt number decisions.now name.now (F.held files.old) (F.reads_failed files.old) (F.reads_failed files.new)) }
+    ensures stopped { IfErr result (StopsAt number decisions.now name.now (F.held files.old)
+        (F.reads_failed files.old) (F.reads_failed files.new)) }
     ensures same { F.held files.new ≡ F.held files.old }
     ensures writes { F.writes_failed files.new ≡ F.writes_failed files.old }
 {
@@ -95,7 +98,8 @@ fn front_of<F: Files>(
 ) -> Result<Vec<u8>, Status>
     ensures front { IfOk result (λ front. HasFront (F.held files.old) name.now front.items) }
     ensures reads { OnOk result (F.reads_failed files.new ≡ F.reads_failed files.old) }
-    ensures unread { IfErr result (IsUnread number name.now (F.held files.old) (F.reads_failed files.old) (F.reads_failed files.new)) }
+    ensures unread { IfErr result (IsUnread number name.now (F.held files.old) (F.reads_failed files.old)
+        (F.reads_failed files.new)) }
     ensures same { F.held files.new ≡ F.held files.old }
     ensures writes { F.writes_failed files.new ≡ F.writes_failed files.old }
 {
@@ -126,7 +130,8 @@ fn read_next<F: Files>(
     ensures part { OnOk result (IfSome (F.held files.old) (HoldsPart name.now from part.new.items)) }
     ensures few { length part.new.items ≤ 8 - from }
     ensures reads { OnOk result (F.reads_failed files.new ≡ F.reads_failed files.old) }
-    ensures unread { IfErr result (IsUnread number name.now (F.held files.old) (F.reads_failed files.old) (F.reads_failed files.new)) }
+    ensures unread { IfErr result (IsUnread number name.now (F.held files.old) (F.reads_failed files.old)
+        (F.reads_failed files.new)) }
     ensures same { F.held files.new ≡ F.held files.old }
     ensures writes { F.writes_failed files.new ≡ F.writes_failed files.old }
 {
@@ -188,7 +193,8 @@ fn add_trace<F: Files>(
     ensures object { coverage.new.object ≡ coverage.old.object }
     ensures added { OnOk result (RunWasAdded (F.held files.old) decisions.now name.now coverage.old coverage.new) }
     ensures reads { OnOk result (F.reads_failed files.new ≡ F.reads_failed files.old) }
-    ensures stopped { IfErr result (StopsRun number decisions.now name.now (F.held files.old) (F.reads_failed files.old) (F.reads_failed files.new)) }
+    ensures stopped { IfErr result (StopsRun number decisions.now name.now (F.held files.old)
+        (F.reads_failed files.old) (F.reads_failed files.new)) }
     ensures same { F.held files.new ≡ F.held files.old }
     ensures writes { F.writes_failed files.new ≡ F.writes_failed files.old }
 {
