@@ -10,7 +10,7 @@ use std::marker::Model;
 #[derive(Drop)]
 #[cycle(static_tree)]
 pub struct StaticTree {
-    kind: StaticKind,
+    pub kind: StaticKind,
 }
 
 /// The forms of a static expression.

@@ -17,7 +17,7 @@ mod names;
 mod sizes;
 mod values;
 
-pub use arithmetic::values_in;
+pub use arithmetic::{computed, length, signed, values_in};
 pub use constants::constants_in;
 pub use forms::{RecordForm, TypeForm, TypeIn};
 pub use known::owner_in;
