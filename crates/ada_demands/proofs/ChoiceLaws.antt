@@ -1,11 +1,11 @@
 -- What choices name, sorted and one after the other.
-use Rattle.std.proofs.Common.{◌≡◌, ℕ, ℤ, ◌<◌, Bool, true, false, not, cond, ◌&&◌, List, [], ◌∷◌, ◌++◌, map, length, get_or, drop, ◌+◌, ◌+ℤ◌, pos, Option, Some, None, int_lt, int_le, int_cmp, refl, sym, ap, ◌∙◌, inl, inr, arith, is_lt, IsSortedByKey}
+use Rattle.std.proofs.Common.{◌≡◌, ℕ, ℤ, ◌<◌, Bool, true, false, not, cond, ◌&&◌, List, [], ◌∷◌, map, length, get_or, drop, ◌+◌, ◌+ℤ◌, pos, Option, int_lt, int_le, int_cmp, refl, sym, ap, ◌∙◌, inl, inr, arith, is_lt, IsSortedByKey}
 use Rattle.std.specs.declared.cmp.Ordering.TheVariants.{Less, Equal, Greater}
 use Rattle.std.specs.List.Sorted.{IsStableByKey}
 use Rattle.std.proofs.lemmas.Bool.{cases_Bool, cond-true, cond-false}
 use Rattle.std.proofs.lemmas.Cmp.{int_cmp_total}
 use Rattle.std.proofs.lemmas.Int.{ints}
-use Rattle.std.proofs.lemmas.List.{append_assoc, at_drop_more}
+use Rattle.std.proofs.lemmas.List.{at_drop_more}
 use Rattle.ada_meaning.specs.Program.{Bounds}
 use Rattle.ada_meaning.specs.Obligations.{inserted, in_order}
 use Rattle.ada_tree.specs.declared.types.Range.{Range}

@@ -1,5 +1,5 @@
 -- Lists by number, as seen by what they hold: a number past their end has nothing.
-use Rattle.std.proofs.Common.{◌≡◌, ◌≢◌, ℕ, zero, suc, ◌<◌, Bool, true, false, List, [], ◌∷◌, ◌++◌, map, length, get_or, set, nat_eq, if◌then◌else◌, refl, sym, ap, ◌∙◌, arith}
+use Rattle.std.proofs.Common.{◌≡◌, ◌≢◌, ℕ, zero, suc, ◌<◌, Bool, true, false, List, [], ◌∷◌, map, length, get_or, set, nat_eq, if◌then◌else◌, refl, sym, ap, ◌∙◌, arith}
 use Rattle.std.proofs.lemmas.Bool.{cond-false}
 use Rattle.std.proofs.lemmas.Bool.Decides.{nat_tests, Decides-eqb}
 use Rattle.std.proofs.lemmas.List.{get_or-map}
@@ -14,13 +14,6 @@ chosen : {B : Type 0} (b : Bool) (x y : B) → b ≡ false → y ≡ (if b then 
 chosen b x y e = sym (cond-false b x y e)
 
 module _ {A B : Type 0} (f : A → B) (d : B) where
-  -- one that has nothing changes nothing
-  pub room_same : (xs : List A) (e : A) (g : ℕ) → f e ≡ d → get_or (map f (xs ++ e ∷ [])) g d ≡ get_or (map f xs) g d
-  room_same [] e zero h = h
-  room_same [] e (suc g) h = refl
-  room_same (x ∷ xs) e zero h = refl
-  room_same (x ∷ xs) e (suc g) h = room_same xs e g h
-
   -- one that is changed
   pub at_changed : (xs : List A) (i : ℕ) (x : A) (g : ℕ) → i < length xs
       → get_or (map f (set xs i x)) g d ≡ (if nat_eq i g then f x else get_or (map f xs) g d)

@@ -20,11 +20,12 @@ use Rattle.ada_rules.specs.Statics.{Facts, value_in, asked}
 use Rattle.ada_rules.specs.Environment.{State, Given, given, Env, demanded}
 use Rattle.ada_rules.specs.Expressions.{entered_constant, value_named, static_known}
 use Rattle.ada_entities.specs.EntityViews.{Tables}
+use Rattle.ada_demands.specs.declared.demand.Made.{Made}
 use Rattle.ada_demands.specs.declared.demand.Test.{Test}
 use Rattle.ada_demands.specs.declared.demand.Asked.{Asked}
 use Rattle.ada_demands.specs.declared.demand.Asked.TheVariants as ask
 use Rattle.ada_demands.specs.DemandViews.{test_of, asked_of}
-use Rattle.ada_demands.specs.StaticsViews.{own_value, chain_named}
+use Rattle.ada_demands.specs.StaticsViews.{with_instance, own_value, chain_named}
 use Rattle.ada_demands.proofs.ConstantLaws.{as_many_reversed}
 
 -- one more demand
@@ -39,6 +40,16 @@ demanded_is k env s p generic t old new e h = λ i. record s { demands = latest 
         ∙ (ap reverse (map_push (asked_of k) old (ask.Demand (record { pos = p; generic = generic; test = t })))
         ∙ (reverse-append (map (asked_of k) old) (asked (record { place = p; generic = generic; test = test_of k t }) ∷ [])
         ∙ ap (λ g. asked (record { place = p; generic = g; test = test_of k t }) ∷ reverse (map (asked_of k) old)) (sym h)))
+
+-- one more instance
+pub instantiated_is : (k : Tables) (s : State) (m : Made) (old new : List Asked) → new ≡ old ++ ask.Instantiated m ∷ []
+    → record s { demands = reverse (map (asked_of k) new) } ≡ with_instance m.generic m.instance (record s { demands = reverse (map (asked_of k) old) })
+instantiated_is k s m old new e =
+    ap (λ (xs : List Asked). record s { demands = reverse (map (asked_of k) xs) }) e
+    ∙ (λ i. record s {
+      demands = (ap reverse (map_push (asked_of k) old (ask.Instantiated m))
+          ∙ reverse-append (map (asked_of k) old) (asked_of k (ask.Instantiated m) ∷ [])) i;
+    })
 
 -- one more constant
 pub entered_is : (s : State) (g : ℕ) (r : type.Range) (e : type.Static) (old new : List GenericConstant) (n : ℕ)

@@ -1,5 +1,5 @@
 -- What was asked so far of each generic, as groups grow.
-use Rattle.std.proofs.Common.{◌≡◌, ℕ, ◌<◌, List, [], ◌∷◌, ◌++◌, map, length, get_or, refl, sym, ap, ◌∙◌}
+use Rattle.std.proofs.Common.{◌≡◌, ℕ, ◌<◌, List, [], ◌∷◌, ◌++◌, map, length, get_or, sym, ap, ◌∙◌}
 use Rattle.std.specs.Borrow.{Bor}
 use Rattle.std.specs.declared.vec.Vec.{Vec}
 use Rattle.std.specs.declared.alloc.Global.{Global}
@@ -7,7 +7,7 @@ use Rattle.std.proofs.lemmas.List.{map_push}
 use Rattle.ada_demands.specs.declared.demand.Demand.{Demand}
 use Rattle.ada_demands.specs.declared.history.Group.{Group}
 use Rattle.ada_demands.specs.Meeting.{lent}
-use Rattle.ada_demands.specs.Past.{Past, nothing, past_of, with_demand, with_instance}
+use Rattle.ada_demands.specs.Past.{nothing, past_of, with_demand, with_instance}
 use Rattle.ada_demands.proofs.GroupLaws.{at_place}
 
 pub one_demand : (groups : List Group) (i : ℕ) (x : Group) (v : Vec (Bor Demand) Global) (d : Bor Demand) → i < length groups → x ≡ get_or groups i x

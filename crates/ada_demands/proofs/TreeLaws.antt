@@ -1,5 +1,5 @@
 -- Chains of operators: how large they are, and what they come to.
-use Rattle.std.proofs.Common.{◌≡◌, ℕ, zero, suc, ◌+◌, ◌<◌, ◌≤◌, true, ℤ, List, [], ◌∷◌, length, get_or, drop, Option, refl, sym, ap, ◌∙◌, arith}
+use Rattle.std.proofs.Common.{◌≡◌, ℕ, zero, suc, ◌+◌, ◌<◌, ◌≤◌, ℤ, List, [], ◌∷◌, length, get_or, drop, Option, refl, sym, ap, ◌∙◌, arith}
 use Rattle.std.specs.Option.{option_and_then}
 use Rattle.std.proofs.lemmas.List.{at_drop_more}
 use Rattle.ada_meaning.specs.Resolved.{owner_in}
@@ -10,7 +10,7 @@ use Rattle.ada_tree.specs.declared.types.Owner.{Owner}
 use Rattle.ada_tree.specs.declared.types.Owner.TheVariants as owner
 use Rattle.ada_tree.specs.View.{operator_of, owner_of, static_by}
 use Rattle.ada_judged.specs.declared.static_tree.StaticOperand.{StaticOperand}
-use Rattle.ada_judged.specs.StaticView.{with_operand, with_operands, is_filled, static_size}
+use Rattle.ada_judged.specs.StaticView.{with_operand, with_operands, static_size}
 use Rattle.ada_rules.specs.Statics.{Facts, value_in}
 use Rattle.ada_demands.specs.TreeValues.{operated_by, operated}
 
@@ -27,10 +27,6 @@ pub operand_within : (os : List StaticOperand) (i : ℕ) (d : StaticOperand) →
 operand_within [] i d h = absurd (omega arith)
 operand_within (o ∷ os) zero d h = omega arith
 operand_within (o ∷ os) (suc i) d h = omega (arith, operand_within os i d (omega arith))
-
-pub filled_operands : (os : List StaticOperand) → is_filled os ≡ true → 1 ≤ operands_size os
-filled_operands [] h = cc
-filled_operands (o ∷ os) h = omega arith
 
 pub static_positive : (e : Static) → 1 ≤ static_size e
 static_positive (type.static_number x) = omega arith

@@ -11,7 +11,7 @@ use Rattle.ada_entities.specs.EntityViews.{Tables}
 use Rattle.ada_demands.specs.declared.demand.Demand.{Demand}
 use Rattle.ada_demands.specs.declared.demand.Asked.{Asked}
 use Rattle.ada_demands.specs.declared.demand.Asked.TheVariants as ask
-use Rattle.ada_demands.specs.DemandViews.{test_of, demand_of, asked_of}
+use Rattle.ada_demands.specs.DemandViews.{demand_of, asked_of}
 use Rattle.ada_demands.specs.Meeting.{failing_of}
 use Rattle.ada_demands.specs.Past.{Past, nothing, with_demand, with_instance, past_behind, asked_in, unmet_next}
 use Rattle.ada_demands.specs.declared.spans.ListedSpans.{ListedSpans}

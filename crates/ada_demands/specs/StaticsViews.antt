@@ -10,11 +10,12 @@ use Rattle.ada_tree.specs.declared.types.StaticValue.{StaticValue}
 use Rattle.ada_tree.specs.Programs.{constant_of}
 use Rattle.ada_tree.specs.View.{operator_of, static_value_of}
 use Rattle.ada_rules.specs.Types.{base}
-use Rattle.ada_rules.specs.Statics.{Facts}
+use Rattle.ada_rules.specs.Statics.{Facts, instantiated}
 use Rattle.ada_rules.specs.Environment.{State, Given, given, Env, demanded}
 use Rattle.ada_rules.specs.Expressions.{entered_constant, value_named, static_known}
 use Rattle.ada_entities.specs.EntityViews.{Tables}
 use Rattle.ada_judged.specs.declared.static_tree.StaticOperand.{StaticOperand}
+use Rattle.ada_demands.specs.declared.demand.Made.{Made}
 use Rattle.ada_demands.specs.declared.demand.Test.{Test}
 use Rattle.ada_demands.specs.declared.statics.Statics.{Statics}
 use Rattle.ada_demands.specs.DemandViews.{test_of, asked_of}
@@ -32,10 +33,19 @@ abbrev pub own_value : Static → Option StaticValue
 own_value (static.Value owner.Here v) = Some v
 own_value e = None
 
+-- with an instance behind the demands so far
+abbrev pub with_instance : (generic instance : ℕ) → State → State
+with_instance g n s = record s { demands = instantiated g n ∷ s.demands }
+
 abbrev pub Demands : (old new : Statics) → Pos → Option ℕ → Test → Type 0
 Demands old new p generic test =
     (k : Tables) (env : Env) (s : State) → env.generic ≡ generic
     → noted k new s ≡ demanded env p (test_of k test) (noted k old s)
+
+-- an instance that was made
+abbrev pub Instantiates : (old new : Statics) → Made → Type 0
+Instantiates old new m =
+    (k : Tables) (s : State) → noted k new s ≡ with_instance m.generic m.instance (noted k old s)
 
 -- what a rule gives, in whatever state has these counters
 abbrev pub Gives : (old new : Statics) → (State → Given type.Static) → StaticValue → Type 0

@@ -1,6 +1,6 @@
 //! What instances have for the formals and the constants of their generics (Ada RM 2012, 12.3).
 
-ghost use Rattle.std.specs.Prelude.{◌≡◌, [], ◌∷◌, ◌++◌, option_map, OnOk};
+ghost use Rattle.std.specs.Prelude.{◌≡◌, [], ◌∷◌, ◌++◌, map, option_map, pred, set, slice_get, OnOk};
 ghost use Rattle.std.specs.Option.{option_copied};
 ghost use Rattle.ada_demands.specs.FactViews.{facts_of, facts_at, facts_in};
 
@@ -65,11 +65,48 @@ impl Instances {
         Ok(())
     }
 
+    /// Lets an instance have these; a number without an instance has no effect.
+    pub(crate) fn set(&mut self, number: u32, facts: Facts)
+        ensures { self.new ≡ set self.old (pred number) (facts_of facts) }
+    {
+        put(&mut self.facts, index_of(number), facts);
+    }
+
+    /// What stands at the place of the instance with this number.
+    pub(crate) fn placed(&self, number: u32) -> Option<&Facts>
+        ensures { option_map facts_of (option_copied result) ≡ slice_get self.now (pred number) }
+    {
+        self.facts.get(index_of(number))
+    }
+
+    /// What instances have, in order.
+    pub(crate) fn as_slice(&self) -> &[Facts]
+        ensures { map facts_of result.now ≡ self.now }
+    {
+        self.facts.as_slice()
+    }
+
     /// What the instance with this number has; 0 is none.
     pub(crate) fn at(&self, number: u32) -> Option<&Facts>
         ensures { option_map facts_of (option_copied result) ≡ facts_in self.now number }
     {
-        facts_at(self.facts.as_slice(), number)
+        facts_at(self.as_slice(), number)
+    }
+}
+
+/// The place of an instance.
+fn index_of(number: u32) -> usize
+    ensures { result ≡ pred number }
+{
+    number.saturating_sub(1) as usize
+}
+
+/// Puts what an instance has at a place, if it is one.
+fn put(all: &mut Vec<Facts>, index: usize, facts: Facts)
+    ensures { all.new.items ≡ set all.old.items index facts }
+{
+    if let Some(known) = all.get_mut(index) {
+        *known = facts;
     }
 }
 

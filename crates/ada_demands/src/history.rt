@@ -1,7 +1,8 @@
 //! What was asked so far, by the generics in whose texts it stands (Ada RM 2012, 12.3).
 
 ghost use Rattle.std.specs.Prelude.{◌≡◌, ◌<◌, ℕ, [], length, nat_eq, OnOk, if◌then◌else◌};
-ghost use Rattle.ada_demands.specs.Past.{nothing, past_at, past_from, past_behind, asked_in, with_demand, with_instance};
+ghost use Rattle.ada_demands.specs.Past.{nothing, past_at, past_from, past_behind};
+ghost use Rattle.ada_demands.specs.Past.{asked_in, with_demand, with_instance};
 
 use crate::demand::{Asked, Demand};
 use std::alloc::{AllocError, Global};

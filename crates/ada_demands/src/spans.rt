@@ -1,16 +1,21 @@
 //! The values that case statements name (Ada RM 2012, 5.4).
 
-ghost use Rattle.std.specs.Prelude.{◌≡◌, [], ◌∷◌, ◌++◌, option_map, slice_get, IfOk, OnOk};
+ghost use Rattle.std.specs.Prelude.{◌≡◌, pos, ◌-ℤ◌, [], ◌∷◌, ◌++◌, option_map, slice_get, IfOk, OnOk};
 ghost use Rattle.std.specs.Option.{option_copied};
 ghost use Rattle.ada_tree.specs.Programs.{bounds_of};
-ghost use Rattle.ada_rules.specs.Statics.{formal_values, result_bounds_of_fact, spans_in, type_bounds_of_fact};
+ghost use Rattle.ada_tree.specs.View.{scalar_range_of};
+ghost use Rattle.ada_rules.specs.Types.{base, numbers};
+ghost use Rattle.ada_rules.specs.Entities.{type_values};
+ghost use Rattle.ada_entities.specs.EntityViews.{Tables, values_of};
+ghost use Rattle.ada_entities.specs.Views.{scalar_type_of};
+ghost use Rattle.ada_rules.specs.Statics.{within, formal_values, result_bounds_of_fact, spans_in, type_bounds_of_fact};
 ghost use Rattle.ada_demands.specs.FactViews.{fact_of};
 ghost use Rattle.ada_demands.specs.SpanEntries.{listed_of, type_values_of};
-ghost use Rattle.ada_demands.specs.SpanViews.{listed, IsListed, AreValues};
+ghost use Rattle.ada_demands.specs.SpanViews.{listed, Begins, IsListed, AreValues};
 
 use crate::facts::{Fact, Instances};
 use crate::known::between;
-use ada_entities::Values;
+use ada_entities::{FormalKind, ScalarType, Values};
 use ada_judged::StaticTree;
 use ada_tree::{Range, ScalarRange};
 use std::alloc::{AllocError, Global};
@@ -38,6 +43,55 @@ pub struct SpanTable {
     entries: Vec<ListedSpans>,
 }
 
+impl TypeValues {
+    /// The values of a scalar type. An enumeration with more than 2^31 - 1 literals has no memory.
+    pub fn of(of: ScalarType) -> Result<TypeValues, AllocError>
+        ensures { IfOk result (λ v. type_values_of v ≡ type_values (scalar_type_of of)) }
+    {
+        match of {
+            ScalarType::Enumeration(_, count) => positions(count),
+            ScalarType::Formal(_, place, FormalKind::Discrete) => Ok(TypeValues::OfFormalType(
+                place,
+            )),
+            ScalarType::Formal(_, _, FormalKind::Integer) => Ok(TypeValues::Within(base_range())),
+            ScalarType::Integer(_) => Ok(TypeValues::Within(base_range())),
+        }
+    }
+
+    /// The same, as an object's or a call's are told.
+    pub fn values(self) -> Values
+        ensures { (k : Tables) → values_of k result ≡ type_values_of self }
+    {
+        match self {
+            TypeValues::Within(range) => Values::Within(range),
+            TypeValues::OfFormalType(place) => Values::OfFormalType(place),
+        }
+    }
+}
+
+/// The values of the base range (RM 3.5.4).
+pub(crate) fn base_range() -> ScalarRange
+    ensures { scalar_range_of result ≡ base }
+{
+    ScalarRange::Known(Range {
+        first: i32::MIN,
+        last: i32::MAX,
+    })
+}
+
+/// The position numbers of so many literals (RM 3.5.1).
+fn positions(count: u32) -> Result<TypeValues, AllocError>
+    ensures { IfOk result (λ v. type_values_of v ≡ within (numbers (pos 0) (pos count -ℤ pos 1))) }
+{
+    let Ok(count) = i32::try_from(count) else {
+        return Err(AllocError);
+    };
+    Ok(TypeValues::Within(ScalarRange::Known(Range {
+        first: 0,
+        last: count - 1,
+    })))
+}
+
 impl SpanTable {
     /// No values.
     pub fn new(alloc: Global) -> SpanTable
@@ -53,6 +107,7 @@ impl SpanTable {
     pub fn add(&mut self, values: ListedSpans) -> Result<Values, AllocError>
         ensures named { IfOk result (IsListed (listed self.new) (listed_of values)) }
         ensures added { OnOk result (listed self.new ≡ listed self.old ++ values ∷ []) }
+        ensures begins { OnOk result ((k : Tables) → Begins (listed self.new) k → Begins (listed self.old) k) }
     {
         let Ok(number) = u32::try_from(self.entries.as_slice().len()) else {
             return Err(AllocError);

@@ -6,14 +6,15 @@ ghost use Rattle.ada_rules.specs.Types.{base};
 ghost use Rattle.ada_rules.specs.Environment.{State, beginning_state};
 ghost use Rattle.ada_rules.specs.Expressions.{entered_constant, value_named};
 ghost use Rattle.ada_entities.specs.EntityViews.{Tables, constant_of};
-ghost use Rattle.ada_demands.specs.StaticsViews.{noted, own_value, Demands, Gives, GivesChain, Knows};
+ghost use Rattle.ada_demands.specs.StaticsViews.{noted, own_value, Demands, Gives, Instantiates, GivesChain, Knows};
 
 use crate::constants::GenericConstants;
-use crate::demand::{Asked, Demand, Test};
+use crate::demand::{Asked, Demand, Made, Test};
 use crate::facts::Instances;
+use crate::spans::base_range;
 use ada_entities::ConstantValue;
 use ada_judged::{StaticKind, StaticOperand, StaticTree};
-use ada_tree::{GenericConstant, Operator, Owner, Range, ScalarRange, Static, StaticValue};
+use ada_tree::{GenericConstant, Operator, Owner, ScalarRange, Static, StaticValue};
 use cov_base::Pos;
 use std::alloc::{AllocError, Global};
 
@@ -22,16 +23,6 @@ use std::alloc::{AllocError, Global};
 pub struct Statics {
     pub demands: Vec<Asked>,
     pub constants: GenericConstants,
-}
-
-/// The values of the base range (RM 3.5.4).
-fn base_range() -> ScalarRange
-    ensures { scalar_range_of result ≡ base }
-{
-    ScalarRange::Known(Range {
-        first: i32::MIN,
-        last: i32::MAX,
-    })
 }
 
 /// What is a value of its own text already.
@@ -77,6 +68,14 @@ impl Statics {
     {
         self.demands
             .push(Asked::Demand(Demand { pos, generic, test }))?;
+        Ok(())
+    }
+
+    /// Notes that an instance was made.
+    pub fn instantiate(&mut self, made: Made) -> Result<(), AllocError>
+        ensures { OnOk result (Instantiates self.old self.new made) }
+    {
+        self.demands.push(Asked::Instantiated(made))?;
         Ok(())
     }
 

@@ -1,4 +1,4 @@
-use Rattle.std.proofs.Common.{◌≡◌, ◌+◌, ◌∙◌, sym, ap, map, drop, arith, rules, to_z, of_z, w64, SFits, to_z-of_z}
+use Rattle.std.proofs.Common.{◌+◌, ◌∙◌, sym, ap, map, drop, arith, rules, to_z, w64, SFits, to_z-of_z}
 use Rattle.std.proofs.lemmas.List.{at_drop_all}
 use Rattle.ada_tree.specs.Programs.{bounds_of}
 use Rattle.ada_rules.specs.Statics.{named_once}

@@ -1,4 +1,4 @@
-use Rattle.std.proofs.Common.{map, sym, ap, ◌∙◌}
+use Rattle.std.proofs.Common.{sym, ap, ◌∙◌}
 use Rattle.ada_rules.specs.Statics.{holds, is_in, is_ordered}
 use Rattle.ada_demands.specs.DemandViews.{test_of}
 use Rattle.ada_demands.proofs.facts.Instances.holds.Goals as goal
