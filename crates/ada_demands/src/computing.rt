@@ -40,7 +40,7 @@ impl Known<'_> {
 impl Instances {
     /// The values of a generic's constants in the instance with this number, in order: none where a
     /// constant has no static value there. Each is computed once, from those before it.
-    pub fn constants_in(
+    fn constants_in(
         &self,
         alloc: Global,
         constants: &GenericConstants,

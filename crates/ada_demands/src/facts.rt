@@ -80,7 +80,7 @@ impl Instances {
     }
 
     /// What instances have, in order.
-    pub(crate) fn as_slice(&self) -> &[Facts]
+    pub fn as_slice(&self) -> &[Facts]
         ensures { map facts_of result.now ≡ self.now }
     {
         self.facts.as_slice()

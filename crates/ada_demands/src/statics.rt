@@ -35,8 +35,9 @@ fn own_value(value: Static) -> Option<StaticValue>
     }
 }
 
-/// The value of a constant as an expression; of one without a value, an expression that has none. One
-/// without a value is of a subprogram, and so is never seen through an instance.
+/// The value of a constant as an expression; of one without a value, an expression that has none. No
+/// expression stands for one without a value that is seen through an instance: there is none, since it is
+/// declared in a subprogram.
 fn as_expression(constant: ConstantValue) -> Option<Static>
     ensures { IfSome result (λ e. static_of e ≡ constant_of constant) }
 {
@@ -130,7 +131,7 @@ impl Statics {
         }
     }
 
-    /// The value of a constant, in the text of a generic.
+    /// The value of a constant, in the text of a generic. One that no expression stands for has no memory.
     fn constant_named(
         &mut self,
         alloc: Global,
