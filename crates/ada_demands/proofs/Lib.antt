@@ -1,0 +1,10 @@
+pub mod FactLaws
+pub mod TreeLaws
+pub mod SpanLaws
+pub mod ChoiceLaws
+pub mod GroupLaws
+pub mod ConstantLaws
+pub mod UnmetLaws
+pub mod ComputingLaws
+pub mod PastLaws
+pub mod NamedLaws

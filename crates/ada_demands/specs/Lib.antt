@@ -1,0 +1,12 @@
+pub mod FactViews
+pub mod KnownViews
+pub mod TreeValues
+pub mod SpanEntries
+pub mod SpanViews
+pub mod ChoiceViews
+pub mod DemandViews
+pub mod Meeting
+pub mod Past
+pub mod Unmet
+pub mod Grouping
+pub mod StaticsViews
