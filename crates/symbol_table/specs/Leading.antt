@@ -19,7 +19,8 @@ use Rattle.symbol_table.specs.Changes.{Becomes}
 -- what stood in an environment stands in this one
 abbrev pub Leads : (old new : Symbols) → (Tables → Env → Env) → Type 0
 Leads old new f =
-    (now : Step) (own : Option ℕ) (k : Tables) (env : Env) → Holds now own old k env → Begins new k → Holds now own new k (f k env)
+    (now : Step) (own : Option ℕ) (k : Tables) (env : Env) → Holds now own old k env → Begins new k
+    → Holds now own new k (f k env)
 
 -- another unit is seen
 abbrev pub Shows : (old new : Symbols) → ℕ → Interface → Type 0
@@ -30,8 +31,8 @@ Shows old new n i =
 -- an instance is seen, which was not there before, with these actuals
 abbrev pub ShowsInstance : (old new : Symbols) → ℕ → Option ℕ → ℕ → Type 0
 ShowsInstance old new n g j =
-    (k : Tables) (w : World) (xs : List Actual) → HoldsUnits old k w → Begins new k → GiveSame xs (actuals_of k.types j)
-    → HoldsUnits new k (with_interface w n (instance_interface g j xs))
+    (k : Tables) (w : World) (xs : List Actual) → HoldsUnits old k w → Begins new k
+    → GiveSame xs (actuals_of k.types j) → HoldsUnits new k (with_interface w n (instance_interface g j xs))
 
 -- where a unit is looked at that sees this of the library, and where the text of a package is
 abbrev pub StandsInUnit : Symbols → (seen : List (List ℕ × Entity)) → Type 0
@@ -42,7 +43,8 @@ StandsInUnit symbols seen =
 abbrev pub StandsInPackage : Symbols → (text seen : List (List ℕ × Entity)) → Type 0
 StandsInPackage symbols text seen =
     (now : Step) (k : Tables) (w : World) (n : ℕ) (name : List ℕ) (g : Option ℕ) (own : ℕ) → HoldsUnits symbols k w
-    → Holds now (Some own) symbols k (in_package (env_of (step_of now) w n name (region_of k seen)) g own (region_of k text))
+    → Holds now (Some own) symbols k
+    (in_package (env_of (step_of now) w n name (region_of k seen)) g own (region_of k text))
 
 -- what a unit is named as by others
 abbrev pub IsUnitEntity : Symbols → ℕ → Entity → Type 0

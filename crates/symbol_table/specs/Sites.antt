@@ -35,8 +35,8 @@ abbrev pub StandsInText : Option ℕ → List (List (List ℕ × Entity)) → Ta
 StandsInText None rs k env = env.own_package ≡ None
 StandsInText (Some own) rs k env = IsInText own rs k env
 
--- A world that has the units of a symbol table, where its numbers lead to this: to what is there so far, and to what may
--- come. Instances have this for the formals of their generics, of which the table keeps the types.
+-- A world that has the units of a symbol table, where its numbers lead to this: to what is there so far, and to what
+-- may come. Instances have this for the formals of their generics, of which the table keeps the types.
 pub record HoldsUnits (symbols : Symbols) (k : Tables) (w : World) : Type 0 where
   pub known : IsKnown symbols
   pub begins : Begins symbols k

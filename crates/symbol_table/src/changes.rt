@@ -1,10 +1,10 @@
 //! Changes of the symbol table (Ada RM 2012, 3.1, 6.1, 8.1, 8.3).
 
-ghost use Rattle.std.specs.Prelude.{◌≡◌, set, IfOk, IfErr, OnOk};
+ghost use Rattle.std.specs.Prelude.{◌≡◌, IfOk, IfErr, OnOk};
 ghost use Rattle.ada_rules.specs.Entities.{key};
-ghost use Rattle.ada_entities.specs.RegionCode.{Declares, RefusesName, Redefines, innermost};
+ghost use Rattle.ada_entities.specs.RegionCode.{RefusesName, innermost};
 ghost use Rattle.symbol_table.specs.Leading.{IsUnitEntity};
-ghost use Rattle.symbol_table.specs.Changes.{Becomes, Grows, ChangesInside, Opens, Closes, IsFresh, IsTypeOf, IsInstance, IsSubprogram, IsInOwnText, IsNumbered, ShowsKnown};
+ghost use Rattle.symbol_table.specs.Changes.{Grows, ChangesInside, DeclaresInside, RedefinesInside, Opens, Closes, ShowsUnit, IsFresh, IsTypeOf, IsInstance, IsSubprogram, IsInOwnText, IsNumbered, ShowsKnown};
 
 use crate::extent::Extent;
 use crate::symbols::Symbols;
@@ -64,7 +64,7 @@ impl Symbols {
         name: &Identifier,
         entity: Entity,
     ) -> Result<(), Failure<Refusal>>
-        ensures declared { OnOk result (Declares (innermost self.old.regions) name.now entity (innermost self.new.regions)) }
+        ensures declared { OnOk result (DeclaresInside self.old self.new name.now entity) }
         ensures inside { OnOk result (ChangesInside self.old self.new) }
         ensures refused { IfErr result (RefusesName (innermost self.old.regions) name.now entity) }
     {
@@ -85,7 +85,7 @@ impl Symbols {
         name: &Identifier,
         entity: Entity,
     ) -> Result<(), AllocError>
-        ensures redefined { OnOk result (Redefines (innermost self.old.regions) (key name.now) entity (innermost self.new.regions)) }
+        ensures redefined { OnOk result (RedefinesInside self.old self.new (key name.now) entity) }
         ensures inside { OnOk result (ChangesInside self.old self.new) }
     {
         if !self.extent.knows_entity(entity) {
@@ -143,7 +143,7 @@ impl Symbols {
     /// Lets other units see this of a unit; a number without a unit has no effect. An instance or a
     /// subprogram whose number leads nowhere has no memory.
     pub fn set_unit(&mut self, unit: u32, interface: Interface) -> Result<(), AllocError>
-        ensures { OnOk result (ShowsKnown self.old.extent interface → Becomes self.old self.new self.old.regions (set self.old.units unit interface)) }
+        ensures { OnOk result (ShowsKnown self.old.extent interface → ShowsUnit self.old self.new unit interface) }
     {
         if !self.extent.knows_interface(&interface) {
             return Err(AllocError);

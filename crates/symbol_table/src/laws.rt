@@ -1,7 +1,7 @@
 //! Laws of symbol tables that change, for the layers above. The functions do nothing: each carries laws
 //! as its contract.
 
-ghost use Rattle.std.specs.Prelude.{◌≡◌, ℕ, ◌≤◌, List, [], ◌∷◌, set, Option};
+ghost use Rattle.std.specs.Prelude.{◌≡◌, ℕ, ◌≤◌, List, [], ◌∷◌, Option};
 ghost use Rattle.ada_rules.specs.Environment.{Env, with_local, opened};
 ghost use Rattle.ada_entities.specs.declared.entity.Entity.{Entity};
 ghost use Rattle.ada_entities.specs.declared.units.Interface.{Interface};
@@ -11,7 +11,7 @@ ghost use Rattle.ada_entities.specs.RegionCode.{innermost};
 ghost use Rattle.ada_phrases.specs.declared.scope.Step.{Step};
 ghost use Rattle.symbol_table.specs.declared.symbols.Symbols.{Symbols};
 ghost use Rattle.symbol_table.specs.Sites.{Holds};
-ghost use Rattle.symbol_table.specs.Changes.{Becomes, Grows, Opens, ChangesInside};
+ghost use Rattle.symbol_table.specs.Changes.{Grows, Opens, ChangesInside, ShowsUnit};
 ghost use Rattle.symbol_table.specs.Leading.{Leads, Shows, ShowsInstance, StandsInUnit, StandsInPackage};
 
 /// A place follows the symbol table: where it grows, where a region opens, and where the innermost
@@ -28,11 +28,9 @@ pub fn places_follow()
 /// A world follows the symbol table where another unit is seen, an instance too; and a unit that is
 /// looked at in it stands where the rules have it.
 pub fn units_follow()
-    ensures shown { (old new : Symbols) (regions : List (List (List ℕ × Entity))) (n : ℕ) (i : Interface)
-        → Becomes old new regions (set old.units n i) → Shows old new n i }
-    ensures instance { (old new : Symbols) (regions : List (List (List ℕ × Entity))) (n : ℕ) (g : Option ℕ) (j : ℕ)
-        → Becomes old new regions (set old.units n (interface.Instance g j)) → old.extent.instances ≤ j
-        → ShowsInstance old new n g j }
+    ensures shown { (old new : Symbols) (n : ℕ) (i : Interface) → ShowsUnit old new n i → Shows old new n i }
+    ensures instance { (old new : Symbols) (n : ℕ) (g : Option ℕ) (j : ℕ)
+        → ShowsUnit old new n (interface.Instance g j) → old.extent.instances ≤ j → ShowsInstance old new n g j }
     ensures unit { (symbols : Symbols) (seen : List (List ℕ × Entity)) → symbols.regions ≡ [] ∷ seen ∷ []
         → StandsInUnit symbols seen }
     ensures text { (symbols : Symbols) (text seen : List (List ℕ × Entity)) → symbols.regions ≡ text ∷ seen ∷ []

@@ -67,7 +67,8 @@ impl Marked {
 
     /// The scalar type or subtype, where a name denotes one.
     fn scalar_of(denoted: &Denoted) -> Option<Marked>
-        ensures { (k : Tables) → option_map (marked_of k) result ≡ option_and_then rules.scalar_only (rules.marked (denotes k denoted.now)) }
+        ensures { (k : Tables) → option_map (marked_of k) result
+            ≡ option_and_then rules.scalar_only (rules.marked (denotes k denoted.now)) }
     {
         match Marked::of(denoted) {
             Some(marked) => marked.scalar(),
