@@ -1,5 +1,5 @@
 -- What leads only to what is there is the same in tables that are alike.
-use Rattle.std.proofs.Common.{◌≡◌, ℕ, ◌<◌, nat_lt, true, false, List, [], ◌∷◌, map, Option, Some, None, option_map, slice_get, unwrap_or, refl, sym, ap, ◌∙◌}
+use Rattle.std.proofs.Common.{◌≡◌, nat_lt, true, false, List, [], ◌∷◌, map, Option, Some, None, option_map, slice_get, unwrap_or, refl, ap}
 use Rattle.std.proofs.lemmas.Bool.{and_parts, ltb-true}
 use Rattle.ada_meaning.specs.Program.{in_mode}
 use Rattle.ada_meaning.specs.Tree as tree
@@ -23,7 +23,7 @@ use Rattle.ada_entities.specs.declared.entity.Entity.TheVariants as entity
 use Rattle.ada_entities.specs.declared.routines.Parameter.{Parameter}
 use Rattle.ada_entities.specs.declared.routines.ResultMark.{ResultMark}
 use Rattle.ada_entities.specs.declared.routines.Routine.{Routine}
-use Rattle.ada_entities.specs.Views.{actuals_of, identity_of, type_of, subtype_of, is_known_owner}
+use Rattle.ada_entities.specs.Views.{identity_of, type_of, subtype_of}
 use Rattle.ada_entities.specs.EntityViews.{Tables, constant_of, values_of, is_variable, variable_of, awaits_body, no_routine, routine_by, awaiting, routine_of, entity_of}
 use Rattle.ada_entities.specs.RoutineViews.{parameter_of, result_of, routine_in}
 use Rattle.ada_entities.proofs.Agreement.{Agree, type_agrees, subtype_agrees}

@@ -12,7 +12,7 @@ use Rattle.ada_entities.specs.declared.entity.Entity.{Entity}
 use Rattle.ada_entities.specs.declared.routines.Routine.{Routine}
 use Rattle.ada_entities.specs.declared.units.Interface.{Interface}
 use Rattle.ada_entities.specs.declared.units.Interface.TheVariants as interface
-use Rattle.ada_entities.specs.Views.{Shape, record_shape, TypeTables, actuals_of, shape_at}
+use Rattle.ada_entities.specs.Views.{record_shape, TypeTables, actuals_of}
 use Rattle.ada_entities.specs.Tables.{shape_of, no_tables, with_shape, with_instance}
 use Rattle.ada_entities.specs.TypeTable.{tables}
 use Rattle.ada_entities.specs.EntityViews.{Tables, no_routine}

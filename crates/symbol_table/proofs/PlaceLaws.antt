@@ -1,5 +1,5 @@
 -- Places that change with the symbol table: what the rules look at a construct in has what it keeps, before and after.
-use Rattle.std.proofs.Common.{◌≡◌, ℕ, ◌<◌, ◌≤◌, nat_eq, Bool, true, false, List, [], ◌∷◌, ◌++◌, length, map, reverse, set, Option, Some, None, slice_get, unwrap_or, if◌then◌else◌, refl, sym, ap, ◌∙◌, subst, arith, Result, Ok, true≢false}
+use Rattle.std.proofs.Common.{◌≡◌, ℕ, ◌<◌, ◌≤◌, nat_eq, Bool, true, false, List, [], ◌∷◌, length, map, reverse, set, Option, Some, None, slice_get, unwrap_or, if◌then◌else◌, refl, sym, ap, ◌∙◌, subst, arith, Ok, true≢false}
 use Rattle.std.proofs.lemmas.Bool.{eqb-true, eq-eqb}
 use Rattle.std.proofs.lemmas.List.{reverse-append, length-reverse, map-set}
 use Rattle.cov_base.specs.declared.failure.Failure.{Failure}
@@ -24,7 +24,7 @@ use Rattle.symbol_table.specs.declared.symbols.Symbols.{Symbols}
 use Rattle.symbol_table.specs.declared.extent.Extent.{Extent}
 use Rattle.symbol_table.specs.Alike.{AreAllAlike, IsKnownRegion}
 use Rattle.symbol_table.specs.SymbolViews.{Begins, IsKnown}
-use Rattle.symbol_table.specs.Sites.{IsAtDepth, IsInText, StandsInText, HoldsUnits, Holds}
+use Rattle.symbol_table.specs.Sites.{IsAtDepth, StandsInText, HoldsUnits, Holds}
 use Rattle.symbol_table.specs.Changes.{Becomes, Grows, ChangesInside, Opens}
 use Rattle.symbol_table.proofs.Fronts.{front_get}
 use Rattle.symbol_table.proofs.RegionChanges.{first, rest}

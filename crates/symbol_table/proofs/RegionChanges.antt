@@ -1,8 +1,7 @@
 -- Regions and units that change, and lead only to what is there as before.
-use Rattle.std.proofs.Common.{◌≡◌, ℕ, zero, suc, true, List, [], ◌∷◌, ◌++◌, map, set, replicate, Option, Some, Result, Ok, refl, sym, ap, ◌∙◌}
+use Rattle.std.proofs.Common.{◌≡◌, ℕ, zero, suc, true, List, [], ◌∷◌, set, replicate, Result, Ok, refl, sym, ap, ◌∙◌}
 use Rattle.std.proofs.lemmas.Bool.{ltb-true}
 use Rattle.std.proofs.lemmas.List.{map-set}
-use Rattle.cov_base.specs.declared.position.Pos.{Pos}
 use Rattle.ada_syntax.specs.declared.name.Identifier.{Identifier}
 use Rattle.ada_rules.specs.Entities as rules
 use Rattle.ada_rules.specs.Entities.{Actual, redefined}
@@ -16,7 +15,7 @@ use Rattle.ada_entities.specs.RegionCode.{declaration, Declares, Redefines, regi
 use Rattle.ada_entities.specs.UnitViews.{interface_of}
 use Rattle.symbol_table.specs.declared.extent.Extent.{Extent}
 use Rattle.symbol_table.specs.Known.{knows_entity, knows_interface}
-use Rattle.symbol_table.specs.Alike.{AreAllAlike, GiveAlike, IsKnownRegion, AreKnownRegions, IsKnownInterface, AreKnownInterfaces}
+use Rattle.symbol_table.specs.Alike.{IsKnownRegion, AreKnownRegions, IsKnownInterface, AreKnownInterfaces}
 use Rattle.symbol_table.specs.Changes.{ShowsKnown}
 use Rattle.symbol_table.proofs.AlikeLaws.{entity_same, routine_same}
 

@@ -11,21 +11,20 @@ use Rattle.ada_rules.specs.Entities.{Standard, Actual, given_type}
 use Rattle.ada_rules.specs.Environment.{Env}
 use Rattle.ada_entities.specs.declared.entity.Entity.{Entity}
 use Rattle.ada_entities.specs.declared.routines.Routine.{Routine}
-use Rattle.ada_entities.specs.declared.units.Interface.{Interface}
-use Rattle.ada_entities.specs.Views.{Shape, record_shape, TypeTables, actuals_of, shape_at}
+use Rattle.ada_entities.specs.Views.{record_shape, TypeTables, actuals_of}
 use Rattle.ada_entities.specs.TypeTable.{tables}
 use Rattle.ada_entities.specs.EntityViews.{Tables, no_routine, region_of}
 use Rattle.ada_entities.specs.RegionCode.{regions_of, in_standard, region_at}
 use Rattle.ada_entities.specs.RoutineViews.{routine_in}
-use Rattle.ada_entities.specs.UnitViews.{interface_of, GiveSame, AreUnits}
+use Rattle.ada_entities.specs.UnitViews.{GiveSame, AreUnits}
 use Rattle.ada_phrases.specs.declared.scope.Scope.{Scope}
 use Rattle.ada_phrases.specs.Scopes.{text_depth, step_of, IsText, StandsIn}
 use Rattle.ada_phrases.specs.declared.scope.Step.{Step}
 use Rattle.symbol_table.specs.declared.extent.Extent.{Extent}
 use Rattle.symbol_table.specs.declared.symbols.Symbols.{Symbols}
-use Rattle.symbol_table.specs.Alike.{AreAlike, AreAllAlike, GiveAlike, AreKnownRoutines, AreKnownRegions}
-use Rattle.symbol_table.specs.SymbolViews.{IsFront, HasFront, Begins, IsKnown}
-use Rattle.symbol_table.specs.Sites.{IsInText, StandsInText, Holds}
+use Rattle.symbol_table.specs.Alike.{AreAlike, AreAllAlike, GiveAlike, AreKnownRoutines}
+use Rattle.symbol_table.specs.SymbolViews.{HasFront, Begins, IsKnown}
+use Rattle.symbol_table.specs.Sites.{StandsInText, Holds}
 use Rattle.symbol_table.specs.Exact.{only_types, exactly, exact}
 use Rattle.symbol_table.proofs.Fronts.{front_get, map_reverse}
 use Rattle.symbol_table.proofs.RoutineTables.{all_with}

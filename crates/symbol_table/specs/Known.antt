@@ -1,5 +1,5 @@
 -- What leads only to what is there, where there are so many types, instances and subprograms.
-use Rattle.std.specs.Prelude.{◌≡◌, nat_lt, Bool, true, ◌&&◌, List, Option, Some, None}
+use Rattle.std.specs.Prelude.{nat_lt, Bool, true, ◌&&◌, List, Option, Some, None}
 use Rattle.std.specs.List.{list_all}
 use Rattle.ada_meaning.specs.Types.{Owner}
 use Rattle.ada_tree.specs.View.{owner_of}

@@ -1,11 +1,10 @@
 -- How places and worlds follow a symbol table that changes.
-use Rattle.std.specs.Prelude.{◌≡◌, ℕ, ◌≤◌, List, [], ◌∷◌, set, Option, None, Some}
+use Rattle.std.specs.Prelude.{◌≡◌, ℕ, List, Option, None, Some}
 use Rattle.ada_rules.specs.Entities.{Actual}
 use Rattle.ada_rules.specs.Environment.{World, instance_interface, Env, entity_of_unit}
 use Rattle.ada_rules.specs.Units.{env_of, in_package, with_interface}
 use Rattle.ada_entities.specs.declared.entity.Entity.{Entity}
 use Rattle.ada_entities.specs.declared.units.Interface.{Interface}
-use Rattle.ada_entities.specs.declared.units.Interface.TheVariants as interface
 use Rattle.ada_entities.specs.Views.{actuals_of}
 use Rattle.ada_entities.specs.EntityViews.{Tables, entity_of, region_of}
 use Rattle.ada_entities.specs.UnitViews.{GiveSame, interface_of}
@@ -14,7 +13,6 @@ use Rattle.ada_phrases.specs.Scopes.{step_of}
 use Rattle.symbol_table.specs.declared.symbols.Symbols.{Symbols}
 use Rattle.symbol_table.specs.SymbolViews.{Begins}
 use Rattle.symbol_table.specs.Sites.{HoldsUnits, Holds}
-use Rattle.symbol_table.specs.Changes.{Becomes}
 
 -- what stood in an environment stands in this one
 abbrev pub Leads : (old new : Symbols) → (Tables → Env → Env) → Type 0

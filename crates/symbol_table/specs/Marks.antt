@@ -1,11 +1,10 @@
 -- Names of types and subtypes, as the checker keeps them.
-use Rattle.std.specs.Prelude.{◌≡◌, Option, option_map, unwrap_or, Result}
+use Rattle.std.specs.Prelude.{option_map, unwrap_or, Result}
 use Rattle.std.specs.Option.{option_and_then}
 use Rattle.cov_base.specs.declared.position.Pos.{Pos}
 use Rattle.cov_base.specs.declared.failure.Failure.{Failure}
 use Rattle.ada_rules.specs.Plan.{ruled, answer_at}
 use Rattle.ada_rules.specs.Environment.{typed_rule, State, given}
-use Rattle.ada_rules.specs.Denoted as names
 use Rattle.ada_rules.specs.Expressions as rules
 use Rattle.ada_rules.specs.Expressions.{any_mark, mark_or_any, scalar_only}
 use Rattle.ada_entities.specs.declared.fault.Refusal.{Refusal}

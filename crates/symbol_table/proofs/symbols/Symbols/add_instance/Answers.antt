@@ -1,6 +1,6 @@
-use Rattle.std.proofs.Common.{◌≡◌, map, refl, sym, ◌∙◌, arith}
+use Rattle.std.proofs.Common.{◌≡◌, map, refl, arith}
 use Rattle.ada_entities.specs.Views.{given_of}
-use Rattle.symbol_table.proofs.ChangeLaws.{instance_grows, instance_found}
+use Rattle.symbol_table.proofs.ChangeLaws.{instance_grows}
 use Rattle.symbol_table.proofs.symbols.Symbols.add_instance.Goals as goal
 
 pub returns-clause-added : goal.returns-clause-added
