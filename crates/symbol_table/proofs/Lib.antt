@@ -7,3 +7,4 @@ pub mod ChangeLaws
 pub mod PlaceLaws
 pub mod MarkLaws
 pub mod Parts
+pub mod WalkLaws

@@ -1,8 +1,10 @@
 //! Laws of symbol tables that change, for the layers above. The functions do nothing: each carries laws
 //! as its contract.
 
-ghost use Rattle.std.specs.Prelude.{◌≡◌, ℕ, ◌≤◌, List, [], ◌∷◌, Option};
-ghost use Rattle.ada_rules.specs.Environment.{Env, with_local, opened};
+ghost use Rattle.std.specs.Prelude.{◌≡◌, ℕ, ◌≤◌, List, [], ◌∷◌, replicate, Option};
+ghost use Rattle.ada_rules.specs.Entities.{whole_standard};
+ghost use Rattle.ada_rules.specs.Environment.{no_interface, World, Env, with_local, opened};
+ghost use Rattle.ada_rules.specs.Statics.{Spans};
 ghost use Rattle.ada_entities.specs.declared.entity.Entity.{Entity};
 ghost use Rattle.ada_entities.specs.declared.units.Interface.{Interface};
 ghost use Rattle.ada_entities.specs.declared.units.Interface.TheVariants as interface;
@@ -10,8 +12,10 @@ ghost use Rattle.ada_entities.specs.EntityViews.{Tables, region_of};
 ghost use Rattle.ada_entities.specs.RegionCode.{innermost};
 ghost use Rattle.ada_phrases.specs.declared.scope.Step.{Step};
 ghost use Rattle.symbol_table.specs.declared.symbols.Symbols.{Symbols};
-ghost use Rattle.symbol_table.specs.Sites.{Holds};
-ghost use Rattle.symbol_table.specs.Changes.{Grows, Opens, ChangesInside, ShowsUnit};
+ghost use Rattle.symbol_table.specs.SymbolViews.{Begins};
+ghost use Rattle.symbol_table.specs.Exact.{exact};
+ghost use Rattle.symbol_table.specs.Sites.{HoldsUnits, Holds};
+ghost use Rattle.symbol_table.specs.Changes.{Grows, Opens, ChangesInside, ShowsUnit, IsFresh};
 ghost use Rattle.symbol_table.specs.Leading.{Leads, Shows, ShowsInstance, StandsInUnit, StandsInPackage};
 
 /// A place follows the symbol table: where it grows, where a region opens, and where the innermost
@@ -35,4 +39,12 @@ pub fn units_follow()
         → StandsInUnit symbols seen }
     ensures text { (symbols : Symbols) (text seen : List (List ℕ × Entity)) → symbols.regions ≡ text ∷ seen ∷ []
         → StandsInPackage symbols text seen }
+{}
+
+/// A walk over the units begins in a world where nothing is seen of them, whatever tables begin with
+/// the fresh symbols; and the tables that it ends with begin with what was declared.
+pub fn walks_begin_and_end()
+    ensures begin { (count : ℕ) (symbols : Symbols) (k : Tables) (w : World) → IsFresh count symbols → Begins symbols k
+        → w.interfaces ≡ replicate count no_interface → w.standard ≡ whole_standard → HoldsUnits symbols k w }
+    ensures end { (symbols : Symbols) (spans : List Spans) → Begins symbols (exact symbols spans) }
 {}

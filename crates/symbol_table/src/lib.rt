@@ -14,7 +14,7 @@ mod marks;
 mod site;
 mod symbols;
 
-pub use laws::{places_follow, units_follow};
+pub use laws::{places_follow, units_follow, walks_begin_and_end};
 pub use marks::Marked;
 pub use site::Site;
 pub use symbols::Symbols;
