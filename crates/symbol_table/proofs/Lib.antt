@@ -8,3 +8,4 @@ pub mod PlaceLaws
 pub mod MarkLaws
 pub mod Parts
 pub mod WalkLaws
+pub mod HideLaws

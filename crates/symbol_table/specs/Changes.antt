@@ -1,11 +1,16 @@
 -- How a symbol table changes: what comes behind, and what opens, closes and changes inside.
-use Rattle.std.specs.Prelude.{◌≡◌, ℕ, List, [], ◌∷◌, map, replicate, set, Some, Option, option_map, slice_get, IfSome}
+use Rattle.std.specs.Prelude.{◌≡◌, ℕ, ◌<◌, List, [], ◌∷◌, length, map, replicate, set, Some, Option, option_map, slice_get, IfSome, Ok}
 use Rattle.std.specs.Borrow.{Bor}
+use Rattle.cov_base.specs.declared.failure.Failure.{Failure}
+use Rattle.cov_base.specs.declared.position.Pos.{Pos}
 use Rattle.ada_syntax.specs.declared.name.Identifier.{Identifier}
+use Rattle.ada_rules.specs.Environment.{hide_all}
 use Rattle.ada_rules.specs.Entities as rules
 use Rattle.ada_entities.specs.declared.composite.Definition.{Definition}
 use Rattle.ada_entities.specs.declared.entity.Entity.{Entity}
+use Rattle.ada_entities.specs.declared.fault.Refusal.{Refusal}
 use Rattle.ada_entities.specs.declared.routines.Routine.{Routine}
+use Rattle.ada_entities.specs.Answers.{Refuses}
 use Rattle.ada_entities.specs.declared.types.ScalarType.{ScalarType}
 use Rattle.ada_entities.specs.declared.units.Interface.{Interface}
 use Rattle.ada_entities.specs.declared.units.Interface.TheVariants as interface
@@ -43,6 +48,19 @@ DeclaresInside old new i x = Declares (innermost old.regions) i x (innermost new
 
 abbrev pub RedefinesInside : (old new : Symbols) → List ℕ → Entity → Type 0
 RedefinesInside old new name x = Redefines (innermost old.regions) name x (innermost new.regions)
+
+-- which hides the names of a list, where a region is open; or refuses one of them
+abbrev pub IsOpen : Symbols → Type 0
+IsOpen symbols = 0 < length symbols.regions
+
+abbrev pub HidesAll : (old new : Symbols) → List Identifier → Type 0
+HidesAll old new is =
+    (k : Tables) (p : Pos)
+    → (hide_all p (region_of k (innermost old.regions)) is).answer ≡ Ok (region_of k (innermost new.regions))
+
+abbrev pub RefusesNames : Symbols → List Identifier → Failure Refusal → Type 0
+RefusesNames symbols is f =
+    (k : Tables) (p : Pos) → Refuses (hide_all p (region_of k (innermost symbols.regions)) is).answer f
 
 -- a region that opens inside the others, and the innermost one that closes
 abbrev pub Opens : (old new : Symbols) → Type 0

@@ -4,7 +4,7 @@ ghost use Rattle.std.specs.Prelude.{◌≡◌, IfOk, IfErr, OnOk};
 ghost use Rattle.ada_rules.specs.Entities.{key};
 ghost use Rattle.ada_entities.specs.RegionCode.{RefusesName, innermost};
 ghost use Rattle.symbol_table.specs.Leading.{IsUnitEntity};
-ghost use Rattle.symbol_table.specs.Changes.{Grows, ChangesInside, DeclaresInside, RedefinesInside, Opens, Closes, ShowsUnit, IsFresh, IsTypeOf, IsInstance, IsSubprogram, IsInOwnText, IsNumbered, ShowsKnown};
+ghost use Rattle.symbol_table.specs.Changes.{Grows, ChangesInside, DeclaresInside, RedefinesInside, IsOpen, HidesAll, RefusesNames, Opens, Closes, ShowsUnit, IsFresh, IsTypeOf, IsInstance, IsSubprogram, IsInOwnText, IsNumbered, ShowsKnown};
 
 use crate::extent::Extent;
 use crate::symbols::Symbols;
@@ -74,6 +74,19 @@ impl Symbols {
         let mut region = self.regions.close(alloc);
         region.declare(alloc, name, entity)?;
         self.regions.open(region)?;
+        Ok(())
+    }
+
+    /// Hides names in the innermost region, as from the start of their declaration on. Where one of them
+    /// is declared there already, the declaration is refused at it (RM 8.3).
+    pub fn hide_all(&mut self, alloc: Global, names: &[Identifier]) -> Result<(), Failure<Refusal>>
+        ensures hidden { OnOk result (HidesAll self.old self.new names.now) }
+        ensures inside { OnOk result (IsOpen self.old → ChangesInside self.old self.new) }
+        ensures refused { IfErr result (RefusesNames self.old names.now) }
+    {
+        for name in names {
+            self.declare(alloc, name, Entity::Hidden)?;
+        }
         Ok(())
     }
 
