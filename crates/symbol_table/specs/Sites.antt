@@ -1,14 +1,14 @@
 -- Where a construct stands, and what the rules look at it in.
-use Rattle.std.specs.Prelude.{◌≡◌, ℕ, ◌<◌, Bool, true, false, List, length, map, Option, Some, None, Result}
+use Rattle.std.specs.Prelude.{◌≡◌, ℕ, ◌<◌, Bool, true, false, List, length, map, Option, Some, None, option_map, Result}
 use Rattle.cov_base.specs.declared.position.Pos.{Pos}
 use Rattle.cov_base.specs.declared.failure.Failure.{Failure}
-use Rattle.ada_rules.specs.Entities.{Actual, whole_standard}
+use Rattle.ada_rules.specs.Entities.{Actual, visible, whole_standard}
 use Rattle.ada_rules.specs.Environment.{World, State, Given, given, Env, regions_of}
 use Rattle.ada_entities.specs.declared.entity.Entity.{Entity}
 use Rattle.ada_entities.specs.declared.fault.Refusal.{Refusal}
 use Rattle.ada_entities.specs.Answers.{Answers}
 use Rattle.ada_entities.specs.Views.{actuals_of}
-use Rattle.ada_entities.specs.EntityViews.{Tables, region_of}
+use Rattle.ada_entities.specs.EntityViews.{Tables, entity_of, region_of}
 use Rattle.ada_entities.specs.RegionCode.{in_standard, region_at}
 use Rattle.ada_entities.specs.UnitViews.{GiveSame, interface_of}
 use Rattle.ada_phrases.specs.declared.decisions.Decisions.{Decisions}
@@ -63,3 +63,8 @@ abbrev pub ComesTo : {A B : Type 0} → (Tables → A → B) → Site → (old n
 ComesTo view site old new answer result =
     (k : Tables) (env : Env) (s : State) → StandsAt site k env
     → Answers (λ x. given (view k x) (counted new s)) (answer env (counted old s)) result
+
+-- what a name denotes there (RM 8.3)
+abbrev pub IsVisibleAt : Site → List ℕ → Option Entity → Type 0
+IsVisibleAt site name x =
+    (k : Tables) (env : Env) → StandsAt site k env → option_map (entity_of k) x ≡ visible name (regions_of env)

@@ -1,6 +1,7 @@
 //! Where a construct stands (Ada RM 2012, 8.1 to 8.3).
 
-ghost use Rattle.std.specs.Prelude.{◌≡◌};
+ghost use Rattle.std.specs.Prelude.{◌≡◌, IfOk};
+ghost use Rattle.ada_rules.specs.Entities.{key};
 ghost use Rattle.ada_rules.specs.Environment.{Env};
 ghost use Rattle.ada_rules.specs.Expressions as rules;
 ghost use Rattle.ada_entities.specs.EntityViews.{Tables};
@@ -8,17 +9,17 @@ ghost use Rattle.ada_judged.specs.JudgedView.{judged_of};
 ghost use Rattle.ada_phrases.specs.Closing.{role_of};
 ghost use Rattle.ada_phrases.specs.DecisionView.{decision_of};
 ghost use Rattle.ada_phrases.specs.DenotedView.{denotes};
-ghost use Rattle.symbol_table.specs.Sites.{ComesTo};
+ghost use Rattle.symbol_table.specs.Sites.{ComesTo, IsVisibleAt};
 ghost use Rattle.symbol_table.specs.Exact.{IsScopeOf};
 
 use crate::symbols::Symbols;
-use ada_entities::Refusal;
+use ada_entities::{Entity, Refusal, key};
 use ada_judged::Judged;
 use ada_phrases::{Decisions, Denoted, Role, Scope, Step, decision, denoted, judged};
-use ada_syntax::{Expr, Name};
+use ada_syntax::{Expr, Identifier, Name};
 use ada_tree::Decision;
 use cov_base::Failure;
-use std::alloc::Global;
+use std::alloc::{AllocError, Global};
 
 /// Where a construct stands: the step, what is declared so far, and the package in whose text it is, by
 /// the number of its unit.
@@ -42,6 +43,18 @@ impl Site<'_> {
             regions: &self.symbols.regions,
             own_package: self.own_package,
         }
+    }
+
+    /// What an identifier denotes (RM 8.3).
+    pub fn visible(
+        &self,
+        alloc: Global,
+        identifier: &Identifier,
+    ) -> Result<Option<Entity>, AllocError>
+        ensures { IfOk result (IsVisibleAt self.now (key identifier.now)) }
+    {
+        let name = key(alloc, identifier)?;
+        Ok(self.symbols.regions.visible(name.as_slice()))
     }
 
     /// An expression (RM 4.4), by itself or as an operand of the decision round it. Refused at the
