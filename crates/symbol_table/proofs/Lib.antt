@@ -1,0 +1,11 @@
+pub mod Fronts
+pub mod AlikeLaws
+pub mod RoutineTables
+pub mod StandingLaws
+pub mod RegionChanges
+pub mod ChangeLaws
+pub mod PlaceLaws
+pub mod MarkLaws
+pub mod Parts
+pub mod WalkLaws
+pub mod HideLaws
