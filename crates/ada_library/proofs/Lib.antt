@@ -7,3 +7,4 @@ pub mod OrderLaws
 pub mod BodyLaws
 pub mod InstanceLaws
 pub mod HeadingLaws
+pub mod SeenLaws

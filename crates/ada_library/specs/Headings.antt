@@ -10,12 +10,22 @@ use Rattle.ada_rules.specs.Entities.{key, same_name}
 use Rattle.ada_rules.specs.Library as rules
 use Rattle.ada_rules.specs.Library.{unit_named, bodies_named, first_number, is_first_name, is_test_io, wants_body, is_declared_well, all_named_in_with}
 use Rattle.ada_entities.specs.declared.fault.Refusal.{Refusal}
-use Rattle.ada_entities.specs.Answers.{Refuses}
+use Rattle.ada_rules.specs.Units.{all_headings}
+use Rattle.ada_entities.specs.Answers.{Refuses, Answers}
 use Rattle.ada_library.specs.declared.library.Library.{Library}
 use Rattle.ada_library.specs.LibraryView.{IsLibrary}
 
 abbrev pub the_same : {A : Type 0} → A → A
 the_same x = x
+
+-- the heading of a unit, and those of all, whichever the rules' library is
+abbrev pub AnswersHeading : Library → List LibraryUnit → ℕ → LibraryUnit → Result (Unit {0}) (Failure Refusal) → Type 0
+AnswersHeading x all n u result =
+    (l : rules.Library) → IsLibrary x all l → Answers the_same (rules.heading l n u).answer result
+
+abbrev pub AnswersHeadings : Library → List LibraryUnit → Result (Unit {0}) (Failure Refusal) → Type 0
+AnswersHeadings x all result =
+    (l : rules.Library) → IsLibrary x all l → Answers the_same (all_headings l 0 all).answer result
 
 -- what comes first passes, and the rest decides; or it is refused, and so is the whole
 abbrev pub PassesOn : {A B : Type 0} → (whole rest : Result A Pos) → Result B (Failure Refusal) → Type 0

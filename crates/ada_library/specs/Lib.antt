@@ -9,3 +9,4 @@ pub mod BodyNumbering
 pub mod InstanceNumbering
 pub mod LibraryView
 pub mod Headings
+pub mod Seeing

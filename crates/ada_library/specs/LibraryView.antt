@@ -1,6 +1,7 @@
 -- What the code's library is of the rules' definitions.
 use Rattle.std.specs.Prelude.{◌≡◌, ℕ, Bool, List, Option}
 use Rattle.ada_syntax.specs.declared.unit.Unit.{Unit as LibraryUnit}
+use Rattle.ada_rules.specs.Entities.{Standard}
 use Rattle.ada_rules.specs.Library as rules
 use Rattle.ada_rules.specs.Library.{unit_named, bodies_named, first_number, all_bodies, instance_number}
 use Rattle.ada_rules.specs.Subprograms.{place_among}
@@ -18,6 +19,10 @@ pub record IsLibrary (x : Library) (all : List LibraryUnit) (l : rules.Library) 
   pub complete : x.dependencies.is_ordered ≡ l.is_ordered
   pub numbered : AreBodies (all_bodies all) x.bodies
   pub instances : AreInstances all x.instances
+
+-- that of these units, whatever names are predefined
+abbrev pub IsLibraryOf : List LibraryUnit → Library → Type 0
+IsLibraryOf all x = (standard : Standard) → IsLibrary x all (rules.library_of standard all)
 
 -- what the library answers, whichever the rules' is
 abbrev pub IsNamed : Library → List ℕ → Option ℕ → Type 0

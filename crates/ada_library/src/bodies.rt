@@ -3,7 +3,7 @@
 ghost use Rattle.std.specs.Prelude.{◌≡◌, [], ◌∷◌, IfOk, OnOk};
 ghost use Rattle.std.specs.Map.{lookup};
 ghost use Rattle.ada_rules.specs.Entities.{key as key_of};
-ghost use Rattle.ada_rules.specs.Library as rules;
+ghost use Rattle.ada_rules.specs.Library.{body_names, bodies_of_item, all_bodies};
 ghost use Rattle.ada_rules.specs.Subprograms.{is_body};
 ghost use Rattle.ada_library.specs.BodyNumbering.{body_named, AddsBodies, AreBodies};
 
@@ -58,7 +58,7 @@ impl BodyNumbers {
         package_name: &Identifier,
         item: &BodyItem,
     ) -> Result<(), AllocError>
-        ensures { OnOk result (AddsBodies self.old (rules.body_names (key_of package_name.now) (item.now ∷ [])) self.new) }
+        ensures { OnOk result (AddsBodies self.old (body_names (key_of package_name.now) (item.now ∷ [])) self.new) }
     {
         match item {
             BodyItem::Body(body) => self.add(alloc, package_name, &body.specification.name),
@@ -73,7 +73,7 @@ impl BodyNumbers {
         package_name: &Identifier,
         items: &[BodyItem],
     ) -> Result<(), AllocError>
-        ensures { OnOk result (AddsBodies self.old (rules.body_names (key_of package_name.now) items.now) self.new) }
+        ensures { OnOk result (AddsBodies self.old (body_names (key_of package_name.now) items.now) self.new) }
     {
         for item in items {
             self.add_item(alloc, package_name, item)?;
@@ -83,7 +83,7 @@ impl BodyNumbers {
 
     /// Counts the bodies of a unit.
     fn add_unit(&mut self, alloc: Global, item: &LibraryItem) -> Result<(), AllocError>
-        ensures { OnOk result (AddsBodies self.old (rules.bodies_of_item item.now) self.new) }
+        ensures { OnOk result (AddsBodies self.old (bodies_of_item item.now) self.new) }
     {
         match item {
             LibraryItem::PackageBody(body) => {
@@ -99,7 +99,7 @@ impl BodyNumbers {
 
     /// The numbers of the bodies of these units.
     pub fn new(alloc: Global, units: &[Unit]) -> Result<BodyNumbers, AllocError>
-        ensures { IfOk result (AreBodies (rules.all_bodies units.now)) }
+        ensures { IfOk result (AreBodies (all_bodies units.now)) }
     {
         let mut bodies = BodyNumbers {
             table: IndexMap::new(alloc),

@@ -3,24 +3,14 @@
 ghost use Rattle.std.specs.Prelude.{◌≡◌, [], ◌∷◌, codes, Some, slice_get, IfOk};
 ghost use Rattle.ada_rules.specs.Entities.{same_name};
 ghost use Rattle.ada_rules.specs.Library as rules;
-ghost use Rattle.ada_rules.specs.Units.{all_headings};
-ghost use Rattle.ada_entities.specs.Answers.{Answers};
-ghost use Rattle.ada_library.specs.LibraryView.{IsLibrary};
-ghost use Rattle.ada_library.specs.Headings.{the_same, MayName, IsKnown, ChecksNames, WantsBody, IsWanted, IsNew, IsDeclaredWell};
+ghost use Rattle.ada_library.specs.Headings.{AnswersHeading, AnswersHeadings, MayName, IsKnown, ChecksNames, WantsBody, IsWanted, IsNew, IsDeclaredWell};
 
-use crate::items::{has_body, is_package_body, item_name, numbered};
+use crate::items::{has_body, is_package_body, is_test_io, item_name, numbered};
 use crate::library::Library;
 use ada_entities::{Refusal, key, refused};
 use ada_syntax::{Identifier, LibraryItem, Unit};
 use cov_base::Failure;
 use std::alloc::{AllocError, Global};
-
-/// Whether a name in lower case is that of the predefined unit of input and output.
-fn is_test_io(name: &[u8]) -> bool
-    ensures { result ≡ same_name name.now (codes "test_io") }
-{
-    name == "test_io".as_bytes()
-}
 
 /// Whether a unit with this number may name another in `with`.
 fn may_name_unit(
@@ -202,7 +192,7 @@ fn heading(
     number: u32,
     unit: &Unit,
 ) -> Result<(), Failure<Refusal>>
-    ensures { (l : rules.Library) → IsLibrary library.now units.now l → Answers the_same (rules.heading l number unit.now).answer result }
+    ensures { AnswersHeading library.now units.now number unit.now result }
 {
     check_clauses(alloc, library, number, unit)?;
     if is_declared_well(alloc, library, units, number, &unit.item)? {
@@ -216,7 +206,7 @@ fn heading(
 /// the one that names it, names are new in the library, and packages have bodies exactly where they
 /// declare subprograms. The first refusal is answered.
 pub fn headings(alloc: Global, library: &Library, units: &[Unit]) -> Result<(), Failure<Refusal>>
-    ensures { (l : rules.Library) → IsLibrary library.now units.now l → Answers the_same (all_headings l 0 units.now).answer result }
+    ensures { AnswersHeadings library.now units.now result }
 {
     for (index, unit) in units.iter().enumerate() {
         heading(alloc, library, units, numbered(index)?, unit)?;

@@ -1,11 +1,19 @@
 //! What units declare (Ada RM 2012, 10.1.1).
 
-ghost use Rattle.std.specs.Prelude.{◌≡◌, [], ◌∷◌, IfOk};
+ghost use Rattle.std.specs.Prelude.{◌≡◌, [], ◌∷◌, codes, IfOk};
+ghost use Rattle.ada_rules.specs.Entities.{same_name};
 ghost use Rattle.ada_rules.specs.Library as rules;
 ghost use Rattle.ada_library.specs.UnitNaming.{IsWanting};
 
 use ada_syntax::{Identifier, LibraryItem, PackageItem};
 use std::alloc::AllocError;
+
+/// Whether a name in lower case is that of the predefined unit of input and output (RM A.1).
+pub fn is_test_io(name: &[u8]) -> bool
+    ensures { result ≡ same_name name.now (codes "test_io") }
+{
+    name == "test_io".as_bytes()
+}
 
 /// The name of a library unit.
 pub fn item_name(item: &LibraryItem) -> &Identifier

@@ -17,6 +17,7 @@ mod names;
 mod ordering;
 mod search;
 mod unit_names;
+mod visible;
 
 pub use bodies::BodyNumbers;
 pub use dependencies::Dependencies;
@@ -27,3 +28,4 @@ pub use library::Library;
 pub use main_unit::has_main;
 pub use names::Names;
 pub use unit_names::UnitNames;
+pub use visible::{seen, seen_in_body};

@@ -1,9 +1,7 @@
 //! The library of a program as far as names go (Ada RM 2012, 10.1).
 
 ghost use Rattle.std.specs.Prelude.{IfOk};
-ghost use Rattle.ada_rules.specs.Entities.{Standard};
-ghost use Rattle.ada_rules.specs.Library as rules;
-ghost use Rattle.ada_library.specs.LibraryView.{IsLibrary, IsNamed, IsFirstBody, IsLeadingBack, IsOrder, IsBodyNumber, IsInstanceNumber};
+ghost use Rattle.ada_library.specs.LibraryView.{IsLibraryOf, IsNamed, IsFirstBody, IsLeadingBack, IsOrder, IsBodyNumber, IsInstanceNumber};
 
 use crate::bodies::BodyNumbers;
 use crate::dependencies::Dependencies;
@@ -24,7 +22,7 @@ pub struct Library {
 impl Library {
     /// The library of these units, whatever names are predefined.
     pub fn new(alloc: Global, units: &[Unit]) -> Result<Library, AllocError>
-        ensures { IfOk result (λ x. (standard : Standard) → IsLibrary x units.now (rules.library_of standard units.now)) }
+        ensures { IfOk result (IsLibraryOf units.now) }
     {
         let names = UnitNames::new(alloc, units)?;
         let dependencies = Dependencies::new(alloc, &names.units, units)?;

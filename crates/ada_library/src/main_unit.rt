@@ -1,7 +1,7 @@
 //! The main unit (Ada RM 2012, 10.2).
 
-ghost use Rattle.std.specs.Prelude.{◌≡◌, ◌&&◌, IfOk};
-ghost use Rattle.ada_rules.specs.Entities.{key as key_of, same_name};
+ghost use Rattle.std.specs.Prelude.{◌≡◌, IfOk};
+ghost use Rattle.ada_syntax.specs.declared.unit.LibraryItem.TheVariants as item;
 ghost use Rattle.ada_rules.specs.Units as rules;
 
 use ada_entities::key;
@@ -17,7 +17,7 @@ fn is_bare(body: &SubprogramBody) -> bool
 
 /// Whether a library subprogram is a procedure without parameters of this name in lower case.
 fn is_bare_named(alloc: Global, name: &[u8], body: &SubprogramBody) -> Result<bool, AllocError>
-    ensures { IfOk result (λ b. b ≡ (rules.is_bare body.now && same_name name.now (key_of body.now.specification.name))) }
+    ensures { IfOk result (λ b. b ≡ rules.is_main name.now (item.Subprogram body.now)) }
 {
     let own = key(alloc, &body.specification.name)?;
     Ok(is_bare(body) && name == own.as_slice())

@@ -22,8 +22,8 @@ pub struct UnitNames {
 impl UnitNames {
     /// Adds a unit by its number.
     fn add(&mut self, alloc: Global, number: u32, item: &LibraryItem) -> Result<(), AllocError>
-        ensures units { OnOk result (Adds self.old.units (rules.with_unit number item.now) self.new.units) }
-        ensures bodies { OnOk result (Adds self.old.package_bodies (with_body number item.now) self.new.package_bodies) }
+        ensures unit { OnOk result (Adds self.old.units (rules.with_unit number item.now) self.new.units) }
+        ensures body { OnOk result (Adds self.old.package_bodies (with_body number item.now) self.new.package_bodies) }
     {
         let name = key(alloc, item_name(item))?;
         match item {
