@@ -8,10 +8,11 @@ use Rattle.ada_syntax.specs.declared.name.Identifier.{Identifier}
 use Rattle.ada_rules.specs.Plan.{ruled, answer_at}
 use Rattle.ada_rules.specs.Entities as rules
 use Rattle.ada_rules.specs.Entities.{Region, key, same_name, redefined}
+use Rattle.ada_rules.specs.Library.{seen_too}
 use Rattle.ada_entities.specs.declared.entity.Entity.{Entity}
 use Rattle.ada_entities.specs.EntityViews.{Tables, entity_of, named, region_of}
 use Rattle.ada_entities.specs.RegionView.{entry_of}
-use Rattle.ada_entities.specs.RegionCode.{declaration, with_entry, Redefines}
+use Rattle.ada_entities.specs.RegionCode.{declaration, with_entry, Sees, Redefines}
 
 -- a look-up in a map is one in what the map is seen as, and that one is the rules'
 pub lookup_entries : (name : List ℕ) (entries : List (Vec ℕ Global × Entity))
@@ -107,3 +108,32 @@ pub put_redefines : {E : Type 0} (name : List ℕ) (x : Entity) (old new : List 
 put_redefines name x old new lower e (Err f) h there = tt
 put_redefines name x old new lower e (Ok u) h there =
     λ k. ap (region_of k) (h ∙ ap (λ n. with_entry n x old) e) ∙ put_there k name x old (there k)
+
+-- a name that is seen too
+before_by : (b : Bool) (e : List ℕ × rules.Entity) (es fs : Region) (o : Option rules.Entity) → (is_none o ≡ false → fs ≡ es)
+    → is_none (cond b (Some e.1) o) ≡ false → (if b then es else fs) ≡ es
+before_by true e es fs o rest h = refl
+before_by false e es fs o rest h = rest h
+
+pub seen_before : (name : List ℕ) (x : rules.Entity) (region : Region) → is_none (rules.entity_of name region) ≡ false → seen_too name x region ≡ region
+seen_before name x [] h = absurd (true≢false h)
+seen_before name x (e ∷ es) h =
+    ap (λ r. e ∷ r) (before_by (same_name name e.0) e es (seen_too name x es) (rules.entity_of name es) (seen_before name x es) h)
+
+behind_by : (b : Bool) (e : List ℕ × rules.Entity) (es fs gs : Region) (o : Option rules.Entity) → (is_none o ≡ true → fs ≡ gs)
+    → is_none (cond b (Some e.1) o) ≡ true → (if b then es else fs) ≡ gs
+behind_by true e es fs gs o rest h = absurd (true≢false (sym h))
+behind_by false e es fs gs o rest h = rest h
+
+seen_behind : (name : List ℕ) (x : rules.Entity) (region : Region) → is_none (rules.entity_of name region) ≡ true → seen_too name x region ≡ region ++ (name, x) ∷ []
+seen_behind name x [] h = refl
+seen_behind name x (e ∷ es) h =
+    ap (λ r. e ∷ r)
+    (behind_by (same_name name e.0) e es (seen_too name x es) (es ++ (name, x) ∷ []) (rules.entity_of name es) (seen_behind name x es) h)
+
+pub seen_last : {E : Type 0} (name : List ℕ) (x : Entity) (old new : List (List ℕ × Entity)) (result : Result (Unit {0}) E)
+    → OnOk result (new ≡ with_entry name x old) → ((k : Tables) → is_none (rules.entity_of name (region_of k old)) ≡ true)
+    → OnOk result (Sees old name x new)
+seen_last name x old new (Err f) h free = tt
+seen_last name x old new (Ok u) h free =
+    λ k. ap (region_of k) h ∙ (put_new k name x old (free k) ∙ sym (seen_behind name (entity_of k x) (region_of k old) (free k)))

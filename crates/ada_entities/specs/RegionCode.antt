@@ -8,6 +8,7 @@ use Rattle.ada_rules.specs.Plan.{rule, construct}
 use Rattle.ada_rules.specs.Entities as rules
 use Rattle.ada_rules.specs.Entities.{same_name}
 use Rattle.ada_rules.specs.Environment.{with_name}
+use Rattle.ada_rules.specs.Library.{seen_too}
 use Rattle.ada_entities.specs.declared.entity.Entity.{Entity}
 use Rattle.ada_entities.specs.declared.fault.Refusal.{Refusal}
 use Rattle.ada_entities.specs.Answers.{Refuses}
@@ -16,6 +17,10 @@ use Rattle.ada_entities.specs.EntityViews.{Tables, entity_of, region_of}
 -- a declaration of a name, which is a construct of its own (RM 8.3)
 abbrev pub declaration : rules.Region → Identifier → rules.Entity → Result rules.Region Pos
 declaration region i x = (construct i.pos (rule (with_name region i x))).answer
+
+-- what is seen too, unless it is there already (RM 10.1.6)
+abbrev pub Sees : (old : List (List ℕ × Entity)) → List ℕ → Entity → (new : List (List ℕ × Entity)) → Type 0
+Sees old name x new = (k : Tables) → region_of k new ≡ seen_too name (entity_of k x) (region_of k old)
 
 abbrev pub Declares : (old : List (List ℕ × Entity)) → Identifier → Entity → (new : List (List ℕ × Entity)) → Type 0
 Declares old i x new = (k : Tables) → declaration (region_of k old) i (entity_of k x) ≡ Ok (region_of k new)

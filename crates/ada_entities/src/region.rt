@@ -3,7 +3,7 @@
 ghost use Rattle.std.specs.Prelude.{◌≡◌, [], option_map, IfOk, IfErr, OnOk};
 ghost use Rattle.ada_rules.specs.Entities as rules;
 ghost use Rattle.ada_entities.specs.EntityViews.{Tables, entity_of, region_of};
-ghost use Rattle.ada_entities.specs.RegionCode.{with_entry, Declares, RefusesName, Redefines};
+ghost use Rattle.ada_entities.specs.RegionCode.{with_entry, Sees, Declares, RefusesName, Redefines};
 
 use crate::entity::Entity;
 use crate::fault::{Refusal, refused};
@@ -60,6 +60,17 @@ impl Region {
     {
         self.table.insert(name, entity)?;
         Ok(())
+    }
+
+    /// Lets a name, in lower case, denote this behind the others, unless the region declares it already
+    /// (RM 10.1.6).
+    pub fn see(&mut self, name: Vec<u8>, entity: Entity) -> Result<(), AllocError>
+        ensures { OnOk result (Sees self.old name.items entity self.new) }
+    {
+        if self.find(name.as_slice()).is_some() {
+            return Ok(());
+        }
+        self.put(name, entity)
     }
 
     /// Adds a declaration behind the others. Where the name is declared already, the declaration is

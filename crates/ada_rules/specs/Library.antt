@@ -14,7 +14,7 @@ use Rattle.ada_syntax.specs.declared.unit.PackageItem.TheVariants as part
 use Rattle.ada_syntax.specs.declared.unit.Unit.{Unit as LibraryUnit}
 use Rattle.ada_syntax.specs.declared.unit.WithClause.{WithClause}
 use Rattle.ada_rules.specs.Plan.{Judgement, ◌>>=◌, rule, construct}
-use Rattle.ada_rules.specs.Entities.{Standard, key, same_name, test_io, Region}
+use Rattle.ada_rules.specs.Entities.{Standard, key, same_name, Entity, test_io, Region}
 use Rattle.ada_rules.specs.Environment.{BodyName, World, entity_of_unit}
 
 abbrev pub item_name : LibraryItem → Identifier
@@ -234,12 +234,20 @@ heading l n u = construct u.pos (do
   names ← all_named_in_with l n u (clause_names u.withs)
   rule (if is_declared_well l n u.item then Some tt else None))
 
--- What a unit sees of the library: itself, and what it names in `with` (RM 10.1.6). Naming a unit twice is good.
+-- What a unit sees of the library: itself, and what it names in `with` (RM 10.1.6). What is seen already stays as it is:
+-- naming a unit twice is good.
+abbrev pub denoted_in_with : World → Library → Identifier → Option Entity
+denoted_in_with w l i =
+    if is_test_io i then Some test_io else option_map (entity_of_unit w) (unit_named l.names (key i))
+
+abbrev pub seen_too : List ℕ → Entity → Region → Region
+seen_too name x [] = (name, x) ∷ []
+seen_too name x (e ∷ es) = e ∷ (if same_name name e.0 then es else seen_too name x es)
+
+abbrev pub with_seen : List ℕ → Option Entity → Region → Region
+with_seen name None region = region
+with_seen name (Some x) region = seen_too name x region
+
 abbrev pub seen_more : World → Library → List Identifier → Region → Region
 seen_more w l [] region = region
-seen_more w l (i ∷ is) region =
-    seen_more w l is (with_seen w (is_test_io i) (unit_named l.names (key i)) (key i) region) where
-      with_seen : World → Bool → Option ℕ → List ℕ → Region → Region
-      with_seen w true o name region = region ++ (name, test_io) ∷ []
-      with_seen w false None name region = region
-      with_seen w false (Some n) name region = region ++ (name, entity_of_unit w n) ∷ []
+seen_more w l (i ∷ is) region = seen_more w l is (with_seen (key i) (denoted_in_with w l i) region)

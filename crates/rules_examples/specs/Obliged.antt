@@ -1,7 +1,9 @@
 -- The obligations of worked sources, entry by entry: of calls that are recursive, of packages, of two instances of one generic, of exceptions and
 -- instances over two files, of arrays and records. The objects of each subprogram are numbered from 0 in the order of the text, and it lists the
 -- subtype of each.
-use Rattle.std.specs.Prelude.{◌≡◌, ℕ, List, [], ◌∷◌, ◌++◌, codes, map, length, Option, Some, None}
+use Rattle.std.specs.Prelude.{◌≡◌, ℕ, nat_eq, Bool, true, List, [], ◌∷◌, ◌++◌, codes, map, length, Option, Some, None}
+use Rattle.std.specs.Cmp.Lexicographic.{pointwise}
+use Rattle.std.specs.List.{list_all}
 use Rattle.cov_base.specs.declared.obligations.StmtEntry.{StmtEntry}
 use Rattle.cov_base.specs.declared.obligations.DecEntry.{DecEntry}
 use Rattle.cov_base.specs.declared.obligations.InstanceEntry.{InstanceEntry}
@@ -43,7 +45,8 @@ abbrev pub obliged : (main : List ℕ) → Option (List LibraryUnit) → Option 
 obliged main None = None
 obliged main (Some units) = obliged_by (rules.checked units main)
 
--- the numbers of the objects of each subprogram, with how many subtypes it lists; and those from 0 on, so many
+-- the numbers of the objects of each subprogram, with how many subtypes it lists; and whether they are those from 0 on, so
+-- many
 abbrev pub objects_by : rules.Checked → List (List ℕ × ℕ)
 objects_by (rules.legal p) = map (λ s. (objects_of s, length s.objects)) p.subprograms
 objects_by refused = []
@@ -52,13 +55,13 @@ abbrev pub objects_in : (main : List ℕ) → Option (List LibraryUnit) → List
 objects_in main None = []
 objects_in main (Some units) = objects_by (rules.checked units main)
 
-abbrev pub from_0 : List (List ℕ × ℕ) → List (List ℕ × ℕ)
-from_0 objects = map (λ x. (numbers 0 x.1, length x.0)) objects
+abbrev pub are_from_0 : List (List ℕ × ℕ) → Bool
+are_from_0 objects = list_all (λ x. pointwise nat_eq (numbers 0 x.1) x.0) objects
 
 -- files whose obligations are these
 pub record Owe (main : List ℕ) (files : List Lines) (o : Obligations) : Type 0 where
   pub shown : obliged main (units_from 0 files) ≡ Some o
-  pub numbered : objects_in main (units_from 0 files) ≡ from_0 (objects_in main (units_from 0 files))
+  pub numbered : are_from_0 (objects_in main (units_from 0 files)) ≡ true
 
 -- a function that calls itself in a decision, and handles what its body raises
 abbrev pub Recursive : Type 0

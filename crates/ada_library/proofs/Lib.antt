@@ -1,0 +1,10 @@
+pub mod Tables
+pub mod NameLaws
+pub mod GraphLaws
+pub mod MarkLaws
+pub mod SearchLaws
+pub mod OrderLaws
+pub mod BodyLaws
+pub mod InstanceLaws
+pub mod HeadingLaws
+pub mod SeenLaws

@@ -1,0 +1,13 @@
+-- What is left decides.
+use Rattle.std.proofs.Common.{◌≡◌, List, ◌++◌, drop}
+use Rattle.ada_syntax.specs.declared.name.Identifier.{Identifier}
+use Rattle.ada_syntax.specs.declared.unit.Unit.{Unit as LibraryUnit}
+use Rattle.ada_rules.specs.Library as rules
+use Rattle.ada_rules.specs.Library.{all_named_in_with}
+use Rattle.ada_library.specs.LibraryView.{IsLibrary}
+use Rattle.ada_library.proofs.heading.check_names.Given as goal
+
+abbrev pub invariant-loop-name : goal.invariant-loop-name
+invariant-loop-name l =
+    (all : List LibraryUnit) (x : rules.Library) (more : List Identifier) → IsLibrary l.library all x
+    → (all_named_in_with x l.number l.unit (l.names ++ more)).answer ≡ (all_named_in_with x l.number l.unit (drop l.name-index l.names ++ more)).answer

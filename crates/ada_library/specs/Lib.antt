@@ -1,0 +1,12 @@
+pub mod NameView
+pub mod NameTable
+pub mod UnitNaming
+pub mod Marking
+pub mod Depending
+pub mod BodyTable
+pub mod BodyView
+pub mod BodyNumbering
+pub mod InstanceNumbering
+pub mod LibraryView
+pub mod Headings
+pub mod Seeing
