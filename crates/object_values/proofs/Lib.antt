@@ -1,1 +1,4 @@
 pub mod ValueLaws
+pub mod Knowing
+pub mod ValueFor
+pub mod NewValueLaws

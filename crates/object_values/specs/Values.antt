@@ -1,24 +1,25 @@
 -- What objects are set to, as the checker makes it (Ada RM 2012, 4.3.3, 5.2).
-use Rattle.std.specs.Prelude.{◌≡◌, [], Option, None, Some, option_map, if◌then◌else◌}
+use Rattle.std.specs.Prelude.{◌≡◌, not, Option, None, Some, option_map, if◌then◌else◌}
 use Rattle.ada_meaning.specs.Tree as tree
 use Rattle.ada_tree.specs.declared.statement.Indices.{Indices}
 use Rattle.ada_tree.specs.declared.statement.NewValue.{NewValue}
 use Rattle.ada_tree.specs.Programs.{unfolded_value}
 use Rattle.ada_tree.specs.View as view
 use Rattle.ada_tree.specs.View.{scalar_range_of, object_of, parts_of, numbered, others_by}
-use Rattle.ada_rules.specs.Types.{AdaSubtype, type_in, range_in, is_scalar, subtype_in_tree}
+use Rattle.ada_rules.specs.Types as types
+use Rattle.ada_rules.specs.Types.{AdaSubtype, type_in, range_in, is_scalar, fits, subtype_in_tree}
 use Rattle.ada_rules.specs.Entities.{Variable}
 use Rattle.ada_rules.specs.Denoted as rules
 use Rattle.ada_rules.specs.Denoted.{expr_of_form}
-use Rattle.ada_rules.specs.Declarations.{value_for}
 use Rattle.ada_entities.specs.declared.types.AdaType.TheVariants as type
 use Rattle.ada_entities.specs.declared.types.Composite.{Composite}
 use Rattle.ada_entities.specs.declared.types.Subtype.{Subtype}
 use Rattle.ada_entities.specs.Views.{TypeTables, subtype_of}
 use Rattle.ada_entities.specs.EntityViews.{Tables}
 use Rattle.ada_judged.specs.declared.judged.Form.{Form}
-use Rattle.ada_judged.specs.declared.judged.Judged.{Judged}
-use Rattle.ada_judged.specs.JudgedView.{form_of, variable_in, judged_of}
+use Rattle.ada_judged.specs.declared.kind.Kind.{Kind}
+use Rattle.ada_judged.specs.Views.{kind_of}
+use Rattle.ada_judged.specs.JudgedView.{form_of, variable_in}
 use Rattle.type_trees.specs.Trees.{shapes_in_tree, IsSubtypeThere}
 use Rattle.object_values.specs.declared.single.Single.{Single}
 use Rattle.object_values.specs.declared.single.Single.TheVariants as single
@@ -59,8 +60,12 @@ IsOfForm t f o =
     (k : Tables) → IsSubtypeThere k.types t
     → option_map (single_in k.types) o ≡ value_of_form (subtype_of k.types t) (form_of f) (variable_in k f)
 
--- what an object of this subtype is set to by an expression, wherever its type is in the table
-abbrev pub IsSingle : Subtype → Judged → Option Single → Type 0
-IsSingle t x o =
+-- what an object of this subtype is set to by an expression of this kind, wherever its type is in the table
+abbrev pub value_where_fits : AdaSubtype → types.Kind → rules.Form → Option Variable → Option tree.NewValue
+value_where_fits t k f v = if not (fits (type_in t) k) then None else value_of_form t f v
+
+abbrev pub IsSingle : Subtype → Kind → Form → Option Single → Type 0
+IsSingle t x f o =
     (k : Tables) → IsSubtypeThere k.types t
-    → option_map (single_in k.types) o ≡ value_for (subtype_of k.types t) [] (judged_of k x)
+    → option_map (single_in k.types) o
+    ≡ value_where_fits (subtype_of k.types t) (kind_of k.types x) (form_of f) (variable_in k f)

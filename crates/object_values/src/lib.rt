@@ -1,8 +1,9 @@
 //! What objects are set to (Ada RM 2012, 3.3.1, 4.3.3, 5.2).
 #![tactic(auto)]
 
+mod initial;
 mod others;
+mod reach;
 mod single;
 
-pub use others::in_others;
-pub use single::{Single, single_value};
+pub use initial::{NewValue, new_value};

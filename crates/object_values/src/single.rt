@@ -4,7 +4,7 @@ ghost use Rattle.std.specs.Prelude.{◌≡◌};
 ghost use Rattle.object_values.specs.Values.{IsSingle, IsComposite, IsOfForm};
 
 use ada_entities::{AdaType, Composite, Subtype};
-use ada_judged::{Form, Judged};
+use ada_judged::{Form, Kind};
 use ada_tree::{Expr, Object, Owner, ScalarRange, Selector};
 
 /// What an object is set to, or a component of one.
@@ -41,12 +41,12 @@ fn of_form(subtype: Subtype, form: Form) -> Option<Single>
     }
 }
 
-/// What an object of this subtype is set to by an expression, where the expression fits it.
-pub fn single_value(subtype: Subtype, value: Judged) -> Option<Single>
-    ensures { IsSingle subtype value result }
+/// What an object of this subtype is set to by an expression of this kind, where it fits.
+pub(crate) fn single_value(subtype: Subtype, kind: Kind, form: Form) -> Option<Single>
+    ensures { IsSingle subtype kind form result }
 {
-    if !value.kind.fits(subtype.of) {
+    if !kind.fits(subtype.of) {
         return None;
     }
-    of_form(subtype, value.form)
+    of_form(subtype, form)
 }

@@ -6,6 +6,7 @@ pub mod RegionChanges
 pub mod ChangeLaws
 pub mod PlaceLaws
 pub mod MarkLaws
+pub mod CompositeLaws
 pub mod Parts
 pub mod WalkLaws
 pub mod HideLaws

@@ -6,3 +6,4 @@ pub mod Exact
 pub mod Changes
 pub mod Leading
 pub mod Marks
+pub mod Composites

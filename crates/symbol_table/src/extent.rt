@@ -31,7 +31,7 @@ impl Extent {
     }
 
     /// Whether a type leads only to what is there.
-    fn knows_type(self, of: AdaType) -> bool
+    pub(crate) fn knows_type(self, of: AdaType) -> bool
         ensures { result ≡ knows_type self of }
     {
         match of {

@@ -8,6 +8,7 @@
 #![tactic(auto)]
 
 mod changes;
+mod composite;
 mod extent;
 mod laws;
 mod marks;

@@ -1,0 +1,126 @@
+//! What an object is set to (Ada RM 2012, 3.3.1, 5.2).
+
+ghost use Rattle.std.specs.Prelude.{◌≡◌, None, IfOk};
+ghost use Rattle.ada_rules.specs.Declarations as rules;
+ghost use Rattle.ada_entities.specs.EntityViews.{Tables};
+ghost use Rattle.object_values.specs.NewValues.{new_value_of, known_for, IsValueFor, IsTypedValue, IsNewValue};
+
+use crate::others::in_others;
+use crate::reach::{indices_of, reached};
+use crate::single::single_value;
+use ada_entities::{Refusal, Subtype, refused};
+use ada_judged::{Form, Judged, Kind, StaticTree};
+use ada_phrases::{Decisions, Role, Step};
+use ada_syntax::Initial;
+use ada_tree::{Expr, NewValue as TreeValue, Range, ScalarRange};
+use cov_base::{Failure, Pos};
+use std::alloc::{AllocError, Global};
+use symbol_table::{Site, Symbols};
+
+/// What an object is set to, and the static value of the expression, where it stands in no `others`.
+#[derive(Drop)]
+pub struct NewValue {
+    pub value: TreeValue,
+    pub known: Option<StaticTree>,
+}
+
+impl NewValue {
+    /// What the step of names goes on with.
+    fn any() -> NewValue
+        ensures { (k : Tables) → new_value_of k result ≡ record { value = rules.any_value; known = None } }
+    {
+        let base = Range {
+            first: i32::MIN,
+            last: i32::MAX,
+        };
+        NewValue {
+            value: TreeValue::Scalar(ScalarRange::Known(base), Expr::literal(0)),
+            known: None,
+        }
+    }
+}
+
+/// The place of the first token.
+fn initial_pos(initial: &Initial) -> Pos
+    ensures { result ≡ rules.initial_pos initial.now }
+{
+    match initial.others.as_slice().first() {
+        Some(pos) => *pos,
+        None => initial.value.pos(),
+    }
+}
+
+/// The static value of an expression, where it stands in no `others`.
+fn known_for(others: &[Pos], known: Option<StaticTree>) -> Option<StaticTree>
+    ensures { result ≡ known_for others.now known }
+{
+    if others.is_empty() { known } else { None }
+}
+
+/// What an object of this subtype is set to by an expression of this kind, with an `others` at each of
+/// these places round it. A type that leads nowhere has no memory.
+fn value_for(
+    alloc: Global,
+    symbols: &Symbols,
+    subtype: Subtype,
+    others: &[Pos],
+    kind: Kind,
+    form: Form,
+) -> Result<Option<TreeValue>, AllocError>
+    ensures { IfOk result (IsValueFor symbols.now subtype others.now kind form) }
+{
+    let Some(reach) = reached(alloc, symbols, subtype, others)? else {
+        return Ok(None);
+    };
+    if !symbols.knows(reach.component.of) {
+        return Err(AllocError);
+    }
+    let indices = indices_of(alloc, reach.indices.as_slice())?;
+    let Some(single) = single_value(reach.component, kind, form) else {
+        return Ok(None);
+    };
+    Ok(Some(in_others(indices, single)))
+}
+
+/// What an object of this subtype is set to by an expression, with an `others` at each of these places
+/// round it, in the step of types. The first token stands at `pos`.
+#[tactic(auto, using(crate::proofs::NewValueLaws::parts))]
+fn typed_value(
+    alloc: Global,
+    symbols: &Symbols,
+    subtype: Subtype,
+    pos: Pos,
+    others: &[Pos],
+    value: Judged,
+) -> Result<NewValue, Failure<Refusal>>
+    ensures { IsTypedValue symbols.now subtype pos others.now value result }
+{
+    let known = known_for(others, value.known);
+    let found = value_for(alloc, symbols, subtype, others, value.kind, value.form)?;
+    let Some(value) = found else {
+        return Err(refused(pos));
+    };
+    Ok(NewValue { value, known })
+}
+
+/// What an object of this subtype is set to (RM 3.3.1, 5.2). Refused at the rules' own place.
+#[tactic(auto, using(crate::proofs::NewValueLaws::parts))]
+pub fn new_value(
+    alloc: Global,
+    site: &Site<'_>,
+    decisions: &mut Decisions,
+    subtype: Subtype,
+    initial: &Initial,
+) -> Result<NewValue, Failure<Refusal>>
+    ensures { IsNewValue site.now decisions.old decisions.new subtype initial.now result }
+{
+    let value = site.judged(alloc, Role::Itself, decisions, &initial.value)?;
+    match site.step {
+        Step::Naming => Ok(NewValue::any()),
+        Step::Typing => {
+            let pos = initial_pos(initial);
+            let others = initial.others.as_slice();
+            typed_value(alloc, site.symbols, subtype, pos, others, value)
+        }
+    }
+}
