@@ -1,5 +1,6 @@
 //! The library of a program: its units by name, what they name in `with` and the order in which they
-//! depend on each other, and the numbers of bodies and of instances (Ada RM 2012, 10.1).
+//! depend on each other, the numbers of bodies and of instances, and what each sees of it (Ada RM 2012,
+//! 10.1).
 //!
 //! The rules stand in ada_rules; `specs/LibraryView.antt` says when a [`Library`] is theirs, and each
 //! function here answers what they do. All of it is worked out once, from the list of units.

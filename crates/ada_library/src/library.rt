@@ -24,10 +24,10 @@ impl Library {
     pub fn new(alloc: Global, units: &[Unit]) -> Result<Library, AllocError>
         ensures { IfOk result (IsLibraryOf units.now) }
     {
+        let instances = InstanceNumbers::new(alloc, units)?;
         let names = UnitNames::new(alloc, units)?;
         let dependencies = Dependencies::new(alloc, &names.units, units)?;
         let bodies = BodyNumbers::new(alloc, units)?;
-        let instances = InstanceNumbers::new(alloc, units)?;
         Ok(Library {
             names,
             dependencies,
