@@ -1,0 +1,10 @@
+mod Passing
+mod Demands
+mod Values
+mod KnownTypes
+mod KnownNames
+mod KnownExpressions
+mod KeptExpressions
+mod Constants
+mod KnownStatics
+mod KnownValues

@@ -1,0 +1,5 @@
+pub mod Demanded
+pub mod Valued
+pub mod Known
+pub mod Kept
+pub mod Served
