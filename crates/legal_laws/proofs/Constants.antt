@@ -7,6 +7,8 @@ use Rattle.cov_base.specs.declared.position.Pos.{Pos}
 use Rattle.cov_base.specs.Lists.{Everywhere}
 use Rattle.ada_meaning.specs.Arithmetic.{base_range, sign_of}
 use Rattle.ada_meaning.specs.Program.{GenericConstant, Program}
+use Rattle.ada_meaning.specs.Shape.{Shape}
+use Rattle.ada_meaning.specs.Tree as tree
 use Rattle.ada_meaning.specs.Statics.{in_base, computed, static_value, values_of, within}
 use Rattle.ada_meaning.specs.Types.{Static, static_number, static_formal, static_constant, static_first, static_last, static_length, static_sign, static_operation, static_of}
 use Rattle.ada_meaning.specs.WellFormed.{IsInBase, HasNumber}
@@ -15,8 +17,8 @@ use Rattle.ada_rules.specs.Environment.{State, Env, demanded}
 use Rattle.ada_rules.specs.Expressions.{entered_constant, value_named, static_known}
 use Rattle.ada_rules.specs.Statics.{Test, Facts, instance_values, value_in, holds}
 use Rattle.legal_laws.specs.Demanded.{IsDemanded}
-use Rattle.legal_laws.specs.Kept.{OnlyDecides}
-use Rattle.legal_laws.specs.Served.{HaveValues, HaveOwnValues, Serves}
+use Rattle.legal_laws.specs.Kept.{OnlyDecides, with_statics, OnlyStatics}
+use Rattle.legal_laws.specs.Served.{HaveValues, HaveOwnValues, AreLimited, Serves, AreShaped, AreListed, IsFinal}
 use Rattle.legal_laws.specs.Valued.{AreFactsInBase, HaveFacts}
 use Rattle.legal_laws.proofs.Values.{value_alike, value_in_base, facts_in_base}
 
@@ -70,21 +72,29 @@ module _ (facts : List Facts) (are : Everywhere AreFactsInBase facts) (inst : �
       ∙ ap (λ o. option_and_then (λ a. option_and_then (computed op a) o) (value_in facts inst e)) (named_alike g f x.next all.1))
   named_alike g (static_of i e) s all = entered_alike g (static_of i e) s all
 
-  -- demands stay as they are where a value is named
-  named_demands : (g : ℕ) (e : Static) (s : State) → (value_named g e s).next.demands ≡ s.demands
-  named_demands g (static_number x) s = refl
-  named_demands g (static_formal k) s = refl
-  named_demands g (static_constant k) s = refl
-  named_demands g (static_first r) s = refl
-  named_demands g (static_last r) s = refl
-  named_demands g (static_length r) s = refl
-  named_demands g (static_sign op e) s = named_demands g e s
-  named_demands g (static_operation op e f) s = named_demands g f (value_named g e s).next ∙ named_demands g e s
-  named_demands g (static_of i e) s = refl
+  -- nothing else changes where a value is named
+  abbrev with_named : State → List GenericConstant → State
+  with_named s cs = record s { constants_declared = cs }
+
+  abbrev OnlyNames : State → State → Type 0
+  OnlyNames s t = t ≡ with_named s t.constants_declared
+
+  named_only : (g : ℕ) (e : Static) (s : State) → OnlyNames s (value_named g e s).next
+  named_only g (static_number x) s = refl
+  named_only g (static_formal k) s = refl
+  named_only g (static_constant k) s = refl
+  named_only g (static_first r) s = refl
+  named_only g (static_last r) s = refl
+  named_only g (static_length r) s = refl
+  named_only g (static_sign op e) s = ap (λ x. with_named x (value_named g (static_sign op e) s).next.constants_declared) (named_only g e s)
+  named_only g (static_operation op e f) s =
+      ap (λ x. with_named x (value_named g (static_operation op e f) s).next.constants_declared) (named_only g f (value_named g e s).next)
+      ∙ ap (λ x. with_named x (value_named g (static_operation op e f) s).next.constants_declared) (named_only g e s)
+  named_only g (static_of i e) s = refl
 
   -- of states in turn
   pub serves_demanded : (o : Option ℕ) (env : Env) (p : Pos) (t : Test) (s : State) → Serves facts inst o (demanded env p t s) → Serves facts inst o s
-  serves_demanded o env p t s all = record { met = λ d h g. all.met d (inr h) g; constants = all.constants }
+  serves_demanded o env p t s all = record { met = λ d h g. all.met d (inr h) g; constants = all.constants; limits = all.limits }
 
   pub demand_met : (o : Option ℕ) (env : Env) (p : Pos) (t : Test) (s : State) → env.generic ≡ o → Serves facts inst o (demanded env p t s)
       → holds facts inst t ≡ true
@@ -94,6 +104,7 @@ module _ (facts : List Facts) (are : Everywhere AreFactsInBase facts) (inst : �
   serves_decided o s t only all = record {
     met = λ d h g. all.met d (subst (IsDemanded d) (sym (ap (λ x. x.demands) only)) h) g;
     constants = subst (HaveOwnValues facts inst o) (ap (λ x. x.constants_declared) only) all.constants;
+    limits = subst (AreLimited facts inst o) (ap (λ x. x.types_declared) only) all.limits;
   }
 
   abbrev in_generic : Env → Option ℕ → Env
@@ -102,8 +113,9 @@ module _ (facts : List Facts) (are : Everywhere AreFactsInBase facts) (inst : �
   known_before : (o : Option ℕ) (env : Env) (e : Static) (s : State) → Serves facts inst o (static_known (in_generic env o) e s).next → Serves facts inst o s
   known_before None env e s all = all
   known_before (Some g) env e s all = record {
-    met = λ d h k. all.met d (subst (IsDemanded d) (sym (named_demands g e s)) h) k;
+    met = λ d h k. all.met d (subst (IsDemanded d) (sym (ap (λ x. x.demands) (named_only g e s))) h) k;
     constants = named_before g e s all.constants;
+    limits = subst (AreLimited facts inst (Some g)) (ap (λ x. x.types_declared) (named_only g e s)) all.limits;
   }
 
   known_number : (p : Program) (o : Option ℕ) (env : Env) (e : Static) (s : State) → HaveFacts p.instances facts → Everywhere AreFactsInBase env.world.instances
@@ -128,3 +140,28 @@ module _ (facts : List Facts) (are : Everywhere AreFactsInBase facts) (inst : �
   static_number_there p o env e s at has world =
       subst (λ x. Serves facts inst o (static_known x e s).next → HasNumber (static_value (values_of p) inst e)
       → HasNumber (static_value (values_of p) inst (static_known x e s).value)) (env_is env o at) (known_number p o env e s has world)
+
+  -- static expressions make demands, and name constants
+  pub decides_statics : (s t : State) → OnlyDecides s t → OnlyStatics s t
+  decides_statics s t h = h ∙ ap (λ x. with_statics s t.decisions t.excesses x.demands x.constants_declared) (sym h)
+
+  names_statics : (s t : State) → OnlyNames s t → OnlyStatics s t
+  names_statics s t h = h ∙ ap (λ x. with_statics s x.decisions x.excesses x.demands t.constants_declared) (sym h)
+
+  pub statics_both : (s t u : State) → OnlyStatics s t → OnlyStatics t u → OnlyStatics s u
+  statics_both s t u h k = k ∙ ap (λ x. with_statics x u.decisions u.excesses u.demands u.constants_declared) h
+
+  known_only : (o : Option ℕ) (env : Env) (e : Static) (s : State) → OnlyStatics s (static_known (in_generic env o) e s).next
+  known_only None env e s = refl
+  known_only (Some g) env e s = names_statics s (value_named g e s).next (named_only g e s)
+
+  pub static_only : (env : Env) (e : Static) (s : State) → OnlyStatics s (static_known env e s).next
+  static_only env e s = known_only env.generic env e s
+
+  pub final_before : (p : Program) (shape_of : tree.Object → Shape) (o : Option ℕ) (s t : State) → OnlyStatics s t
+      → (Serves facts inst o t → Serves facts inst o s) → IsFinal facts inst p shape_of o t → IsFinal facts inst p shape_of o s
+  final_before p shape_of o s t only back all = record {
+    serves = back all.serves;
+    shaped = subst (AreShaped facts inst p shape_of) (ap (λ x. x.words) only) all.shaped;
+    listed = subst (AreListed facts inst p shape_of o) (ap (λ x. x.exceptions_declared) only) all.listed;
+  }

@@ -22,13 +22,13 @@ use Rattle.ada_rules.specs.Environment.{typed_rule, State, Given, given, map_giv
 use Rattle.ada_rules.specs.Denoted.{Judged}
 use Rattle.ada_rules.specs.Expressions.{itself, judged, Valued, any_valued, static_known, accepted, static_part, Marked, mark_part, scalar_mark}
 use Rattle.ada_rules.specs.Declarations.{in_range, ordered, bounded, constrained, constraint_of, indicated, index_between, index_of}
-use Rattle.legal_laws.specs.Kept.{OnlyDecides}
+use Rattle.legal_laws.specs.Kept.{OnlyDecides, OnlyStatics}
 use Rattle.legal_laws.specs.Known.{AreApart, IsOrdered, IsKnownType, IsKnownSubtype, IsKnownKind, IsJudged, IsEnv}
 use Rattle.legal_laws.specs.Served.{Serves}
 use Rattle.legal_laws.specs.Valued.{AreFactsInBase, HaveFacts}
 use Rattle.legal_laws.proofs.Passing.{IfPassed, if_test, answered, part_so, typed_so, both_ok}
 use Rattle.legal_laws.proofs.Values.{value_demanded, order_demanded}
-use Rattle.legal_laws.proofs.Constants.{serves_demanded, demand_met, serves_decided, static_before, static_number_there}
+use Rattle.legal_laws.proofs.Constants.{serves_demanded, demand_met, serves_decided, static_before, static_number_there, decides_statics, statics_both, static_only}
 use Rattle.legal_laws.proofs.KnownTypes.{type_known, IsCommon, common_known}
 use Rattle.legal_laws.proofs.KnownExpressions.{judged_known, mark_part_known, scalar_mark_known}
 use Rattle.legal_laws.proofs.KeptExpressions.{judged_behind, mark_part_behind, scalar_mark_behind}
@@ -50,6 +50,7 @@ module _ (p : Program) (facts : List Facts) (has : HaveFacts p.instances facts) 
   pub record IsStaticPart (s : State) (accepts : Kind → Bool) (g : Given Valued) : Type 0 where
     pub accepted : accepts g.value.kind ≡ true
     pub kind : IsKnownKind p inst declared g.value.kind
+    pub only : OnlyStatics s g.next
     pub before : Final g.next → Final s
     pub number : Final g.next → HasNumber (static_value (values_of p) inst g.value.value)
 
@@ -61,6 +62,8 @@ module _ (p : Program) (facts : List Facts) (has : HaveFacts p.instances facts) 
       if_test (IsStaticPart s accepts) (accepts x.kind) (Some (map_given (λ v. record { value = v; kind = x.kind }) (static_known env e asked))) (λ h. record {
         accepted = h;
         kind = judged.kind;
+        only = statics_both facts are inst s t (static_known env e asked).next (decides_statics facts are inst s t only)
+            (statics_both facts are inst t asked (static_known env e asked).next refl (static_only facts are inst env e asked));
         before = λ all. serves_decided facts are inst env.generic s t only (serves_demanded facts are inst env.generic env q (test e) t (back all));
         number = λ all. static_number_there facts are inst p env.generic env e asked refl has world all
             (numbers e (demand_met facts are inst env.generic env q (test e) t refl (back all)));
@@ -88,6 +91,7 @@ module _ (p : Program) (facts : List Facts) (has : HaveFacts p.instances facts) 
   in_range_numbers r e h = value_demanded p facts has are inst (record { value = e; range = r }) h
 
   pub record IsBounded (s : State) (g : Given Range) : Type 0 where
+    pub only : OnlyStatics s g.next
     pub before : Final g.next → Final s
     pub ordered : Final g.next → IsOrdered p inst declared g.value
 
@@ -101,6 +105,8 @@ module _ (p : Program) (facts : List Facts) (has : HaveFacts p.instances facts) 
       (λ high. rule (Some (ordered env (expr_pos b.low) low.value.value high.value.value high.next)))
       (static_part_known low.next accepts (in_range r) b.high (in_range_numbers r))
       (λ high k. record {
+        only = statics_both facts are inst s low.next (demanded env (expr_pos b.low) (in_order low.value.value high.value.value) high.next) h.only
+            (statics_both facts are inst low.next high.next (demanded env (expr_pos b.low) (in_order low.value.value high.value.value) high.next) k.only refl);
         before = λ all. h.before (k.before (serves_demanded facts are inst env.generic env (expr_pos b.low) (in_order low.value.value high.value.value) high.next all));
         ordered = λ all. order_demanded p facts has are inst low.value.value high.value.value
             (demand_met facts are inst env.generic env (expr_pos b.low) (in_order low.value.value high.value.value) high.next refl all);
@@ -108,19 +114,25 @@ module _ (p : Program) (facts : List Facts) (has : HaveFacts p.instances facts) 
 
   -- subtype indications
   pub record IsIndicated (s : State) (g : Given AdaSubtype) : Type 0 where
+    pub only : OnlyStatics s g.next
     pub before : Final g.next → Final s
     pub subtype : Final g.next → KnownSubtype g.value
 
   constraint_known : (s : State) (m : Given Marked) (o : Option Bounds) → KnownSubtype m.value.subtype → OnlyDecides s m.next
       → IfPassed (constraint_of env m o).outcome (IsIndicated s)
   constraint_known s m None known only =
-      record { before = λ all. serves_decided facts are inst env.generic s m.next only all; subtype = λ all. known }
+      record {
+        only = decides_statics facts are inst s m.next only;
+        before = λ all. serves_decided facts are inst env.generic s m.next only all;
+        subtype = λ all. known;
+      }
   constraint_known s m (Some b) known only =
       part_so (IsBounded m.next) (IsIndicated s) (bounded env m.next (fits (type_in m.value.subtype)) (range_in m.value.subtype) b).answer
       (λ r. typed_rule env.step (given m.value.subtype r.next) (constrained m.value r))
       (bounded_known m.next (fits (type_in m.value.subtype)) (range_in m.value.subtype) b)
       (λ r h. typed_so (IsIndicated s) env.step (given m.value.subtype r.next) (constrained m.value r) is.step
       (if_test (IsIndicated s) (is_scalar (type_in m.value.subtype)) (Some (given (of_type (type_in m.value.subtype) r.value) r.next)) (λ scalar. record {
+        only = statics_both facts are inst s m.next r.next (decides_statics facts are inst s m.next only) h.only;
         before = λ all. serves_decided facts are inst env.generic s m.next only (h.before all);
         subtype = λ all. (h.ordered all, type_known p inst declared apart m.value.subtype known);
       })))
@@ -136,6 +148,7 @@ module _ (p : Program) (facts : List Facts) (has : HaveFacts p.instances facts) 
 
   -- the range of an index
   pub record IsIndex (s : State) (g : Given AdaSubtype) : Type 0 where
+    pub only : OnlyStatics s g.next
     pub before : Final g.next → Final s
     pub subtype : Final g.next → KnownSubtype g.value
     pub scalar : is_scalar (type_in g.value) ≡ true
@@ -156,6 +169,8 @@ module _ (p : Program) (facts : List Facts) (has : HaveFacts p.instances facts) 
       let type = settled_known c all.known (all.both h.accepted k.accepted) in
       let asked = in_order low.value.value high.value.value in
       record {
+        only = statics_both facts are inst s low.next (demanded env q asked high.next) h.only
+            (statics_both facts are inst low.next high.next (demanded env q asked high.next) k.only refl);
         before = λ final. h.before (k.before (serves_demanded facts are inst env.generic env q asked high.next final));
         subtype = λ final. (
           order_demanded p facts has are inst low.value.value high.value.value (demand_met facts are inst env.generic env q asked high.next refl final),
@@ -171,7 +186,12 @@ module _ (p : Program) (facts : List Facts) (has : HaveFacts p.instances facts) 
       (scalar_mark env s n).answer (λ m. rule (Some (given m.value.subtype m.next)))
       (both_ok (λ m. KnownSubtype m.value.subtype × (is_scalar (type_in m.value.subtype) ≡ true)) (λ m. OnlyDecides s m.next) (scalar_mark env s n).answer
       (scalar_mark_known p inst declared apart shape_of Sees env is s n) (scalar_mark_behind env s n))
-      (λ m h. record { before = λ all. serves_decided facts are inst env.generic s m.next h.1 all; subtype = λ all. h.0.0; scalar = h.0.1 }))
+      (λ m h. record {
+        only = decides_statics facts are inst s m.next h.1;
+        before = λ all. serves_decided facts are inst env.generic s m.next h.1 all;
+        subtype = λ all. h.0.0;
+        scalar = h.0.1;
+      }))
   index_known s (discrete.Bounds b) =
       answered (IsIndex s) (expr_pos b.low) _
       (part_so (IsStaticPart s is_discrete) (IsIndex s) (static_part env s is_discrete (in_range base) b.low).answer

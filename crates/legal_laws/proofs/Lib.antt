@@ -8,3 +8,6 @@ mod KeptExpressions
 mod Constants
 mod KnownStatics
 mod KnownValues
+mod Wider
+mod Lengths
+mod KnownRegions

@@ -1,9 +1,10 @@
 -- What holds of the value of an option, of an outcome and of an answer, if there is one.
-use Rattle.std.proofs.Common.{◌≡◌, Bool, true, false, if◌then◌else◌, Option, Some, None, option_map, IfSome, Result, Ok, Err, IfOk, refl}
+use Rattle.std.proofs.Common.{◌≡◌, Bool, true, false, if◌then◌else◌, List, [], ◌∷◌, ◌++◌, Option, Some, None, option_map, IfSome, Result, Ok, Err, IfOk, refl}
 use Rattle.std.specs.Prelude.{◌&&◌, ◌||◌, ◌⊎◌}
 use Rattle.std.proofs.Common.{inl, inr}
 use Rattle.std.specs.Option.{option_and_then, option_or}
 use Rattle.std.proofs.lemmas.Bool.{false≢true}
+use Rattle.cov_base.specs.Lists.{Everywhere}
 use Rattle.cov_base.specs.declared.position.Pos.{Pos}
 use Rattle.ada_rules.specs.Plan.{Plan, Outcome, refused_in, broken, passed, outcome_after, answer_at, ruled}
 use Rattle.ada_rules.specs.Environment.{Step, naming, typing, typed_rule}
@@ -79,3 +80,20 @@ both_ok P Q (Err p) h k = tt
 pub weaker_ok : {A : Type 0} (P Q : A → Type 0) (r : Result A Pos) → IfOk r P → ((x : A) → P x → Q x) → IfOk r Q
 weaker_ok P Q (Ok x) h then_so = then_so x h
 weaker_ok P Q (Err p) h then_so = tt
+
+-- of each item, and of the value of an option
+pub every_so : {X : Type 0} (P Q : X → Type 0) (xs : List X) → ((x : X) → P x → Q x) → Everywhere P xs → Everywhere Q xs
+every_so P Q [] f h = tt
+every_so P Q (x ∷ xs) f h = (f x h.0, every_so P Q xs f h.1)
+
+pub some_so : {X : Type 0} (P Q : X → Type 0) (o : Option X) → ((x : X) → P x → Q x) → IfSome o P → IfSome o Q
+some_so P Q None f h = tt
+some_so P Q (Some x) f h = f x h
+
+pub every_end : {X : Type 0} (P : X → Type 0) (xs : List X) (x : X) → Everywhere P xs → P x → Everywhere P (xs ++ x ∷ [])
+every_end P [] x all h = (h, tt)
+every_end P (y ∷ xs) x all h = (all.0, every_end P xs x all.1 h)
+
+pub every_both : {X : Type 0} (P : X → Type 0) (xs ys : List X) → Everywhere P xs → Everywhere P ys → Everywhere P (xs ++ ys)
+every_both P [] ys h k = k
+every_both P (x ∷ xs) ys h k = (h.0, every_both P xs ys h.1 k)

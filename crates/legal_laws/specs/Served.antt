@@ -1,9 +1,15 @@
--- What the final facts keep of a state of the walk, in an instance of the generic in whose text it stands: its demands are
--- met, and its constants have the values of their expressions.
-use Rattle.std.specs.Prelude.{◌≡◌, ℕ, nat_eq, true, List, [], ◌∷◌, length, Option, Some, None}
-use Rattle.ada_meaning.specs.Program.{GenericConstant}
+-- What the final program and its facts keep of a state of the walk, in an instance of the generic in whose text it stands:
+-- demands are met, constants have the values of their expressions, types keep to their limit, objects have the shapes of
+-- their subtypes, and exceptions are listed.
+use Rattle.std.specs.Prelude.{◌≡◌, ◌≤◌, ◌<◌, ℕ, nat_eq, true, List, [], ◌∷◌, length, Option, Some, None}
+use Rattle.cov_base.specs.Lists.{Everywhere}
+use Rattle.ada_meaning.specs.Program.{GenericConstant, ExceptionDeclaration, Program}
+use Rattle.ada_meaning.specs.Resolved.{shape_in, rank_of}
+use Rattle.ada_meaning.specs.Shape.{Shape}
 use Rattle.ada_meaning.specs.Statics.{constants_of, within}
-use Rattle.ada_rules.specs.Environment.{State}
+use Rattle.ada_meaning.specs.Tree.{Object, local_object}
+use Rattle.ada_rules.specs.Environment.{Words, Declares, State}
+use Rattle.ada_rules.specs.Limits.{words_in, most_words_of_type}
 use Rattle.ada_rules.specs.Statics.{Demand, Facts, constant_in, value_in, bounds_in, holds}
 use Rattle.legal_laws.specs.Demanded.{IsDemanded}
 
@@ -20,6 +26,27 @@ module _ (facts : List Facts) (inst : ℕ) where
   HaveOwnValues None cs = Unit {0}
   HaveOwnValues (Some g) cs = HaveValues g cs
 
+  abbrev pub AreLimited : Option ℕ → List Declares → Type 0
+  AreLimited generic [] = Unit {0}
+  AreLimited generic (d ∷ ds) =
+      (d.generic ≡ generic → Everywhere (λ w. words_in facts inst w.subtype ≤ most_words_of_type) d.words) × AreLimited generic ds
+
   pub record Serves (generic : Option ℕ) (s : State) : Type 0 where
     pub met : (d : Demand) → IsDemanded d s.demands → d.generic ≡ generic → holds facts inst d.test ≡ true
     pub constants : HaveOwnValues generic s.constants_declared
+    pub limits : AreLimited generic s.types_declared
+
+  module _ (p : Program) (shape_of : Object → Shape) where
+    -- objects of a subprogram, the latest first
+    abbrev pub AreShaped : List Words → Type 0
+    AreShaped [] = Unit {0}
+    AreShaped (w ∷ ws) = (shape_of (local_object (length ws)) ≡ shape_in p inst w.subtype) × AreShaped ws
+
+    abbrev pub AreListed : Option ℕ → List ExceptionDeclaration → Type 0
+    AreListed generic [] = Unit {0}
+    AreListed generic (e ∷ es) = (e.generic ≡ generic → rank_of inst e.declaration p.exceptions < length p.exceptions) × AreListed generic es
+
+    pub record IsFinal (generic : Option ℕ) (s : State) : Type 0 where
+      pub serves : Serves generic s
+      pub shaped : AreShaped s.words
+      pub listed : AreListed generic s.exceptions_declared
