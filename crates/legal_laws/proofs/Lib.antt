@@ -11,3 +11,5 @@ mod KnownValues
 mod Wider
 mod Lengths
 mod KnownRegions
+mod Identities
+mod DefinedTypes

@@ -3,3 +3,5 @@ pub mod Valued
 pub mod Known
 pub mod Kept
 pub mod Served
+pub mod Written
+pub mod Standing
