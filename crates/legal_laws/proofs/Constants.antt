@@ -10,10 +10,11 @@ use Rattle.ada_meaning.specs.Program.{GenericConstant, Program}
 use Rattle.ada_meaning.specs.Shape.{Shape}
 use Rattle.ada_meaning.specs.Tree as tree
 use Rattle.ada_meaning.specs.Statics.{in_base, computed, static_value, values_of, within}
-use Rattle.ada_meaning.specs.Types.{Static, static_number, static_formal, static_constant, static_first, static_last, static_length, static_sign, static_operation, static_of}
+use Rattle.ada_meaning.specs.Types.{Static, static_number, static_formal, static_constant, static_first, static_last, static_length, static_sign, static_operation, static_of, Range}
 use Rattle.ada_meaning.specs.WellFormed.{IsInBase, HasNumber}
 use Rattle.ada_rules.specs.Types.{base}
 use Rattle.ada_rules.specs.Environment.{State, Env, demanded}
+use Rattle.ada_rules.specs.Declarations.{numbered}
 use Rattle.ada_rules.specs.Expressions.{entered_constant, value_named, static_known}
 use Rattle.ada_rules.specs.Statics.{Test, Facts, instance_values, value_in, holds}
 use Rattle.legal_laws.specs.Demanded.{IsDemanded}
@@ -164,4 +165,19 @@ module _ (facts : List Facts) (are : Everywhere AreFactsInBase facts) (inst : �
     serves = back all.serves;
     shaped = subst (AreShaped facts inst p shape_of) (ap (λ x. x.words) only) all.shaped;
     listed = subst (AreListed facts inst p shape_of o) (ap (λ x. x.exceptions_declared) only) all.listed;
+  }
+
+  -- a declared constant of a generic is known by its number
+  pub numbered_only : (o : Option ℕ) (r : Range) (e : Static) (f : Option Static) (s : State) → OnlyStatics s (numbered o r e f s).next
+  numbered_only None r e f s = refl
+  numbered_only (Some g) r e f s =
+      names_statics s (numbered (Some g) r e f s).next
+      (ap (λ x. with_named x (numbered (Some g) r e f s).next.constants_declared) (named_only g e s))
+
+  pub numbered_before : (o : Option ℕ) (r : Range) (e : Static) (f : Option Static) (s : State) → Serves facts inst o (numbered o r e f s).next → Serves facts inst o s
+  numbered_before None r e f s all = all
+  numbered_before (Some g) r e f s all = record {
+    met = λ d h k. all.met d (subst (IsDemanded d) (sym (ap (λ x. x.demands) (named_only g e s))) h) k;
+    constants = named_before g e s all.constants.1;
+    limits = subst (AreLimited facts inst (Some g)) (ap (λ x. x.types_declared) (named_only g e s)) all.limits;
   }

@@ -25,7 +25,7 @@ use Rattle.ada_rules.specs.Declarations.{value_for, any_value, initial_pos, know
 use Rattle.ada_rules.specs.Statements.{any_variable, writable, target, Selector, any_selector, selector_of, selector, Turns, any_turns, turns_between, turns_over, turned}
 use Rattle.legal_laws.specs.Kept.{OnlyDecides}
 use Rattle.legal_laws.specs.Known.{AreApart, IsKnownSubtype, IsKnownKind, IsVariable, IsJudged, IsDenoted, IsEnv}
-use Rattle.legal_laws.proofs.Passing.{if_then, if_map, if_test, if_not, answered, part_so, typed_so, both_ok}
+use Rattle.legal_laws.proofs.Passing.{if_then, if_map, if_test, if_not, if_each, answered, part_so, typed_so, both_ok}
 use Rattle.legal_laws.proofs.KnownTypes.{order_bounds, range_known, type_known, type_is, scalar_fits, scalar_shape, same_composite, IsCommon, common_known}
 use Rattle.legal_laws.proofs.KnownNames.{expr_known}
 use Rattle.legal_laws.proofs.KnownExpressions.{denoted_known, judged_known, scalar_mark_known}
@@ -138,19 +138,21 @@ module _ (p : Program) (inst : ℕ) (declared : AdaType → Type 0) (apart : Are
         (judged_known p inst declared apart shape_of Sees env is itself s e) (judged_behind env itself s e)
 
     pub record IsNewValue (s : State) (t : AdaSubtype) (g : Given NewValue) : Type 0 where
-      pub set : IsSet t g.value.value
+      pub set : KnownSubtype t → IsSet t g.value.value
       pub only : OnlyDecides s g.next
 
-    pub new_value_known : (s : State) (t : AdaSubtype) (i : Initial) → KnownSubtype t → IfOk (new_value env s t i).answer (IsNewValue s t)
-    new_value_known s t i known =
+    pub new_value_known : (s : State) (t : AdaSubtype) (i : Initial) → IfOk (new_value env s t i).answer (IsNewValue s t)
+    new_value_known s t i =
         answered (IsNewValue s t) (initial_pos i) _
         (part_so (GivesValue s) (IsNewValue s t) (judged env itself s i.value).answer
         (λ x. typed_rule env.step (given (record { value = any_value; known = None }) x.next)
         (option_map (λ v. given (record { value = v; known = known_of i.others x.value }) x.next) (value_for t i.others x.value)))
         (expression s i.value)
         (λ x h. typed_so (IsNewValue s t) env.step _ _ is.step
-        (if_map (IsSet t) (IsNewValue s t) (λ v. given (record { value = v; known = known_of i.others x.value }) x.next) (value_for t i.others x.value)
-        (value_for_known t i.others x.value known h.0) (λ v k. record { set = k; only = h.1 }))))
+        (if_map (λ v. KnownSubtype t → IsSet t v) (IsNewValue s t) (λ v. given (record { value = v; known = known_of i.others x.value }) x.next)
+        (value_for t i.others x.value)
+        (if_each (λ known v. IsSet t v) (value_for t i.others x.value) (λ known. value_for_known t i.others x.value known h.0))
+        (λ v k. record { set = k; only = h.1 }))))
 
     -- the target of an assignment
     pub record IsTarget (s : State) (g : Given Variable) : Type 0 where

@@ -13,3 +13,5 @@ mod Lengths
 mod KnownRegions
 mod Identities
 mod DefinedTypes
+mod KnownObjects
+mod KnownDeclarations

@@ -97,3 +97,8 @@ every_end P (y ∷ xs) x all h = (all.0, every_end P xs x all.1 h)
 pub every_both : {X : Type 0} (P : X → Type 0) (xs ys : List X) → Everywhere P xs → Everywhere P ys → Everywhere P (xs ++ ys)
 every_both P [] ys h k = k
 every_both P (x ∷ xs) ys h k = (h.0, every_both P xs ys h.1 k)
+
+-- what holds of the value for each of these
+pub if_each : {X Y : Type 0} (P : X → Y → Type 0) (o : Option Y) → ((x : X) → IfSome o (P x)) → IfSome o (λ y. (x : X) → P x y)
+if_each P None h = tt
+if_each P (Some y) h = h
