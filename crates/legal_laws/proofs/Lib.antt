@@ -15,3 +15,4 @@ mod Identities
 mod DefinedTypes
 mod KnownObjects
 mod KnownDeclarations
+mod Leading
