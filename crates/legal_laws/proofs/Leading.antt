@@ -240,7 +240,7 @@ module _ (p : Program) (facts : List Facts) (are : Everywhere AreFactsInBase fac
         (between_leads s (expr_pos b.low) low high (common low.value.kind high.value.kind) (leads_both o s low.next high.next h k)))))
 
     -- what follows a value that a rule on types gives
-    mapped_leads : {A B : Type 0} (s t : State) (f : A → B) (x : Option A) → Leads o s t → IfSome (option_map (λ v. given (f v) t) x) (Lead o s)
+    pub mapped_leads : {A B : Type 0} (s t : State) (f : A → B) (x : Option A) → Leads o s t → IfSome (option_map (λ v. given (f v) t) x) (Lead o s)
     mapped_leads s t f None h = tt
     mapped_leads s t f (Some v) h = h
 

@@ -16,3 +16,4 @@ mod DefinedTypes
 mod KnownObjects
 mod KnownDeclarations
 mod Leading
+mod LeadingStatements
