@@ -27,7 +27,7 @@ use Rattle.legal_laws.specs.Served.{Serves, AreListed, IsFinal}
 use Rattle.legal_laws.specs.Standing.{with_type, with_types, AreOlder, Stands}
 use Rattle.legal_laws.specs.Valued.{AreFactsInBase, HaveFacts}
 use Rattle.legal_laws.specs.Written.{IsWritten, AreWritten}
-use Rattle.legal_laws.proofs.Passing.{IfPassed, answered, part_so, typed_so, if_map}
+use Rattle.legal_laws.proofs.Passing.{IfPassed, answered, part_so, typed_so, if_map, both_ok, each_ok}
 use Rattle.legal_laws.proofs.Constants.{serves_decided, decides_statics, statics_both, final_before}
 use Rattle.legal_laws.proofs.DefinedTypes.{IsDefined, defined_known}
 use Rattle.legal_laws.proofs.Identities.{apart_with, older_with, types_joined}
@@ -36,6 +36,7 @@ use Rattle.legal_laws.proofs.KnownRegions.{hidden_known, all_hidden_known, redef
 use Rattle.legal_laws.proofs.KnownRegions as regions
 use Rattle.legal_laws.proofs.KnownStatics.{IsIndicated, indicated_known}
 use Rattle.legal_laws.proofs.KnownValues.{IsSet, IsNewValue, new_value_known}
+use Rattle.legal_laws.proofs.Leading.{Leads, declaration_leads, declarations_lead}
 use Rattle.legal_laws.proofs.Wider.{env_wider, region_wider}
 
 pub behind_joined : (Sees : tree.Object → Type 0) (ds es : List tree.Declaration) → behind_all Sees (ds ++ es) ≡ behind_all (behind_all Sees ds) es
@@ -269,12 +270,7 @@ module _ (p : Program) (facts : List Facts) (has : HaveFacts p.instances facts) 
           };
         }
 
-    -- exceptions
-    raised_there : (n : ℕ) → rank_of inst n p.exceptions < length p.exceptions → IsException p inst shape_of (tree.declared (owner_of env) n)
-    raised_there n less =
-        subst (λ i. (1 ≤ 5 + rank_of i n p.exceptions) × (5 + rank_of i n p.exceptions ≤ 4 + length p.exceptions))
-        (sym (own_instance inst env.generic st.alone)) (omega (arith), omega (arith, less))
-
+  -- exceptions
   module _ (types : AdaType → Type 0) (Sees : tree.Object → Type 0) (env : Env) (alone : env.generic ≡ None → inst ≡ 0) where
     abbrev Raised : State → Region → List Identifier → Declared
     Raised s region is = exceptions_from env s region is
@@ -419,3 +415,68 @@ module _ (p : Program) (facts : List Facts) (has : HaveFacts p.instances facts) 
 
     pub declaration_known : (d : Declaration) → IsWritten d.kind → IfOk (declared env s d).answer (AreMade types Sees env s)
     declaration_known d written = answered (AreMade types Sees env s) d.pos (kind_declared env s d.pos d.kind).outcome (kind_known d.pos d.kind written)
+
+  -- declarations in order
+  pub record AreAllMade (types : AdaType → Type 0) (Sees : tree.Object → Type 0) (env : Env) (x : Declared) : Type 0 where
+    pub new : List AdaType
+    pub made : AreDeclarations p inst shape_of Sees x.made
+    pub stands : Standing (with_types types new) (behind_all Sees x.made) (with_local env x.region) x.next
+
+  own_twice : (b : Bool) (r s own : Region) → (if b then s else (if b then r else own)) ≡ (if b then s else own)
+  own_twice true r s own = refl
+  own_twice false r s own = refl
+
+  local_twice : (env : Env) (r s : Region) → with_local (with_local env r) s ≡ with_local env s
+  local_twice env r s = ap (λ own. record env { local = s; own = own }) (own_twice env.is_library r s env.own)
+
+  abbrev Rest : (AdaType → Type 0) → (tree.Object → Type 0) → Env → Declared → Type 0
+  Rest types Sees env x = Final env.generic x.next → AreAllMade types Sees env x
+
+  all_joined : (types : AdaType → Type 0) (Sees : tree.Object → Type 0) (env : Env) (s : State) (x xs : Declared) (h : AreMade types Sees env s x)
+      → Final env.generic x.next → Final env.generic xs.next
+      → AreAllMade (with_types types h.new) (behind_all Sees x.made) (with_local env x.region) xs
+      → AreAllMade types Sees env (record { region = xs.region; next = xs.next; made = x.made ++ xs.made })
+  all_joined types Sees env s x xs h first all rest = record {
+    new = h.new ++ rest.new;
+    made = declarations_joined Sees x.made xs.made (h.made first) rest.made;
+    stands = subst (λ D. Standing D (behind_all Sees (x.made ++ xs.made)) (with_local env xs.region) xs.next) (sym (types_joined types h.new rest.new))
+        (subst (λ S. Standing (with_types (with_types types h.new) rest.new) S (with_local env xs.region) xs.next) (sym (behind_joined Sees x.made xs.made))
+        (subst (λ e. Standing (with_types (with_types types h.new) rest.new) (behind_all (behind_all Sees x.made) xs.made) e xs.next)
+        (local_twice env x.region xs.region) rest.stands));
+  }
+
+  pub declarations_known : (types : AdaType → Type 0) (Sees : tree.Object → Type 0) (env : Env) (s : State) (q : Pos) (ds : List Declaration)
+      → Standing types Sees env s → AreWritten ds → IfOk (all_declared env s q ds).answer (Rest types Sees env)
+  declarations_known types Sees env s q [] st written =
+      λ all. record { new = []; made = tt; stands = stands_local types Sees env s env.local st st.place.regions.0 }
+  declarations_known types Sees env s q (d ∷ ds) st written =
+      answered (Rest types Sees env) q _
+      (part_so (λ x. AreMade types Sees env s x × Leads p facts are inst shape_of env.generic s x.next) (Rest types Sees env) (declared env s d).answer
+      (λ x. all_declared (with_local env x.region) x.next q ds >>= (λ xs. rule (Some (record { region = xs.region; next = xs.next; made = x.made ++ xs.made }))))
+      (both_ok (AreMade types Sees env s) (λ x. Leads p facts are inst shape_of env.generic s x.next) (declared env s d).answer
+      (declaration_known types Sees env s st d written.0) (declaration_leads p facts are inst shape_of env s d))
+      (λ x h. part_so
+      (λ xs. Leads p facts are inst shape_of env.generic x.next xs.next
+      × ((f : Final env.generic x.next) → Rest (with_types types h.0.new) (behind_all Sees x.made) (with_local env x.region) xs))
+      (Rest types Sees env) (all_declared (with_local env x.region) x.next q ds).answer
+      (λ xs. rule (Some (record { region = xs.region; next = xs.next; made = x.made ++ xs.made })))
+      (both_ok (λ xs. Leads p facts are inst shape_of env.generic x.next xs.next)
+      (λ xs. (f : Final env.generic x.next) → Rest (with_types types h.0.new) (behind_all Sees x.made) (with_local env x.region) xs)
+      (all_declared (with_local env x.region) x.next q ds).answer (declarations_lead p facts are inst shape_of (with_local env x.region) x.next q ds)
+      (each_ok (λ (f : Final env.generic x.next) xs. Rest (with_types types h.0.new) (behind_all Sees x.made) (with_local env x.region) xs)
+      (all_declared (with_local env x.region) x.next q ds).answer
+      (λ f. declarations_known (with_types types h.0.new) (behind_all Sees x.made) (with_local env x.region) x.next q ds (h.0.stands f) written.1)))
+      (λ xs k all. let first = k.0.back (h.1.counted st.counted) all in all_joined types Sees env s x xs h.0 first all (k.1 first all))))
+
+  -- a later state
+  pub stands_led : (types : AdaType → Type 0) (Sees : tree.Object → Type 0) (env : Env) (o : Option ℕ) (s t : State) → Standing types Sees env s
+      → Leads p facts are inst shape_of o s t → Standing types Sees env t
+  stands_led types Sees env o s t st go = record {
+    place = st.place;
+    world = st.world;
+    apart = st.apart;
+    older = λ u n h e. let few = st.older u n h e in let rise = go.rise in omega (arith, few, rise);
+    counted = go.counted st.counted;
+    alone = st.alone;
+    inside = st.inside;
+  }

@@ -102,3 +102,7 @@ every_both P (x ∷ xs) ys h k = (h.0, every_both P xs ys h.1 k)
 pub if_each : {X Y : Type 0} (P : X → Y → Type 0) (o : Option Y) → ((x : X) → IfSome o (P x)) → IfSome o (λ y. (x : X) → P x y)
 if_each P None h = tt
 if_each P (Some y) h = h
+
+pub each_ok : {X A : Type 0} (P : X → A → Type 0) (r : Result A Pos) → ((x : X) → IfOk r (P x)) → IfOk r (λ a. (x : X) → P x a)
+each_ok P (Ok a) h = h
+each_ok P (Err p) h = tt

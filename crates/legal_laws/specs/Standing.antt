@@ -1,13 +1,13 @@
 -- A construct of a subprogram, where it stands: all that it may name is known, identities of types and numbers of objects are
 -- still to be given, and in no generic there is one instance.
-use Rattle.std.specs.Prelude.{◌≡◌, ◌⊎◌, ◌<◌, ℕ, false, List, [], ◌∷◌, length, Option, None}
+use Rattle.std.specs.Prelude.{◌≡◌, ◌⊎◌, ◌<◌, ℕ, Bool, true, false, List, [], ◌∷◌, length, Option, None}
 use Rattle.cov_base.specs.Lists.{Everywhere}
 use Rattle.ada_meaning.specs.Program.{Program}
 use Rattle.ada_meaning.specs.Shape.{Shape}
 use Rattle.ada_meaning.specs.Tree.{Object}
-use Rattle.ada_rules.specs.Environment.{State, Env, owner_of}
-use Rattle.ada_rules.specs.Types.{declared_in, AdaType, identity_of}
-use Rattle.legal_laws.specs.Known.{AreApart, IsEnv}
+use Rattle.ada_rules.specs.Environment.{Returning, no_result, result_of, State, Env, owner_of}
+use Rattle.ada_rules.specs.Types.{declared_in, AdaType, identity_of, type_in, is_scalar}
+use Rattle.legal_laws.specs.Known.{AreApart, IsKnownSubtype, IsEnv}
 use Rattle.legal_laws.specs.Valued.{AreFactsInBase}
 
 -- with one type more, and with several
@@ -32,3 +32,9 @@ pub record Stands (p : Program) (inst : ℕ) (shape_of : Object → Shape) (decl
   pub counted : s.objects ≡ length s.words
   pub alone : env.generic ≡ None → inst ≡ 0
   pub inside : env.is_library ≡ false
+
+-- what `return` gives: a procedure nothing, a function a value of a scalar subtype (RM 6.5)
+abbrev pub ReturnsAs : Program → (inst : ℕ) → (AdaType → Type 0) → (function : Bool) → Returning → Type 0
+ReturnsAs p inst declared function no_result = function ≡ false
+ReturnsAs p inst declared function (result_of t) =
+    (function ≡ true) × ((is_scalar (type_in t) ≡ true) × IsKnownSubtype p inst declared t)
