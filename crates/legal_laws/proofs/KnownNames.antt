@@ -19,7 +19,7 @@ use Rattle.legal_laws.specs.Known.{AreApart, IsOrdered, IsKnownType, IsKnownSubt
 use Rattle.legal_laws.proofs.Passing.{both_true, if_then, if_map, if_test, if_not, if_either, if_or}
 use Rattle.legal_laws.proofs.KnownTypes.{order_bounds, low_there, high_there, range_known, type_known, type_is, scalar_fits, converted_discrete, scalar_shape, same_composite, IsFieldAt, field_known}
 
-no_parameters : (p : Program) (inst : ℕ) (declared : AdaType → Type 0) (qs : List ResolvedParameter) (rs : List Parameter)
+pub no_parameters : (p : Program) (inst : ℕ) (declared : AdaType → Type 0) (qs : List ResolvedParameter) (rs : List Parameter)
     → AreParameters p inst declared qs rs → nat_eq (length rs) 0 ≡ true → qs ≡ []
 no_parameters p inst declared [] rs are none = refl
 no_parameters p inst declared (q ∷ qs) [] are none = absurd are

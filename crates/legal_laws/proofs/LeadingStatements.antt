@@ -123,7 +123,7 @@ module _ (p : Program) (facts : List Facts) (are : Everywhere AreFactsInBase fac
         (leads_demanded p facts are inst shape_of o env (expr_pos b.low) (in_order low.value.value high.value.value) high.next)))))
     chosen_leads s x (choice.Others q) = leads_same p facts are inst shape_of o s
 
-    all_chosen_lead : (s : State) (x : Selector) (q : Pos) (cs : List Choice) → IfOk (all_chosen env s x q cs).answer (Ahead o s)
+    pub all_chosen_lead : (s : State) (x : Selector) (q : Pos) (cs : List Choice) → IfOk (all_chosen env s x q cs).answer (Ahead o s)
     all_chosen_lead s x q [] = leads_same p facts are inst shape_of o s
     all_chosen_lead s x q (c ∷ cs) =
         answered (Ahead o s) q _
@@ -148,7 +148,7 @@ module _ (p : Program) (facts : List Facts) (are : Everywhere AreFactsInBase fac
         (typed_either (Ahead o s) env.step (given tree.other_exceptions s) (where_allowed b (given tree.other_exceptions s)) (leads_same p facts are inst shape_of o s)
         (allowed_leads s b (given tree.other_exceptions s) (leads_same p facts are inst shape_of o s)))
 
-    all_caught_lead : (s : State) (b : Bool) (q : Pos) (cs : List ExceptionChoice) → IfOk (all_caught env s b q cs).answer (Ahead o s)
+    pub all_caught_lead : (s : State) (b : Bool) (q : Pos) (cs : List ExceptionChoice) → IfOk (all_caught env s b q cs).answer (Ahead o s)
     all_caught_lead s b q [] = leads_same p facts are inst shape_of o s
     all_caught_lead s b q (c ∷ cs) =
         answered (Ahead o s) q _

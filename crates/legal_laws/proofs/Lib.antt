@@ -17,3 +17,5 @@ mod KnownObjects
 mod KnownDeclarations
 mod Leading
 mod LeadingStatements
+mod KnownCalls
+mod KnownStatements
