@@ -19,3 +19,4 @@ mod Leading
 mod LeadingStatements
 mod KnownCalls
 mod KnownStatements
+mod Giving
