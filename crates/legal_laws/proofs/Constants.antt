@@ -21,6 +21,7 @@ use Rattle.legal_laws.specs.Demanded.{IsDemanded}
 use Rattle.legal_laws.specs.Kept.{OnlyDecides, with_statics, OnlyStatics}
 use Rattle.legal_laws.specs.Served.{HaveValues, HaveOwnValues, AreLimited, Serves, AreShaped, AreListed, IsFinal}
 use Rattle.legal_laws.specs.Valued.{AreFactsInBase, HaveFacts}
+use Rattle.legal_laws.proofs.KeptStatics.{with_named, OnlyNames, named_only, decides_statics}
 use Rattle.legal_laws.proofs.Values.{value_alike, value_in_base, facts_in_base}
 
 within_base : (o : Option ℤ) → IfSome o IsInBase → within o (Some base_range) ≡ o
@@ -73,26 +74,6 @@ module _ (facts : List Facts) (are : Everywhere AreFactsInBase facts) (inst : �
       ∙ ap (λ o. option_and_then (λ a. option_and_then (computed op a) o) (value_in facts inst e)) (named_alike g f x.next all.1))
   named_alike g (static_of i e) s all = entered_alike g (static_of i e) s all
 
-  -- nothing else changes where a value is named
-  abbrev with_named : State → List GenericConstant → State
-  with_named s cs = record s { constants_declared = cs }
-
-  abbrev OnlyNames : State → State → Type 0
-  OnlyNames s t = t ≡ with_named s t.constants_declared
-
-  named_only : (g : ℕ) (e : Static) (s : State) → OnlyNames s (value_named g e s).next
-  named_only g (static_number x) s = refl
-  named_only g (static_formal k) s = refl
-  named_only g (static_constant k) s = refl
-  named_only g (static_first r) s = refl
-  named_only g (static_last r) s = refl
-  named_only g (static_length r) s = refl
-  named_only g (static_sign op e) s = ap (λ x. with_named x (value_named g (static_sign op e) s).next.constants_declared) (named_only g e s)
-  named_only g (static_operation op e f) s =
-      ap (λ x. with_named x (value_named g (static_operation op e f) s).next.constants_declared) (named_only g f (value_named g e s).next)
-      ∙ ap (λ x. with_named x (value_named g (static_operation op e f) s).next.constants_declared) (named_only g e s)
-  named_only g (static_of i e) s = refl
-
   -- of states in turn
   pub serves_demanded : (o : Option ℕ) (env : Env) (p : Pos) (t : Test) (s : State) → Serves facts inst o (demanded env p t s) → Serves facts inst o s
   serves_demanded o env p t s all = record { met = λ d h g. all.met d (inr h) g; constants = all.constants; limits = all.limits }
@@ -142,23 +123,6 @@ module _ (facts : List Facts) (are : Everywhere AreFactsInBase facts) (inst : �
       subst (λ x. Serves facts inst o (static_known x e s).next → HasNumber (static_value (values_of p) inst e)
       → HasNumber (static_value (values_of p) inst (static_known x e s).value)) (env_is env o at) (known_number p o env e s has world)
 
-  -- static expressions make demands, and name constants
-  pub decides_statics : (s t : State) → OnlyDecides s t → OnlyStatics s t
-  decides_statics s t h = h ∙ ap (λ x. with_statics s t.decisions t.excesses x.demands x.constants_declared) (sym h)
-
-  names_statics : (s t : State) → OnlyNames s t → OnlyStatics s t
-  names_statics s t h = h ∙ ap (λ x. with_statics s x.decisions x.excesses x.demands t.constants_declared) (sym h)
-
-  pub statics_both : (s t u : State) → OnlyStatics s t → OnlyStatics t u → OnlyStatics s u
-  statics_both s t u h k = k ∙ ap (λ x. with_statics x u.decisions u.excesses u.demands u.constants_declared) h
-
-  known_only : (o : Option ℕ) (env : Env) (e : Static) (s : State) → OnlyStatics s (static_known (in_generic env o) e s).next
-  known_only None env e s = refl
-  known_only (Some g) env e s = names_statics s (value_named g e s).next (named_only g e s)
-
-  pub static_only : (env : Env) (e : Static) (s : State) → OnlyStatics s (static_known env e s).next
-  static_only env e s = known_only env.generic env e s
-
   pub final_before : (p : Program) (shape_of : tree.Object → Shape) (o : Option ℕ) (s t : State) → OnlyStatics s t
       → (Serves facts inst o t → Serves facts inst o s) → IsFinal facts inst p shape_of o t → IsFinal facts inst p shape_of o s
   final_before p shape_of o s t only back all = record {
@@ -168,12 +132,6 @@ module _ (facts : List Facts) (are : Everywhere AreFactsInBase facts) (inst : �
   }
 
   -- a declared constant of a generic is known by its number
-  pub numbered_only : (o : Option ℕ) (r : Range) (e : Static) (f : Option Static) (s : State) → OnlyStatics s (numbered o r e f s).next
-  numbered_only None r e f s = refl
-  numbered_only (Some g) r e f s =
-      names_statics s (numbered (Some g) r e f s).next
-      (ap (λ x. with_named x (numbered (Some g) r e f s).next.constants_declared) (named_only g e s))
-
   pub numbered_before : (o : Option ℕ) (r : Range) (e : Static) (f : Option Static) (s : State) → Serves facts inst o (numbered o r e f s).next → Serves facts inst o s
   numbered_before None r e f s all = all
   numbered_before (Some g) r e f s all = record {

@@ -30,7 +30,7 @@ use Rattle.legal_laws.specs.Standing.{with_type}
 use Rattle.legal_laws.specs.Valued.{AreOrdered, AreFactsInBase, HaveFacts}
 use Rattle.legal_laws.specs.Written.{most_literals, AreComponents, IsDefinition}
 use Rattle.legal_laws.proofs.Passing.{answered, part_so}
-use Rattle.legal_laws.proofs.Constants.{statics_both}
+use Rattle.legal_laws.proofs.KeptStatics.{statics_both}
 use Rattle.legal_laws.proofs.KnownRegions.{all_hidden_known, redefined_known, local_known, opened_known}
 use Rattle.legal_laws.proofs.KnownStatics.{IsBounded, bounded_known, IsIndicated, indicated_known, IsIndex, index_known}
 use Rattle.legal_laws.proofs.Lengths.{length_there}
@@ -102,7 +102,7 @@ module _ (p : Program) (facts : List Facts) (has : HaveFacts p.instances facts) 
       (fields_known (with_local env (all_as component names c.names)) t.next q cs
       (local_known p inst declared shape_of Sees env (all_as component names c.names) is (all_as_known component names c.names tt h)) world)
       (λ fs l. record {
-        only = statics_both facts are inst s t.next fs.next k.only l.only;
+        only = statics_both s t.next fs.next k.only l.only;
         before = λ all. k.before (l.before all);
         fields = λ all. with_fields_known c.names t.value fs.value (k.subtype (l.before all)) (l.fields all);
         filled = λ some. named_fields c.names t.value fs.value some;
@@ -172,7 +172,7 @@ module _ (p : Program) (facts : List Facts) (has : HaveFacts p.instances facts) 
         (λ t. rule (Some (unchanged env.local (of_type (array_type i x.value t.value) base) t.next)))
         (indicated_known p facts has are inst declared apart shape_of Sees env is world x.next c)
         (λ t k. record {
-          only = statics_both facts are inst s x.next t.next h.only k.only;
+          only = statics_both s x.next t.next h.only k.only;
           before = λ all. h.before (k.before all);
           identity = refl;
           known = λ all small. (

@@ -16,7 +16,7 @@ use Rattle.ada_rules.specs.Expressions.{itself, denoted, judged, decision}
 use Rattle.ada_rules.specs.Declarations.{new_value, all_declared}
 use Rattle.ada_rules.specs.Statements.{stmts_of, one, target, call_of, Chosen, branches_of, Selector, selector, all_chosen, Arm, alternatives_of, ends_with_others, case_of, turned, loop_parameter, one_object_more, is_reverse, returned, returned_value, exception_of, where_allowed, all_caught, is_last, declarations_in, Frame, block_of, typed_stmt, stated, all_stated, branched, all_arms, all_handlers, all_handled, has_return, any_return, branches_return, arms_return, handlers_return, frame_returns}
 use Rattle.legal_laws.proofs.Passing.{IfPassed, if_map, if_test, answered, part_so, typed_so}
-use Rattle.legal_laws.proofs.Leading.{any_answer}
+use Rattle.legal_laws.proofs.Passing.{any_answer}
 
 -- whether `return` has a value
 abbrev pub returns_value : Returning → Bool

@@ -28,7 +28,8 @@ use Rattle.legal_laws.specs.Standing.{with_type, with_types, AreOlder, Stands}
 use Rattle.legal_laws.specs.Valued.{AreFactsInBase, HaveFacts}
 use Rattle.legal_laws.specs.Written.{IsWritten, AreWritten}
 use Rattle.legal_laws.proofs.Passing.{IfPassed, answered, part_so, typed_so, if_map, both_ok, each_ok}
-use Rattle.legal_laws.proofs.Constants.{serves_decided, decides_statics, statics_both, final_before}
+use Rattle.legal_laws.proofs.Constants.{serves_decided, final_before}
+use Rattle.legal_laws.proofs.KeptStatics.{decides_statics, statics_both}
 use Rattle.legal_laws.proofs.DefinedTypes.{IsDefined, defined_known}
 use Rattle.legal_laws.proofs.Identities.{apart_with, older_with, types_joined}
 use Rattle.legal_laws.proofs.KnownObjects.{behind_more, counted_length, of_one, constant_only, constant_before, HaveShape, AreCounted, counted_shapes, bare_declared, bare_seen, objects_known}
@@ -228,7 +229,7 @@ module _ (p : Program) (facts : List Facts) (has : HaveFacts p.instances facts) 
         → Indicated region h s x → Valued region h x.next x.value v → Made (local_set env q c region (i ∷ []) x.value v)
     value_made q c region h i x v k g =
         let y = known_constant env c x.value (lying_in env x.value) v.value.known v.next in
-        let only = statics_both facts are inst x.next v.next y.next (decides_statics facts are inst x.next v.next g.only)
+        let only = statics_both x.next v.next y.next (decides_statics x.next v.next g.only)
         (constant_only facts are inst env c x.value (lying_in env x.value) v.value.known v.next) in
         let after = stands_statics types Sees env x.next y.next (stands_statics types Sees env s x.next st k.only) only in
         let ds = tree.initialized (statement_label y.next q) y.next.objects v.value.value ∷ [] in

@@ -22,7 +22,8 @@ use Rattle.legal_laws.specs.Kept.{OnlyStatics}
 use Rattle.legal_laws.specs.Known.{IsKnownSubtype, IsVariable, IsEntity, IsRegion}
 use Rattle.legal_laws.specs.Served.{Serves, AreShaped}
 use Rattle.legal_laws.specs.Valued.{AreFactsInBase}
-use Rattle.legal_laws.proofs.Constants.{numbered_only, numbered_before}
+use Rattle.legal_laws.proofs.Constants.{numbered_before}
+use Rattle.legal_laws.proofs.KeptStatics.{numbered_only}
 use Rattle.legal_laws.proofs.KnownRegions.{redefined_known}
 
 -- what is visible before declarations is visible behind them
@@ -54,7 +55,7 @@ of_one P is f u each = by_count is refl (nat_eq (length is) 1) refl
 -- the known value of a constant makes no more than constants
 module _ (facts : List Facts) (are : Everywhere AreFactsInBase facts) (inst : ℕ) (env : Env) where
   pub constant_only : (c : Constancy) (t : AdaSubtype) (f : Static → Option Static) (k : Option Static) (s : State) → OnlyStatics s (known_constant env c t f k s).next
-  constant_only constancy.Constant t f (Some e) s = numbered_only facts are inst env.generic (range_in t) e (f e) s
+  constant_only constancy.Constant t f (Some e) s = numbered_only env.generic (range_in t) e (f e) s
   constant_only constancy.Constant t f None s = refl
   constant_only constancy.Variable t f k s = refl
 

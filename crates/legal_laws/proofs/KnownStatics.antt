@@ -28,7 +28,8 @@ use Rattle.legal_laws.specs.Served.{Serves}
 use Rattle.legal_laws.specs.Valued.{AreFactsInBase, HaveFacts}
 use Rattle.legal_laws.proofs.Passing.{IfPassed, if_test, answered, part_so, typed_so, both_ok}
 use Rattle.legal_laws.proofs.Values.{value_demanded, order_demanded}
-use Rattle.legal_laws.proofs.Constants.{serves_demanded, demand_met, serves_decided, static_before, static_number_there, decides_statics, statics_both, static_only}
+use Rattle.legal_laws.proofs.Constants.{serves_demanded, demand_met, serves_decided, static_before, static_number_there}
+use Rattle.legal_laws.proofs.KeptStatics.{decides_statics, statics_both, static_only}
 use Rattle.legal_laws.proofs.KnownTypes.{type_known, IsCommon, common_known}
 use Rattle.legal_laws.proofs.KnownExpressions.{judged_known, mark_part_known, scalar_mark_known}
 use Rattle.legal_laws.proofs.KeptExpressions.{judged_behind, mark_part_behind, scalar_mark_behind}
@@ -62,8 +63,8 @@ module _ (p : Program) (facts : List Facts) (has : HaveFacts p.instances facts) 
       if_test (IsStaticPart s accepts) (accepts x.kind) (Some (map_given (λ v. record { value = v; kind = x.kind }) (static_known env e asked))) (λ h. record {
         accepted = h;
         kind = judged.kind;
-        only = statics_both facts are inst s t (static_known env e asked).next (decides_statics facts are inst s t only)
-            (statics_both facts are inst t asked (static_known env e asked).next refl (static_only facts are inst env e asked));
+        only = statics_both s t (static_known env e asked).next (decides_statics s t only)
+            (statics_both t asked (static_known env e asked).next refl (static_only env e asked));
         before = λ all. serves_decided facts are inst env.generic s t only (serves_demanded facts are inst env.generic env q (test e) t (back all));
         number = λ all. static_number_there facts are inst p env.generic env e asked refl has world all
             (numbers e (demand_met facts are inst env.generic env q (test e) t refl (back all)));
@@ -105,8 +106,8 @@ module _ (p : Program) (facts : List Facts) (has : HaveFacts p.instances facts) 
       (λ high. rule (Some (ordered env (expr_pos b.low) low.value.value high.value.value high.next)))
       (static_part_known low.next accepts (in_range r) b.high (in_range_numbers r))
       (λ high k. record {
-        only = statics_both facts are inst s low.next (demanded env (expr_pos b.low) (in_order low.value.value high.value.value) high.next) h.only
-            (statics_both facts are inst low.next high.next (demanded env (expr_pos b.low) (in_order low.value.value high.value.value) high.next) k.only refl);
+        only = statics_both s low.next (demanded env (expr_pos b.low) (in_order low.value.value high.value.value) high.next) h.only
+            (statics_both low.next high.next (demanded env (expr_pos b.low) (in_order low.value.value high.value.value) high.next) k.only refl);
         before = λ all. h.before (k.before (serves_demanded facts are inst env.generic env (expr_pos b.low) (in_order low.value.value high.value.value) high.next all));
         ordered = λ all. order_demanded p facts has are inst low.value.value high.value.value
             (demand_met facts are inst env.generic env (expr_pos b.low) (in_order low.value.value high.value.value) high.next refl all);
@@ -122,7 +123,7 @@ module _ (p : Program) (facts : List Facts) (has : HaveFacts p.instances facts) 
       → IfPassed (constraint_of env m o).outcome (IsIndicated s)
   constraint_known s m None known only =
       record {
-        only = decides_statics facts are inst s m.next only;
+        only = decides_statics s m.next only;
         before = λ all. serves_decided facts are inst env.generic s m.next only all;
         subtype = λ all. known;
       }
@@ -132,7 +133,7 @@ module _ (p : Program) (facts : List Facts) (has : HaveFacts p.instances facts) 
       (bounded_known m.next (fits (type_in m.value.subtype)) (range_in m.value.subtype) b)
       (λ r h. typed_so (IsIndicated s) env.step (given m.value.subtype r.next) (constrained m.value r) is.step
       (if_test (IsIndicated s) (is_scalar (type_in m.value.subtype)) (Some (given (of_type (type_in m.value.subtype) r.value) r.next)) (λ scalar. record {
-        only = statics_both facts are inst s m.next r.next (decides_statics facts are inst s m.next only) h.only;
+        only = statics_both s m.next r.next (decides_statics s m.next only) h.only;
         before = λ all. serves_decided facts are inst env.generic s m.next only (h.before all);
         subtype = λ all. (h.ordered all, type_known p inst declared apart m.value.subtype known);
       })))
@@ -169,8 +170,8 @@ module _ (p : Program) (facts : List Facts) (has : HaveFacts p.instances facts) 
       let type = settled_known c all.known (all.both h.accepted k.accepted) in
       let asked = in_order low.value.value high.value.value in
       record {
-        only = statics_both facts are inst s low.next (demanded env q asked high.next) h.only
-            (statics_both facts are inst low.next high.next (demanded env q asked high.next) k.only refl);
+        only = statics_both s low.next (demanded env q asked high.next) h.only
+            (statics_both low.next high.next (demanded env q asked high.next) k.only refl);
         before = λ final. h.before (k.before (serves_demanded facts are inst env.generic env q asked high.next final));
         subtype = λ final. (
           order_demanded p facts has are inst low.value.value high.value.value (demand_met facts are inst env.generic env q asked high.next refl final),
@@ -187,7 +188,7 @@ module _ (p : Program) (facts : List Facts) (has : HaveFacts p.instances facts) 
       (both_ok (λ m. KnownSubtype m.value.subtype × (is_scalar (type_in m.value.subtype) ≡ true)) (λ m. OnlyDecides s m.next) (scalar_mark env s n).answer
       (scalar_mark_known p inst declared apart shape_of Sees env is s n) (scalar_mark_behind env s n))
       (λ m h. record {
-        only = decides_statics facts are inst s m.next h.1;
+        only = decides_statics s m.next h.1;
         before = λ all. serves_decided facts are inst env.generic s m.next h.1 all;
         subtype = λ all. h.0.0;
         scalar = h.0.1;

@@ -34,20 +34,11 @@ use Rattle.ada_rules.specs.Statics.{Test, Facts, in_order}
 use Rattle.legal_laws.specs.Kept.{OnlyDecides, OnlyStatics}
 use Rattle.legal_laws.specs.Served.{Serves, AreShaped, IsFinal}
 use Rattle.legal_laws.specs.Valued.{AreFactsInBase}
-use Rattle.legal_laws.proofs.Passing.{IfPassed, if_map, if_test, answered, ruled_so, part_so, weaker_ok}
-use Rattle.legal_laws.proofs.Constants.{serves_demanded, serves_decided, static_before, decides_statics, statics_both, static_only, final_before}
+use Rattle.legal_laws.proofs.Passing.{IfPassed, if_map, if_test, answered, ruled_so, part_so, weaker_ok, typed_either, any_answer}
+use Rattle.legal_laws.proofs.Constants.{serves_demanded, serves_decided, static_before, final_before}
+use Rattle.legal_laws.proofs.KeptStatics.{decides_statics, statics_both, static_only}
 use Rattle.legal_laws.proofs.KeptExpressions.{judged_behind, mark_part_behind, scalar_mark_behind}
 use Rattle.legal_laws.proofs.KnownObjects.{counted_length, AreCounted, counted_shapes, constant_only, constant_before}
-
--- the outcome of a rule on types, whatever the step
-pub typed_either : {B : Type 0} (P : B → Type 0) (step : Step) (anything : B) (o : Option B) → P anything → IfSome o P
-    → IfPassed (typed_rule step anything o).outcome P
-typed_either P naming anything o h k = h
-typed_either P typing anything o h k = ruled_so P o k
-
-pub any_answer : {A : Type 0} (r : Result A Pos) → IfOk r (λ x. Unit {0})
-any_answer (Ok x) = tt
-any_answer (Err q) = tt
 
 module _ (p : Program) (facts : List Facts) (are : Everywhere AreFactsInBase facts) (inst : ℕ) (shape_of : tree.Object → Shape) where
   abbrev Final : Option ℕ → State → Type 0
@@ -79,7 +70,7 @@ module _ (p : Program) (facts : List Facts) (are : Everywhere AreFactsInBase fac
   }
 
   pub leads_decides : (o : Option ℕ) (s t : State) → OnlyDecides s t → Leads o s t
-  leads_decides o s t only = leads_statics o s t (decides_statics facts are inst s t only) (serves_decided facts are inst o s t only)
+  leads_decides o s t only = leads_statics o s t (decides_statics s t only) (serves_decided facts are inst o s t only)
 
   pub leads_demanded : (o : Option ℕ) (env : Env) (q : Pos) (t : Test) (s : State) → Leads o s (demanded env q t s)
   leads_demanded o env q t s = leads_statics o s (demanded env q t s) refl (serves_demanded facts are inst o env q t s)
@@ -173,7 +164,7 @@ module _ (p : Program) (facts : List Facts) (are : Everywhere AreFactsInBase fac
         let asked = demanded env q (test e) t in
         if_test (Lead o s) (accepts x.kind) (Some (map_given (λ v. record { value = v; kind = x.kind }) (static_known env e asked)))
         (λ b. leads_both o s asked (static_known env e asked).next (leads_both o s t asked h (leads_demanded o env q (test e) t))
-        (leads_statics o asked (static_known env e asked).next (static_only facts are inst env e asked) (static_before facts are inst o env e asked refl)))
+        (leads_statics o asked (static_known env e asked).next (static_only env e asked) (static_before facts are inst o env e asked refl)))
 
     pub static_leads : (s : State) (accepts : Kind → Bool) (test : Static → Test) (e : source.Expr) → IfOk (static_part env s accepts test e).answer (Lead o s)
     static_leads s accepts test e =

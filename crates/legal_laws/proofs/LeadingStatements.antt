@@ -30,7 +30,8 @@ use Rattle.legal_laws.specs.Served.{IsFinal}
 use Rattle.legal_laws.specs.Valued.{AreFactsInBase}
 use Rattle.legal_laws.proofs.Passing.{IfPassed, if_test, answered, part_so, weaker_ok}
 use Rattle.legal_laws.proofs.KeptExpressions.{denoted_behind, decision_behind}
-use Rattle.legal_laws.proofs.Leading.{typed_either, any_answer, Leads, leads_same, leads_both, leads_decides, leads_demanded, leads_started, Lead, LeadsOn, expression_leads, static_leads, scalar_mark_leads, mapped_leads, new_value_leads, declarations_lead}
+use Rattle.legal_laws.proofs.Leading.{Leads, leads_same, leads_both, leads_decides, leads_demanded, leads_started, Lead, LeadsOn, expression_leads, static_leads, scalar_mark_leads, mapped_leads, new_value_leads, declarations_lead}
+use Rattle.legal_laws.proofs.Passing.{typed_either, any_answer}
 
 module _ (p : Program) (facts : List Facts) (are : Everywhere AreFactsInBase facts) (inst : ℕ) (shape_of : tree.Object → Shape) where
   abbrev Ahead : {A : Type 0} → Option ℕ → State → Given A → Type 0

@@ -5,6 +5,7 @@ mod KnownTypes
 mod KnownNames
 mod KnownExpressions
 mod KeptExpressions
+mod KeptStatics
 mod Constants
 mod KnownStatics
 mod KnownValues

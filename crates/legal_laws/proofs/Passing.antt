@@ -106,3 +106,13 @@ if_each P (Some y) h = h
 pub each_ok : {X A : Type 0} (P : X → A → Type 0) (r : Result A Pos) → ((x : X) → IfOk r (P x)) → IfOk r (λ a. (x : X) → P x a)
 each_ok P (Ok a) h = h
 each_ok P (Err p) h = tt
+
+-- the outcome of a rule on types, whatever the step
+pub typed_either : {B : Type 0} (P : B → Type 0) (step : Step) (anything : B) (o : Option B) → P anything → IfSome o P
+    → IfPassed (typed_rule step anything o).outcome P
+typed_either P naming anything o h k = h
+typed_either P typing anything o h k = ruled_so P o k
+
+pub any_answer : {A : Type 0} (r : Result A Pos) → IfOk r (λ x. Unit {0})
+any_answer (Ok x) = tt
+any_answer (Err q) = tt
