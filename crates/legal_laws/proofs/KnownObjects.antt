@@ -53,6 +53,12 @@ of_one P is f u each = by_count is refl (nat_eq (length is) 1) refl
     by_count (i ∷ (j ∷ js)) same true e = absurd (two_names i j js (ap length (sym same) ∙ eqb-true (length is) 1 e))
 
 -- the known value of a constant makes no more than constants
+pub constant_keeps : (env : Env) (c : Constancy) (t : AdaSubtype) (f : Static → Option Static) (k : Option Static) (s : State)
+    → OnlyStatics s (known_constant env c t f k s).next
+constant_keeps env constancy.Constant t f (Some e) s = numbered_only env.generic (range_in t) e (f e) s
+constant_keeps env constancy.Constant t f None s = refl
+constant_keeps env constancy.Variable t f k s = refl
+
 module _ (facts : List Facts) (are : Everywhere AreFactsInBase facts) (inst : ℕ) (env : Env) where
   pub constant_only : (c : Constancy) (t : AdaSubtype) (f : Static → Option Static) (k : Option Static) (s : State) → OnlyStatics s (known_constant env c t f k s).next
   constant_only constancy.Constant t f (Some e) s = numbered_only env.generic (range_in t) e (f e) s

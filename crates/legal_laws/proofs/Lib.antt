@@ -21,3 +21,4 @@ mod LeadingStatements
 mod KnownCalls
 mod KnownStatements
 mod Giving
+mod NumberedObjects
