@@ -40,7 +40,7 @@ use Rattle.legal_laws.proofs.Leading.{Leads, leads_both, leads_decides, leads_de
 use Rattle.legal_laws.proofs.LeadingStatements.{leads_parameter, stated_leads, all_lead, branches_lead, arms_lead, handlers_lead, handled_lead, all_chosen_lead, all_caught_lead}
 use Rattle.legal_laws.proofs.Wider.{env_wider, subtype_wider}
 
-declared_texts : (ds : Option (List Declaration)) → AreDeclared ds → AreWritten (declarations_in ds)
+pub declared_texts : (ds : Option (List Declaration)) → AreDeclared ds → AreWritten (declarations_in ds)
 declared_texts None h = tt
 declared_texts (Some ds) h = h
 
@@ -81,7 +81,7 @@ module _ (p : Program) (facts : List Facts) (has : HaveFacts p.instances facts) 
   led types Sees env s t st go = stands_led p facts has are inst shape_of types Sees env env.generic s t st go
 
   -- where a construct stands in a loop, or in a handler
-  in_loop_stands : (types : AdaType → Type 0) (Sees : tree.Object → Type 0) (env : Env) (s : State) → Standing types Sees env s → Standing types Sees (in_loop env) s
+  pub in_loop_stands : (types : AdaType → Type 0) (Sees : tree.Object → Type 0) (env : Env) (s : State) → Standing types Sees env s → Standing types Sees (in_loop env) s
   in_loop_stands types Sees env s st = record {
     place = loop_known p inst types shape_of Sees env st.place;
     world = st.world;
@@ -92,7 +92,7 @@ module _ (p : Program) (facts : List Facts) (has : HaveFacts p.instances facts) 
     inside = st.inside;
   }
 
-  in_handler_stands : (types : AdaType → Type 0) (Sees : tree.Object → Type 0) (env : Env) (s : State) → Standing types Sees env s → Standing types Sees (in_handler env) s
+  pub in_handler_stands : (types : AdaType → Type 0) (Sees : tree.Object → Type 0) (env : Env) (s : State) → Standing types Sees env s → Standing types Sees (in_handler env) s
   in_handler_stands types Sees env s st = record {
     place = handler_known p inst types shape_of Sees env st.place;
     world = st.world;
@@ -103,7 +103,7 @@ module _ (p : Program) (facts : List Facts) (has : HaveFacts p.instances facts) 
     inside = st.inside;
   }
 
-  opened_stands : (types : AdaType → Type 0) (Sees : tree.Object → Type 0) (env : Env) (s : State) → Standing types Sees env s → Standing types Sees (opened env) s
+  pub opened_stands : (types : AdaType → Type 0) (Sees : tree.Object → Type 0) (env : Env) (s : State) → Standing types Sees env s → Standing types Sees (opened env) s
   opened_stands types Sees env s st = record {
     place = opened_known p inst types shape_of Sees env st.place;
     world = st.world;
@@ -115,7 +115,7 @@ module _ (p : Program) (facts : List Facts) (has : HaveFacts p.instances facts) 
   }
 
   -- in a for loop its parameter is visible
-  parameter_stands : (types : AdaType → Type 0) (Sees : tree.Object → Type 0) (env : Env) (s t : State) (q : Pos) (i : Identifier) (x : Turns) → Standing types Sees env s
+  pub parameter_stands : (types : AdaType → Type 0) (Sees : tree.Object → Type 0) (env : Env) (s t : State) (q : Pos) (i : Identifier) (x : Turns) → Standing types Sees env s
       → Go env.generic s t → IsKnownSubtype p inst types x.subtype → Final env.generic (one_object_more q x.subtype t)
       → Standing types (behind Sees t.objects) (in_loop (with_local (opened env) ((key i, loop_parameter t.objects x) ∷ []))) (one_object_more q x.subtype t)
   parameter_stands types Sees env s t q i x st go known all =

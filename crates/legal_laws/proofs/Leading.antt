@@ -62,7 +62,7 @@ module _ (p : Program) (facts : List Facts) (are : Everywhere AreFactsInBase fac
     rise = le_trans h.rise k.rise;
   }
 
-  leads_statics : (o : Option ℕ) (s t : State) → OnlyStatics s t → (Serves facts inst o t → Serves facts inst o s) → Leads o s t
+  pub leads_statics : (o : Option ℕ) (s t : State) → OnlyStatics s t → (Serves facts inst o t → Serves facts inst o s) → Leads o s t
   leads_statics o s t only back = record {
     back = λ c all. final_before facts are inst p shape_of o s t only back all;
     counted = λ c. ap (λ x. x.objects) only ∙ c ∙ sym (ap (λ x. length x.words) only);
@@ -309,7 +309,7 @@ module _ (p : Program) (facts : List Facts) (are : Everywhere AreFactsInBase fac
       leads_both env.generic s k.next (with_library_objects env t v.initial is k.next) (leads_constant env c t (λ e. Some e) v.known s)
       (leads_library env.generic env t v.initial is k.next)
 
-  set_leads : (env : Env) (q : Pos) (c : Constancy) (region : Region) (is : List Identifier) (t : AdaSubtype) (v : Given NewValue) (s : State) → Leads env.generic s v.next
+  pub set_leads : (env : Env) (q : Pos) (c : Constancy) (region : Region) (is : List Identifier) (t : AdaSubtype) (v : Given NewValue) (s : State) → Leads env.generic s v.next
       → LeadsOn env.generic s (local_set env q c region is t v)
   set_leads env q c region is t v s h =
       let k = known_constant env c t (lying_in env t) v.value.known v.next in

@@ -63,7 +63,7 @@ module _ (p : Program) (facts : List Facts) (are : Everywhere AreFactsInBase fac
     name_leads s n =
         weaker_ok (λ x. OnlyDecides s x.next) (Ahead o s) (denoted env s n).answer (denoted_behind env s n) (λ x h. leads_decides p facts are inst shape_of o s x.next h)
 
-    decision_leads : (s : State) (e : source.Expr) → IfOk (decision env s e).answer (Ahead o s)
+    pub decision_leads : (s : State) (e : source.Expr) → IfOk (decision env s e).answer (Ahead o s)
     decision_leads s e =
         weaker_ok (λ x. OnlyDecides s x.next) (Ahead o s) (decision env s e).answer (decision_behind env s e) (λ x h. leads_decides p facts are inst shape_of o s x.next h)
 
@@ -75,7 +75,7 @@ module _ (p : Program) (facts : List Facts) (are : Everywhere AreFactsInBase fac
         (λ d h. typed_either (Ahead o s) env.step (given any_variable d.next) _ h
         (mapped_leads p facts are inst shape_of env s d.next (λ v. v) (writable d.value) h)))
 
-    selector_leads : (s : State) (e : source.Expr) → IfOk (selector env s e).answer (Ahead o s)
+    pub selector_leads : (s : State) (e : source.Expr) → IfOk (selector env s e).answer (Ahead o s)
     selector_leads s e =
         answered (Ahead o s) (expr_pos e) _
         (part_so (Ahead o s) (Ahead o s) (judged env itself s e).answer

@@ -22,3 +22,4 @@ mod KnownCalls
 mod KnownStatements
 mod Giving
 mod NumberedObjects
+mod TypedObjects

@@ -97,7 +97,7 @@ exceptions_objects : (env : Env) (s : State) (region : Region) (is : List Identi
 exceptions_objects env s region [] = refl
 exceptions_objects env s region (i ∷ is) = exceptions_objects env (exception_declared env i s) (redefined (key i) (raisable (tree.declared (owner_of env) s.exceptions)) region) is
 
-exceptions_made : (env : Env) (s : State) (region : Region) (is : List Identifier) → (exceptions_from env s region is).made ≡ []
+pub exceptions_made : (env : Env) (s : State) (region : Region) (is : List Identifier) → (exceptions_from env s region is).made ≡ []
 exceptions_made env s region [] = refl
 exceptions_made env s region (i ∷ is) = exceptions_made env (exception_declared env i s) (redefined (key i) (raisable (tree.declared (owner_of env) s.exceptions)) region) is
 
@@ -106,11 +106,11 @@ exceptions_count env s region is =
     subst (λ ds. Counts s (map number_of ds) (exceptions_from env s region is).next) (sym (exceptions_made env s region is))
     (counts_none s (exceptions_from env s region is).next (exceptions_objects env s region is))
 
-inside_only : {B : Type 0} (P : B → Type 0) (b : Bool) (o r : Plan B) → b ≡ false → IfPassed r.outcome P → IfPassed (if b then o else r).outcome P
+pub inside_only : {B : Type 0} (P : B → Type 0) (b : Bool) (o r : Plan B) → b ≡ false → IfPassed r.outcome P → IfPassed (if b then o else r).outcome P
 inside_only P true o r e h = absurd (false≢true (sym e))
 inside_only P false o r e h = h
 
-mapped_any : {A B : Type 0} (P : B → Type 0) (x : Option A) (y : B) → P y → IfSome (option_map (λ u. y) x) P
+pub mapped_any : {A B : Type 0} (P : B → Type 0) (x : Option A) (y : B) → P y → IfSome (option_map (λ u. y) x) P
 mapped_any P None y h = tt
 mapped_any P (Some u) y h = h
 
@@ -276,7 +276,7 @@ raised_plain : (l : tree.Label) (o : Option tree.ExceptionName) → IfSome (opti
 raised_plain l None = tt
 raised_plain l (Some e) = refl
 
-same_objects : (s t : State) → OnlyStatics s t → t.objects ≡ s.objects
+pub same_objects : (s t : State) → OnlyStatics s t → t.objects ≡ s.objects
 same_objects s t only = ap (λ x. x.objects) only
 
 mutual
