@@ -71,7 +71,7 @@ module _ (p : Program) (facts : List Facts) (has : HaveFacts p.instances facts) 
   abbrev Shown : (tree.Object → Type 0) → Env → Given (List tree.Stmt) → Type 0
   Shown Sees env g = Final env.generic g.next → All Sees env g.value
 
-  returns_more : (types more : AdaType → Type 0) → ((t : AdaType) → types t → more t) → (r : Returning) → ReturnsAs p inst types function r
+  pub returns_more : (types more : AdaType → Type 0) → ((t : AdaType) → types t → more t) → (r : Returning) → ReturnsAs p inst types function r
       → ReturnsAs p inst more function r
   returns_more types more among no_result h = h
   returns_more types more among (result_of t) h = (h.0, (h.1.0, subtype_wider p inst types more among t h.1.1))

@@ -23,3 +23,4 @@ mod KnownStatements
 mod Giving
 mod NumberedObjects
 mod TypedObjects
+mod KnownBodies

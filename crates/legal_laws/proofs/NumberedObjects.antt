@@ -30,7 +30,7 @@ use Rattle.legal_laws.proofs.Passing.{IfPassed, if_map, if_test, answered, part_
 use Rattle.legal_laws.proofs.KeptStatics.{Behind, numbered_only, expression_keeps, indicated_keeps, new_value_keeps, defined_keeps, name_keeps, decision_keeps, target_keeps, selector_keeps, turned_keeps, all_chosen_keep, all_caught_keep}
 use Rattle.legal_laws.proofs.KnownObjects.{of_one, constant_keeps}
 
-numbers_joined : (n a b : ℕ) → numbers n (a + b) ≡ (numbers n a ++ numbers (n + a) b)
+pub numbers_joined : (n a b : ℕ) → numbers n (a + b) ≡ (numbers n a ++ numbers (n + a) b)
 numbers_joined n zero b =
     let none : zero + b ≡ b = omega (arith) in
     let start : n ≡ n + zero = omega (arith) in
