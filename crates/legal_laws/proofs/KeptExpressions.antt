@@ -24,7 +24,7 @@ only_entered : (s : State) (b : Bool) → OnlyDecides s (entered b s)
 only_entered s true = refl
 only_entered s false = refl
 
-only_exceeded : (s : State) (b : Bool) (p : Pos) → OnlyDecides s (exceeded b p s)
+pub only_exceeded : (s : State) (b : Bool) (p : Pos) → OnlyDecides s (exceeded b p s)
 only_exceeded s true p = refl
 only_exceeded s false p = refl
 

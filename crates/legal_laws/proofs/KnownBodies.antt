@@ -87,7 +87,7 @@ module _ (p : Program) (facts : List Facts) (has : HaveFacts p.instances facts) 
       )
 
   -- a specification whose parameters are known to the body
-  abbrev AreOfShape : ℕ → List Parameter → Type 0
+  abbrev pub AreOfShape : ℕ → List Parameter → Type 0
   AreOfShape n [] = Unit {0}
   AreOfShape n (q ∷ qs) = (shapes (tree.local_object n) ≡ shape_in p inst (subtype_in_tree q.subtype)) × AreOfShape (n + 1) qs
 
@@ -98,7 +98,7 @@ module _ (p : Program) (facts : List Facts) (has : HaveFacts p.instances facts) 
     pub typed : AreTyped p facts has are inst shapes q.next.words
     pub few : length q.value.parameters ≤ most_parameters
     pub given : returns_value (returning_of q.value.result) ≡ true → Everywhere (λ r. r.mode ≡ in_mode) q.value.parameters
-    pub shapes_are : AreShaped facts inst p shapes q.next.words → AreOfShape 0 q.value.parameters
+    pub shapes_are : AreOfShape 0 q.value.parameters
 
   -- parameters as the program has them
   parameter_numbers : (n : ℕ) (qs : List Parameter) → map (λ r. r.declaration) (typed_parameters n qs) ≡ numbers n (length qs)
@@ -188,7 +188,7 @@ module _ (p : Program) (facts : List Facts) (has : HaveFacts p.instances facts) 
           types = subst (Everywhere IsType) (sym (ap (map (shape_in p inst)) (sym objects_are) ∙ mapped_twice f.next.words ∙ ap (map shape_of_words) (sym_nil (reverse f.next.words))))
               (every_mapped IsType shape_of_words (reverse f.next.words)
               (every_reversed (λ w. IsType (shape_of_words w)) f.next.words (k.typed at_x all (h.typed at_x is.typed))));
-          profile = subst (Everywhere IsProfiled) parameters_are (parameter_shapes 0 q.value.parameters (is.shapes_are at_q.shaped));
+          profile = subst (Everywhere IsProfiled) parameters_are (parameter_shapes 0 q.value.parameters is.shapes_are);
           few = subst (λ n. n ≤ most_parameters) (sym (parameter_count 0 q.value.parameters) ∙ ap length parameters_are) is.few;
           given = λ g. subst (Everywhere (λ r. r.mode ≡ in_mode)) parameters_are
               (parameter_modes 0 q.value.parameters (is.given (sym giving ∙ g)));

@@ -24,3 +24,4 @@ mod Giving
 mod NumberedObjects
 mod TypedObjects
 mod KnownBodies
+mod KnownSpecifications

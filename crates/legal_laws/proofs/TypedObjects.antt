@@ -72,7 +72,7 @@ module _ (p : Program) (facts : List Facts) (has : HaveFacts p.instances facts) 
   typed_statics : (s t : State) → OnlyStatics s t → Typed s t
   typed_statics s t only = typed_same s t (ap (λ x. x.words) only)
 
-  counted_typed : (t : AdaSubtype) (is : List Identifier) (ws : List Words) → IsType (shape_in p inst (subtype_in_tree t)) → AreTyped ws → AreTyped (counted t is ws)
+  pub counted_typed : (t : AdaSubtype) (is : List Identifier) (ws : List Words) → IsType (shape_in p inst (subtype_in_tree t)) → AreTyped ws → AreTyped (counted t is ws)
   counted_typed t [] ws h all = all
   counted_typed t (i ∷ is) ws h all = counted_typed t is (word_of t i ∷ ws) h (h, all)
 
