@@ -39,7 +39,7 @@ use Rattle.legal_laws.proofs.NumberedObjects.{numbers_joined, Counts, counts_joi
 use Rattle.legal_laws.proofs.NumberedObjects as numbering
 use Rattle.legal_laws.proofs.TypedObjects.{AreTyped, Typed, declarations_typed, handled_typed}
 
-abbrev head_or : {X : Type 0} → X → List X → X
+abbrev pub head_or : {X : Type 0} → X → List X → X
 head_or x [] = x
 head_or x (y ∷ ys) = y
 
@@ -85,6 +85,13 @@ module _ (p : Program) (facts : List Facts) (has : HaveFacts p.instances facts) 
             ∙ (ap (λ xs. slice_get xs (length (reverse ws))) next ∙ item_at shape_of_words (reverse ws) behind w)),
         words_shaped ws (w ∷ behind) next,
       )
+
+  mapped_more : (xs : List Words) → map (shape_in p inst) (map (λ w. w.subtype) xs) ≡ map shape_of_words (xs ++ [])
+  mapped_more [] = refl
+  mapped_more (w ∷ ws) = ap (λ zs. shape_of_words w ∷ zs) (mapped_more ws)
+
+  pub objects_shaped : (ws : List Words) → map (λ w. w.subtype) (reverse ws) ≡ sub.objects → AreShaped facts inst p shapes ws
+  objects_shaped ws e = words_shaped ws [] (ap (map (shape_in p inst)) (sym e) ∙ mapped_more (reverse ws))
 
   -- a specification whose parameters are known to the body
   abbrev pub AreOfShape : ℕ → List Parameter → Type 0
@@ -161,7 +168,7 @@ module _ (p : Program) (facts : List Facts) (has : HaveFacts p.instances facts) 
     abbrev made : Declared → Given Frame → State
     made x f = body_made env before q.value (block_of x.made f.value) f.next
 
-    abbrev IsBodyOf : State → Type 0
+    abbrev pub IsBodyOf : State → Type 0
     IsBodyOf t =
         (rest : List Subprogram) → t.subprograms ≡ sub ∷ rest → Serves facts inst env.generic t
         → AreListed facts inst p shapes env.generic t.exceptions_declared → IsSubprogram p inst sub
@@ -174,7 +181,7 @@ module _ (p : Program) (facts : List Facts) (has : HaveFacts p.instances facts) 
         let parameters_are : typed_parameters 0 q.value.parameters ≡ sub.parameters = ap (λ s. s.parameters) own in
         let all : Final f.next = record {
           serves = record { met = serves.met; constants = serves.constants; limits = serves.limits };
-          shaped = words_shaped f.next.words [] (ap (map (shape_in p inst)) (sym objects_are) ∙ mapped_twice f.next.words);
+          shaped = objects_shaped f.next.words objects_are;
           listed = listed;
         } in
         let at_x : Final x.next = k.leads.back (h.leads.counted is.stands.counted) all in
@@ -185,7 +192,7 @@ module _ (p : Program) (facts : List Facts) (has : HaveFacts p.instances facts) 
         let giving : is_function sub ≡ function = ap block_gives (sym body_is) ∙ gives in
         record {
           numbered = all_numbered x f body counted objects_are body_is parameters_are;
-          types = subst (Everywhere IsType) (sym (ap (map (shape_in p inst)) (sym objects_are) ∙ mapped_twice f.next.words ∙ ap (map shape_of_words) (sym_nil (reverse f.next.words))))
+          types = subst (Everywhere IsType) (sym (ap (map (shape_in p inst)) (sym objects_are) ∙ mapped_more (reverse f.next.words) ∙ ap (map shape_of_words) (sym_nil (reverse f.next.words))))
               (every_mapped IsType shape_of_words (reverse f.next.words)
               (every_reversed (λ w. IsType (shape_of_words w)) f.next.words (k.typed at_x all (h.typed at_x is.typed))));
           profile = subst (Everywhere IsProfiled) parameters_are (parameter_shapes 0 q.value.parameters is.shapes_are);
@@ -199,13 +206,6 @@ module _ (p : Program) (facts : List Facts) (has : HaveFacts p.instances facts) 
         sym_nil : (xs : List Words) → xs ++ [] ≡ xs
         sym_nil [] = refl
         sym_nil (w ∷ ws) = ap (λ zs. w ∷ zs) (sym_nil ws)
-
-        mapped_more : (xs : List Words) → map (shape_in p inst) (map (λ w. w.subtype) xs) ≡ map shape_of_words (xs ++ [])
-        mapped_more [] = refl
-        mapped_more (w ∷ ws) = ap (λ zs. shape_of_words w ∷ zs) (mapped_more ws)
-
-        mapped_twice : (ws : List Words) → map (shape_in p inst) (map (λ w. w.subtype) (reverse ws)) ≡ map shape_of_words (reverse ws ++ [])
-        mapped_twice ws = mapped_more (reverse ws)
 
         all_numbered : (x : Declared) (f : Given Frame)
             → Counts q.next (map number_of x.made ++ (all_objects (stmts_of f.value.statements) ++ handler_objects f.value.handlers)) f.next

@@ -234,3 +234,98 @@ module _ (p : Program) (facts : List Facts) (has : HaveFacts p.instances facts) 
         (local_known p inst types shapes Starts env _ is (parameter_region (mode_of q.mode) t.value.subtype t.next.objects names q.names h.1 f.0 f.1 u))
         ((together env.generic s q t h.0).counted counted))))
         (λ rest k. parameters_joined env.generic s q t rest counted h.0 h.1 k.0 k.1))))
+
+    -- a whole specification, with its result
+    pub record IsCountedProfile (o : Option ℕ) (s : State) (g : Given Profile) : Type 0 where
+      pub leads : Go o (fresh s) g.next
+      pub numbered : g.next.objects ≡ length g.value.parameters
+
+    pub record IsProfileOf (g : Given Profile) : Type 0 where
+      pub typed : AreTyped p facts has are inst shapes g.next.words
+      pub shapes_are : OfShape 0 g.value.parameters
+      pub region : Regions g.value.region
+      pub subtypes : Everywhere (λ r. KnownSubtype r.subtype) g.value.parameters
+      pub returns : ReturnsAs p inst types (returns_value (returning_of g.value.result)) (returning_of g.value.result)
+      pub given : returns_value (returning_of g.value.result) ≡ true → Everywhere (λ r. r.mode ≡ in_mode) g.value.parameters
+
+    abbrev pub Specifies : Option ℕ → State → Given Profile → Type 0
+    Specifies o s g = IsCountedProfile o s g × (Final o g.next → AreVisible 0 g.value.parameters → IsProfileOf g)
+
+    bare_returns : (o : Option Parameter) → o ≡ None → ReturnsAs p inst types (returns_value (returning_of o)) (returning_of o)
+    bare_returns None e = refl
+    bare_returns (Some r) e = absurd (cc e)
+
+    bare_gives : {P : Type 0} (o : Option Parameter) → o ≡ None → returns_value (returning_of o) ≡ true → P
+    bare_gives None e h = absurd (false≢true h)
+    bare_gives (Some r) e h = absurd (cc e)
+
+    abbrev Read : Option ℕ → State → Given Profile → Type 0
+    Read o s q = AreCountedOn o (fresh s) q × Knows o (fresh s) q
+
+    procedure_specified : (o : Option ℕ) (s : State) (q : Given Profile) → Read o s q → Specifies o s q
+    procedure_specified o s q h =
+        let count = h.0.numbered in (
+          record { leads = h.0.leads; numbered = omega (arith, count) },
+          λ all visible. let known = h.1 all visible in record {
+            typed = known.typed tt;
+            shapes_are = known.shapes_are;
+            region = known.region;
+            subtypes = known.subtypes;
+            returns = bare_returns q.value.result h.0.bare;
+            given = bare_gives q.value.result h.0.bare;
+          },
+        )
+
+    function_specified : (o : Option ℕ) (s : State) (q : Given Profile) (t : Given Marked) → Read o s q → OnlyDecides q.next t.next
+        → (Final o q.next × AreVisible 0 q.value.parameters → KnownSubtype t.value.subtype) → is_function_profile q.value.parameters t.value ≡ true
+        → Specifies o s (with_result q t)
+    function_specified o s q t h only known is =
+        let go = leads_decides p facts are inst shapes o q.next t.next only in
+        let same = ap (λ x. x.objects) only in
+        let count = h.0.numbered in
+        let both = both_true (list_all (λ r. is_in r.mode) q.value.parameters) (is_scalar (type_in t.value.subtype)) is in (
+          record {
+            leads = leads_both p facts are inst shapes o (fresh s) q.next t.next h.0.leads go;
+            numbered = omega (arith, same, count);
+          },
+          λ all visible.
+              let before = go.back (h.0.leads.counted refl) all in
+              let these = h.1 before visible in
+              record {
+                typed = subst (AreTyped p facts has are inst shapes) (sym (ap (λ x. x.words) only)) (these.typed tt);
+                shapes_are = these.shapes_are;
+                region = these.region;
+                subtypes = these.subtypes;
+                returns = (refl, (both.1, known (before, visible)));
+                given = λ g. all_in_mode q.value.parameters both.0;
+              },
+        )
+
+    result_known : (env : Env) (s : State) (q : Given Profile) (n : Option Name) → Places env → Read env.generic s q
+        → IfPassed (result_judged env q n).outcome (Specifies env.generic s)
+    result_known env s q None is h = procedure_specified env.generic s q h
+    result_known env s q (Some n) is h =
+        part_so (λ t. OnlyDecides q.next t.next × (Final env.generic q.next × AreVisible 0 q.value.parameters → KnownSubtype t.value.subtype))
+        (Specifies env.generic s) (mark_part (with_local env q.value.region) q.next n).answer
+        (λ t. typed_rule env.step (with_result q t) (if is_function_profile q.value.parameters t.value then Some (with_result q t) else None))
+        (both_ok (λ t. OnlyDecides q.next t.next) (λ t. Final env.generic q.next × AreVisible 0 q.value.parameters → KnownSubtype t.value.subtype)
+        (mark_part (with_local env q.value.region) q.next n).answer (mark_part_behind (with_local env q.value.region) q.next n)
+        (each_ok (λ (f : Final env.generic q.next × AreVisible 0 q.value.parameters) t. KnownSubtype t.value.subtype)
+        (mark_part (with_local env q.value.region) q.next n).answer
+        (λ f. mark_part_known p inst types apart shapes Starts (with_local env q.value.region)
+        (local_known p inst types shapes Starts env q.value.region is (h.1 f.0 f.1).region) q.next n)))
+        (λ t k. typed_so (Specifies env.generic s) env.step (with_result q t)
+        (if is_function_profile q.value.parameters t.value then Some (with_result q t) else None) is.step
+        (if_test (Specifies env.generic s) (is_function_profile q.value.parameters t.value) (Some (with_result q t))
+        (λ e. function_specified env.generic s q t h k.0 k.1 e)))
+
+    pub specified_known : (env : Env) (s : State) (x : Specification) → Places env → IfOk (specified env s x).answer (Specifies env.generic s)
+    specified_known env s x is =
+        answered (Specifies env.generic s) x.pos
+        (outcome_after (parameters_judged (opened env) (fresh s) x.pos x.parameters).answer (λ q. result_judged (opened env) q x.result_mark))
+        (part_so (Read env.generic s) (Specifies env.generic s) (parameters_judged (opened env) (fresh s) x.pos x.parameters).answer
+        (λ q. result_judged (opened env) q x.result_mark)
+        (both_ok (AreCountedOn env.generic (fresh s)) (Knows env.generic (fresh s)) (parameters_judged (opened env) (fresh s) x.pos x.parameters).answer
+        (parameters_counted (opened env) (fresh s) x.pos x.parameters)
+        (parameters_known (opened env) (fresh s) x.pos x.parameters (opened_known p inst types shapes Starts env is) refl))
+        (λ q h. result_known (opened env) s q x.result_mark (opened_known p inst types shapes Starts env is) h))

@@ -25,3 +25,4 @@ mod NumberedObjects
 mod TypedObjects
 mod KnownBodies
 mod KnownSpecifications
+mod SpecifiedBodies
