@@ -26,3 +26,4 @@ mod TypedObjects
 mod KnownBodies
 mod KnownSpecifications
 mod SpecifiedBodies
+mod SeenEntities
