@@ -133,7 +133,7 @@ module _ (p : Program) (facts : List Facts) (has : HaveFacts p.instances facts) 
   and_false true = refl
   and_false false = refl
 
-  gives_as : (b : SubprogramBody) (r : Option Parameter) → may_end b r ≡ true → (frame_returns b.statements && returns_value (returning_of r)) ≡ returns_value (returning_of r)
+  pub gives_as : (b : SubprogramBody) (r : Option Parameter) → may_end b r ≡ true → (frame_returns b.statements && returns_value (returning_of r)) ≡ returns_value (returning_of r)
   gives_as b None ends = and_false (frame_returns b.statements)
   gives_as b (Some q) ends = ap (λ x. x && true) ends
 

@@ -45,7 +45,7 @@ behind_joined Sees [] es = refl
 behind_joined Sees (d ∷ ds) es = behind_joined (behind Sees _) ds es
 
 -- which instance owns what is declared
-own_instance : (inst : ℕ) (o : Option ℕ) → (o ≡ None → inst ≡ 0) → owner_in inst (if is_some o then here else of_instance 0) ≡ inst
+pub own_instance : (inst : ℕ) (o : Option ℕ) → (o ≡ None → inst ≡ 0) → owner_in inst (if is_some o then here else of_instance 0) ≡ inst
 own_instance inst None alone = sym (alone refl)
 own_instance inst (Some g) alone = refl
 

@@ -27,3 +27,4 @@ mod KnownBodies
 mod KnownSpecifications
 mod SpecifiedBodies
 mod SeenEntities
+mod OwnRoutines

@@ -2,7 +2,7 @@
 use Rattle.std.proofs.Common.{◌≡◌, ◌⊎◌, ◌≤◌, ◌<◌, ◌+◌, ℕ, Bool, true, false, if◌then◌else◌, List, [], ◌∷◌, length, Option, Some, None, IfSome, IfOk, refl, sym, ap, ◌∙◌, subst, arith, inl, inr}
 use Rattle.cov_base.specs.Lists.{Everywhere, Somewhere}
 use Rattle.ada_syntax.specs.declared.unit.SubprogramBody.{SubprogramBody}
-use Rattle.ada_meaning.specs.Declared.{object_shape}
+use Rattle.ada_meaning.specs.Declared.{object_shape, is_function}
 use Rattle.ada_meaning.specs.Program.{Subprogram, Program}
 use Rattle.ada_meaning.specs.Program as program
 use Rattle.ada_meaning.specs.Shape.{Shape}
@@ -11,18 +11,19 @@ use Rattle.ada_meaning.specs.WellFormed.{StartSees, IsSubprogram, most_parameter
 use Rattle.ada_rules.specs.Plan.{Plan, ◌>>=◌, rule, outcome_after, answer_at}
 use Rattle.ada_rules.specs.Types.{AdaType}
 use Rattle.ada_rules.specs.Entities.{Parameter, Region}
-use Rattle.ada_rules.specs.Environment.{typed_rule, State, Given, Env, with_local, opened}
+use Rattle.ada_rules.specs.Environment.{typing, typed_rule, State, Given, Env, with_local, opened}
 use Rattle.ada_rules.specs.Declarations.{Declared, all_declared}
-use Rattle.ada_rules.specs.Statements.{Frame, block_of, all_handled}
+use Rattle.ada_rules.specs.Statements.{Frame, block_of, all_handled, frame_returns}
 use Rattle.ada_rules.specs.Statics.{Facts}
-use Rattle.ada_rules.specs.Subprograms.{Profile, may_end, typed_parameters, body_made, inside_body, body_judged, closed_by, fresh}
+use Rattle.ada_rules.specs.Subprograms.{Profile, returning_of, may_end, typed_parameters, body_made, inside_body, body_judged, closed_by, fresh}
 use Rattle.legal_laws.specs.Known.{IsRegion}
 use Rattle.legal_laws.specs.Served.{Serves, AreListed, IsFinal}
 use Rattle.legal_laws.specs.Standing.{Stands}
 use Rattle.legal_laws.specs.Valued.{AreFactsInBase, HaveFacts}
 use Rattle.legal_laws.specs.Written.{AreWritten, IsHandledText}
-use Rattle.legal_laws.proofs.Passing.{IfPassed, if_test, answered, part_so, typed_either, both_ok, each_ok, weaker_ok, any_answer}
-use Rattle.legal_laws.proofs.KnownBodies.{head_or, objects_shaped, IsSpecified, IsBodyOf, body_known}
+use Rattle.legal_laws.proofs.Passing.{IfPassed, if_test, answered, part_so, typed_so, both_ok, each_ok, weaker_ok, any_answer}
+use Rattle.legal_laws.proofs.Giving.{returns_value, FrameAs, handled_gives}
+use Rattle.legal_laws.proofs.KnownBodies.{head_or, objects_shaped, IsSpecified, IsBodyOf, body_known, gives_as}
 use Rattle.legal_laws.proofs.KnownRegions.{local_known, opened_known}
 use Rattle.legal_laws.proofs.KnownSpecifications.{AreVisible, IsCountedProfile, IsProfileOf, Specifies}
 use Rattle.legal_laws.proofs.Leading.{Leads, Lead, LeadsOn, leads_both, declarations_lead}
@@ -58,11 +59,12 @@ module _ (p : Program) (facts : List Facts) (has : HaveFacts p.instances facts) 
     abbrev IsBehind : State → Type 0
     IsBehind t =
         (rest : List Subprogram) → t.subprograms ≡ sub ∷ rest → Serves facts inst env.generic t
-        → AreListed facts inst p shapes env.generic t.exceptions_declared → Final env.generic q.next × (typed_parameters 0 q.value.parameters ≡ sub.parameters)
+        → AreListed facts inst p shapes env.generic t.exceptions_declared → Final env.generic q.next
+        × ((typed_parameters 0 q.value.parameters ≡ sub.parameters) × (is_function sub ≡ returns_value (returning_of q.value.result)))
 
     behind_body : (x : Declared) (f : Given Frame) → q.next.objects ≡ length q.next.words → LeadsOn p facts are inst shapes env.generic q.next x
-        → Lead p facts are inst shapes env.generic x.next f → IsBehind (made x f)
-    behind_body x f counted h k rest same serves listed =
+        → Lead p facts are inst shapes env.generic x.next f → FrameAs inside (frame_returns b.statements) f → may_end b q.value.result ≡ true → IsBehind (made x f)
+    behind_body x f counted h k gives ends rest same serves listed =
         let own = ap (head_or sub) same in
         let go = leads_both p facts are inst shapes env.generic q.next x.next f.next h k in (
           go.back counted (record {
@@ -70,11 +72,14 @@ module _ (p : Program) (facts : List Facts) (has : HaveFacts p.instances facts) 
             shaped = objects_shaped p facts has are inst sub f.next.words (ap (λ s. s.objects) own);
             listed = listed;
           }),
-          ap (λ s. s.parameters) own,
+          (
+            ap (λ s. s.parameters) own,
+            sym (ap is_function own) ∙ (gives ∙ gives_as p facts has are inst sub b q.value.result ends),
+          ),
         )
 
-    body_behind : q.next.objects ≡ length q.next.words → IfOk (body_judged env before b region name q).answer IsBehind
-    body_behind counted =
+    body_behind : env.step ≡ typing → q.next.objects ≡ length q.next.words → IfOk (body_judged env before b region name q).answer IsBehind
+    body_behind step counted =
         answered IsBehind b.specification.pos
         (outcome_after (all_declared inside q.next b.specification.pos b.declarations).answer
         (λ x. all_handled (with_local inside x.region) x.next b.specification.pos b.statements
@@ -85,16 +90,18 @@ module _ (p : Program) (facts : List Facts) (has : HaveFacts p.instances facts) 
         >>= (λ f. closed_by b.specification.pos b.specification.name b.end_name
         >>= (λ u. typed_rule env.step (made x f) (if may_end b q.value.result then Some (made x f) else None))))
         (declarations_lead p facts are inst shapes inside q.next b.specification.pos b.declarations)
-        (λ x h. part_so (Lead p facts are inst shapes env.generic x.next) IsBehind (all_handled (with_local inside x.region) x.next b.specification.pos b.statements).answer
+        (λ x h. part_so (λ f. Lead p facts are inst shapes env.generic x.next f × FrameAs inside (frame_returns b.statements) f) IsBehind (all_handled (with_local inside x.region) x.next b.specification.pos b.statements).answer
         (λ f. closed_by b.specification.pos b.specification.name b.end_name
         >>= (λ u. typed_rule env.step (made x f) (if may_end b q.value.result then Some (made x f) else None)))
+        (both_ok (Lead p facts are inst shapes env.generic x.next) (FrameAs inside (frame_returns b.statements))
+        (all_handled (with_local inside x.region) x.next b.specification.pos b.statements).answer
         (handled_lead p facts are inst shapes (with_local inside x.region) x.next b.specification.pos b.statements)
+        (handled_gives (with_local inside x.region) x.next b.specification.pos b.statements step))
         (λ f k. part_so (λ u. Unit {0}) IsBehind (closed_by b.specification.pos b.specification.name b.end_name).answer
         (λ u. typed_rule env.step (made x f) (if may_end b q.value.result then Some (made x f) else None))
         (any_answer (closed_by b.specification.pos b.specification.name b.end_name).answer)
-        (λ u v. typed_either IsBehind env.step (made x f) (if may_end b q.value.result then Some (made x f) else None)
-        (behind_body x f counted h k)
-        (if_test IsBehind (may_end b q.value.result) (Some (made x f)) (λ e. behind_body x f counted h k))))))
+        (λ u v. typed_so IsBehind env.step (made x f) (if may_end b q.value.result then Some (made x f) else None) step
+        (if_test IsBehind (may_end b q.value.result) (Some (made x f)) (λ e. behind_body x f counted h k.0 k.1 e))))))
 
     -- where a body stands, before its specification: its subprogram is visible in this region
     module _ (types : AdaType → Type 0) (s : State) (st : Stands p inst shapes types Starts (opened env) s) where
@@ -123,29 +130,35 @@ module _ (p : Program) (facts : List Facts) (has : HaveFacts p.instances facts) 
           own_if true r own h k = h
           own_if false r own h k = k
 
-      -- a body behind its specification, in a region where its own subprogram is known
+      -- the region of a body is known where its own subprogram is one of the program
+      abbrev pub RegionKnown : Type 0
+      RegionKnown =
+          is_function sub ≡ returns_value (returning_of q.value.result) → typed_parameters 0 q.value.parameters ≡ sub.parameters
+          → IsProfileOf p facts has are inst sub types st.apart q → IsRegion p inst types shapes Starts region
+
+      -- a body behind its specification
       pub body_after : (c : Specifies p facts has are inst sub types st.apart env.generic s q) → AreWritten b.declarations × IsHandledText b.statements
           → length q.value.parameters ≤ most_parameters
           → IfOk (body_judged env before b region name q).answer
           (λ t. (rest : List Subprogram) → t.subprograms ≡ sub ∷ rest → Serves facts inst env.generic t
-          → AreListed facts inst p shapes env.generic t.exceptions_declared → IsRegion p inst types shapes Starts region → IsSubprogram p inst sub)
+          → AreListed facts inst p shapes env.generic t.exceptions_declared → RegionKnown → IsSubprogram p inst sub)
       body_after c written few =
           weaker_ok
           (λ t. IsBehind t × ((is : IsSpecified p facts has are inst sub types env region name q)
           → IsBodyOf p facts has are inst sub types env before b region name q is written t))
           (λ t. (rest : List Subprogram) → t.subprograms ≡ sub ∷ rest → Serves facts inst env.generic t
-          → AreListed facts inst p shapes env.generic t.exceptions_declared → IsRegion p inst types shapes Starts region → IsSubprogram p inst sub)
+          → AreListed facts inst p shapes env.generic t.exceptions_declared → RegionKnown → IsSubprogram p inst sub)
           (body_judged env before b region name q).answer
           (both_ok IsBehind (λ t. (is : IsSpecified p facts has are inst sub types env region name q)
           → IsBodyOf p facts has are inst sub types env before b region name q is written t)
-          (body_judged env before b region name q).answer (body_behind (c.0.leads.counted refl))
+          (body_judged env before b region name q).answer (body_behind st.place.step (c.0.leads.counted refl))
           (each_ok (λ (is : IsSpecified p facts has are inst sub types env region name q) t. IsBodyOf p facts has are inst sub types env before b region name q is written t)
           (body_judged env before b region name q).answer (λ is. body_known p facts has are inst sub types env before b region name q is written)))
           (λ t h rest same serves listed region_known.
           let before_body = h.0 rest same serves listed in
-          let known = c.1 before_body.0 (all_visible q.value.parameters before_body.1) in
+          let known = c.1 before_body.0 (all_visible q.value.parameters before_body.1.0) in
           h.1 (record {
-            stands = specified_stands q c.0 known region_known;
+            stands = specified_stands q c.0 known (region_known before_body.1.1 before_body.1.0 known);
             returns = known.returns;
             numbered = c.0.numbered;
             typed = known.typed;
