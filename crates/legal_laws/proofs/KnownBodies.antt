@@ -114,7 +114,7 @@ module _ (p : Program) (facts : List Facts) (has : HaveFacts p.instances facts) 
       let next : n + 1 ≡ suc n = omega (arith) in
       ap (λ xs. n ∷ xs) (parameter_numbers (n + 1) qs ∙ ap (λ m. numbers m (length qs)) next)
 
-  parameter_count : (n : ℕ) (qs : List Parameter) → length (typed_parameters n qs) ≡ length qs
+  pub parameter_count : (n : ℕ) (qs : List Parameter) → length (typed_parameters n qs) ≡ length qs
   parameter_count n [] = refl
   parameter_count n (q ∷ qs) = ap suc (parameter_count (n + 1) qs)
 

@@ -28,3 +28,4 @@ mod KnownSpecifications
 mod SpecifiedBodies
 mod SeenEntities
 mod OwnRoutines
+mod UnitBodies

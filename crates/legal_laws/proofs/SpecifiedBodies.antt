@@ -23,7 +23,7 @@ use Rattle.legal_laws.specs.Valued.{AreFactsInBase, HaveFacts}
 use Rattle.legal_laws.specs.Written.{AreWritten, IsHandledText}
 use Rattle.legal_laws.proofs.Passing.{IfPassed, if_test, answered, part_so, typed_so, both_ok, each_ok, weaker_ok, any_answer}
 use Rattle.legal_laws.proofs.Giving.{returns_value, FrameAs, handled_gives}
-use Rattle.legal_laws.proofs.KnownBodies.{head_or, objects_shaped, IsSpecified, IsBodyOf, body_known, gives_as}
+use Rattle.legal_laws.proofs.KnownBodies.{head_or, objects_shaped, IsSpecified, IsBodyOf, body_known, gives_as, parameter_count}
 use Rattle.legal_laws.proofs.KnownRegions.{local_known, opened_known}
 use Rattle.legal_laws.proofs.KnownSpecifications.{AreVisible, IsCountedProfile, IsProfileOf, Specifies}
 use Rattle.legal_laws.proofs.Leading.{Leads, Lead, LeadsOn, leads_both, declarations_lead}
@@ -138,7 +138,7 @@ module _ (p : Program) (facts : List Facts) (has : HaveFacts p.instances facts) 
 
       -- a body behind its specification
       pub body_after : (c : Specifies p facts has are inst sub types st.apart env.generic s q) → AreWritten b.declarations × IsHandledText b.statements
-          → length q.value.parameters ≤ most_parameters
+          → length sub.parameters ≤ most_parameters
           → IfOk (body_judged env before b region name q).answer
           (λ t. (rest : List Subprogram) → t.subprograms ≡ sub ∷ rest → Serves facts inst env.generic t
           → AreListed facts inst p shapes env.generic t.exceptions_declared → RegionKnown → IsSubprogram p inst sub)
@@ -162,7 +162,7 @@ module _ (p : Program) (facts : List Facts) (has : HaveFacts p.instances facts) 
             returns = known.returns;
             numbered = c.0.numbered;
             typed = known.typed;
-            few = few;
+            few = subst (λ n. n ≤ most_parameters) (ap length (sym before_body.1.0) ∙ parameter_count p facts has are inst sub 0 q.value.parameters) few;
             given = known.given;
             shapes_are = known.shapes_are;
           }) rest same serves listed)
