@@ -29,3 +29,4 @@ mod SpecifiedBodies
 mod SeenEntities
 mod OwnRoutines
 mod UnitBodies
+mod Laws

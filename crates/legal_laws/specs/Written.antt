@@ -10,6 +10,7 @@ use Rattle.ada_syntax.specs.declared.declaration.DeclarationKind.TheVariants as 
 use Rattle.ada_syntax.specs.declared.declaration.TypeDefinition.{TypeDefinition}
 use Rattle.ada_syntax.specs.declared.declaration.TypeDefinition.TheVariants as definition
 use Rattle.ada_syntax.specs.declared.name.Identifier.{Identifier}
+use Rattle.ada_syntax.specs.declared.unit.SubprogramBody.{SubprogramBody}
 use Rattle.ada_meaning.specs.WellFormed.{HasChoice}
 
 abbrev pub most_literals : ℕ
@@ -72,3 +73,6 @@ abbrev mutual
 
   pub IsHandledText : text.Handled → Type 0
   IsHandledText (text.handled ss hs) = AreStatementTexts ss × AreHandlerTexts hs
+
+abbrev pub IsBodyText : SubprogramBody → Type 0
+IsBodyText b = AreWritten b.declarations × IsHandledText b.statements
