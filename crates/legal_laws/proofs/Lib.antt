@@ -30,3 +30,4 @@ mod SeenEntities
 mod OwnRoutines
 mod UnitBodies
 mod Laws
+mod Predefined
