@@ -31,3 +31,4 @@ mod OwnRoutines
 mod UnitBodies
 mod Laws
 mod Predefined
+mod ScopedValues

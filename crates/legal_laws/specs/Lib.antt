@@ -5,3 +5,4 @@ pub mod Kept
 pub mod Served
 pub mod Written
 pub mod Standing
+pub mod Scoped
