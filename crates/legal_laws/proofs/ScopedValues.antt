@@ -1,12 +1,15 @@
 -- Constants that look no further than at those before them have the values of their expressions in the final values.
-use Rattle.std.proofs.Common.{◌≡◌, ◌<◌, ◌≤◌, ◌+◌, ℕ, zero, suc, nat_eq, ℤ, pos, Bool, true, false, if◌then◌else◌, List, [], ◌∷◌, ◌++◌, length, Option, Some, None, option_map, slice_get, refl, sym, ap, ◌∙◌, subst, arith, length-append}
+use Rattle.std.proofs.Common.{◌≡◌, ◌<◌, ◌≤◌, ◌+◌, ℕ, zero, suc, nat_eq, ℤ, pos, Bool, true, false, if◌then◌else◌, List, [], ◌∷◌, ◌++◌, length, Option, Some, None, option_map, slice_get, reverse, refl, sym, ap, ◌∙◌, subst, arith, length-append}
 use Rattle.std.specs.Prelude.{unwrap_or}
 use Rattle.std.specs.Option.{option_and_then}
+use mathlib.Core.List.{reverse-cons}
 use Rattle.std.proofs.lemmas.Bool.{eqb-true, false≢true}
 use Rattle.ada_meaning.specs.Arithmetic.{count_between, sign_of, is_within}
 use Rattle.ada_meaning.specs.Program.{Bounds, GenericConstant}
-use Rattle.ada_meaning.specs.Statics.{in_base, computed, bounds_between, InstanceValues, static_value, static_bounds, within, value_of_constant, with_constants, constant_values}
+use Rattle.ada_meaning.specs.Statics.{in_base, computed, bounds_between, InstanceValues, static_value, static_bounds, within, value_of_constant, with_constants, constant_values, constants_of}
 use Rattle.ada_meaning.specs.Types.{Static, static_number, static_formal, static_constant, static_first, static_last, static_length, static_sign, static_operation, static_of, Range, between, formal_range, range_of}
+use Rattle.ada_rules.specs.Statics.{Facts, constant_in, instance_values}
+use Rattle.legal_laws.specs.Served.{HaveValues}
 use Rattle.legal_laws.specs.Scoped.{IsScoped, IsScopedRange, up_to, AreScoped, AreValued}
 
 module _ (v w : InstanceValues) (before : ℕ → ℕ) (objects : (i k : ℕ) → v.object i k ≡ w.object i k) (types : (i k : ℕ) → v.type i k ≡ w.type i k)
@@ -80,3 +83,59 @@ module _ (v w : InstanceValues) (inst : ℕ) (had : ℕ → ℕ) (objects : (i k
         subst (λ n. AreValued w inst n cs) long
             (constants_valued (xs ++ x ∷ []) cs own (subst (λ n. AreScoped inst had n cs) (sym long) scoped.1)),
       )
+
+-- the constants of a generic, with the latest first
+abbrev only_if : Bool → GenericConstant → List GenericConstant
+only_if b c = if b then c ∷ [] else []
+
+with_first : (b : Bool) (d : GenericConstant) (xs ys zs : List GenericConstant) → xs ≡ (ys ++ zs)
+    → (if b then d ∷ xs else xs) ≡ ((if b then d ∷ ys else ys) ++ zs)
+with_first true d xs ys zs h = ap (λ x. d ∷ x) h
+with_first false d xs ys zs h = h
+
+constants_joined : (g : ℕ) (cs : List GenericConstant) (c : GenericConstant)
+    → constants_of g (cs ++ c ∷ []) ≡ (constants_of g cs ++ only_if (nat_eq c.generic g) c)
+constants_joined g [] c = refl
+constants_joined g (d ∷ cs) c =
+    with_first (nat_eq d.generic g) d (constants_of g (cs ++ c ∷ [])) (constants_of g cs) (only_if (nat_eq c.generic g) c) (constants_joined g cs c)
+
+count_if : (b : Bool) (c : GenericConstant) (cs : List GenericConstant) → length (if b then c ∷ cs else cs) ≡ length cs + length (only_if b c)
+count_if true c cs = omega (arith)
+count_if false c cs = omega (arith)
+
+constants_count : (g : ℕ) (cs : List GenericConstant) → length (constants_of g (reverse cs)) ≡ length (constants_of g cs)
+constants_count g [] = refl
+constants_count g (c ∷ cs) =
+    let both = length-append (constants_of g (reverse cs)) (only_if (nat_eq c.generic g) c) in
+    let rest = constants_count g cs in
+    let first = count_if (nat_eq c.generic g) c (constants_of g cs) in
+    ap (λ xs. length (constants_of g xs)) (reverse-cons c cs) ∙ (ap length (constants_joined g (reverse cs) c) ∙ omega (arith, both, rest, first))
+
+pub record AreBothValued (w : InstanceValues) (inst k : ℕ) (xs ys : List GenericConstant) : Type 0 where
+  pub first : AreValued w inst k xs
+  pub later : AreValued w inst (k + length xs) ys
+
+valued_apart : (w : InstanceValues) (inst k : ℕ) (xs ys : List GenericConstant) → AreValued w inst k (xs ++ ys) → AreBothValued w inst k xs ys
+valued_apart w inst k [] ys h =
+    let none : k ≡ k + 0 = omega (arith) in record { first = tt; later = subst (λ n. AreValued w inst n ys) none h }
+valued_apart w inst k (x ∷ xs) ys h =
+    let rest = valued_apart w inst (k + 1) xs ys h.1 in
+    let count : (k + 1) + length xs ≡ k + length (x ∷ xs) = omega (arith) in
+    record { first = (h.0, rest.first); later = subst (λ n. AreValued w inst n ys) count rest.later }
+
+one_valued : (w : InstanceValues) (inst k : ℕ) (b : Bool) (c : GenericConstant) → AreValued w inst k (only_if b c) → b ≡ true
+    → w.constant inst k ≡ value_of_constant w inst c
+one_valued w inst k true c h e = h.0
+one_valued w inst k false c h e = absurd (false≢true e)
+
+pub values_kept : (facts : List Facts) (inst g : ℕ) (cs : List GenericConstant) → AreValued (instance_values facts) inst 0 (constants_of g (reverse cs))
+    → HaveValues facts inst g cs
+values_kept facts inst g [] h = tt
+values_kept facts inst g (c ∷ cs) h =
+    let both = valued_apart (instance_values facts) inst 0 (constants_of g (reverse cs)) (only_if (nat_eq c.generic g) c)
+    (subst (AreValued (instance_values facts) inst 0) (ap (constants_of g) (reverse-cons c cs) ∙ constants_joined g (reverse cs) c) h) in
+    let number : 0 + length (constants_of g (reverse cs)) ≡ length (constants_of g cs) = (let count = constants_count g cs in omega (arith, count)) in (
+      λ e. ap (λ k. constant_in facts inst k) (sym number)
+          ∙ one_valued (instance_values facts) inst (0 + length (constants_of g (reverse cs))) (nat_eq c.generic g) c both.later e,
+      values_kept facts inst g cs both.first,
+    )
