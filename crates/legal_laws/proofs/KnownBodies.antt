@@ -235,11 +235,11 @@ module _ (p : Program) (facts : List Facts) (has : HaveFacts p.instances facts) 
         (both_ok (LeadsOn p facts are inst shapes env.generic q.next) (λ x. Final x.next → Typed p facts has are inst shapes q.next x.next)
         (all_declared inside q.next b.specification.pos b.declarations).answer
         (declarations_lead p facts are inst shapes inside q.next b.specification.pos b.declarations)
-        (declarations_typed p facts has are inst shapes types Starts inside q.next b.specification.pos b.declarations is.stands written.0))
+        (declarations_typed p facts has are inst shapes types Starts inside q.next b.specification.pos b.declarations is.stands refl written.0))
         (both_ok (Declares q.next) (λ x. Final x.next → AreAllMade p facts has are inst shapes types Starts inside x)
         (all_declared inside q.next b.specification.pos b.declarations).answer
         (declarations_count inside q.next b.specification.pos b.declarations is.stands.place.step refl)
-        (declarations_known p facts has are inst shapes types Starts inside q.next b.specification.pos b.declarations is.stands written.0)))
+        (declarations_known p facts has are inst shapes types Starts inside q.next b.specification.pos b.declarations is.stands refl written.0)))
         (λ x h. record { leads = h.0.0; typed = h.0.1; counts = h.1.0; made = h.1.1 })
 
     module _ (x : Declared) (h : AreDeclarationsOf x) where

@@ -71,7 +71,6 @@ module _ (p : Program) (facts : List Facts) (has : HaveFacts p.instances facts) 
     older = λ u n h e. subst (λ k. n < k) (sym (ap (λ x. x.types) only)) (st.older u n h e);
     counted = ap (λ x. x.objects) only ∙ st.counted ∙ sym (ap (λ x. length x.words) only);
     alone = st.alone;
-    inside = st.inside;
   }
 
   pub stands_local : (types : AdaType → Type 0) (Sees : tree.Object → Type 0) (env : Env) (s : State) (region : Region) → Standing types Sees env s
@@ -83,7 +82,6 @@ module _ (p : Program) (facts : List Facts) (has : HaveFacts p.instances facts) 
     older = st.older;
     counted = st.counted;
     alone = st.alone;
-    inside = st.inside;
   }
 
   -- with a number of a type taken
@@ -117,7 +115,7 @@ module _ (p : Program) (facts : List Facts) (has : HaveFacts p.instances facts) 
     Made x = AreMade types Sees env s x
 
     -- a type
-    type_made : (q : Pos) (i : Identifier) (x : Given Defined)
+    pub type_made : (q : Pos) (i : Identifier) (x : Given Defined)
         → IsDefined p facts has are inst shape_of types st.apart Sees env.generic (one_type_more s) (new_identity env s) x
         → Made (type_declared env q i (new_identity env s) x)
     type_made q i x h =
@@ -139,7 +137,6 @@ module _ (p : Program) (facts : List Facts) (has : HaveFacts p.instances facts) 
             older = older_with types env s u h.identity st.older (type_counted env q x.value.subtype x.next) more;
             counted = ap (λ y. y.objects) h.only ∙ st.counted ∙ sym (ap (λ y. length y.words) h.only);
             alone = st.alone;
-            inside = st.inside;
           };
         }
 
@@ -151,16 +148,15 @@ module _ (p : Program) (facts : List Facts) (has : HaveFacts p.instances facts) 
       older = λ u n h e. let few = st.older u n h e in omega (arith, few);
       counted = st.counted;
       alone = st.alone;
-      inside = st.inside;
     }
 
-    abbrev Indicated : (region : Region) → Regions region → State → Given AdaSubtype → Type 0
+    abbrev pub Indicated : (region : Region) → Regions region → State → Given AdaSubtype → Type 0
     Indicated region h t x =
         IsIndicated p facts has are inst types st.apart shape_of Sees (with_local env region)
         (regions.local_known p inst types shape_of Sees env region st.place h) st.world t x
 
     -- a subtype
-    subtype_made : (i : Identifier) (region : Region) (h : Regions region) (x : Given AdaSubtype) → Indicated region h (one_type_more s) x
+    pub subtype_made : (i : Identifier) (region : Region) (h : Regions region) (x : Given AdaSubtype) → Indicated region h (one_type_more s) x
         → Made (subtype_declared i region (new_identity env s) x)
     subtype_made i region h x k =
         let more = ap (λ y. y.types) k.only in
@@ -209,7 +205,6 @@ module _ (p : Program) (facts : List Facts) (has : HaveFacts p.instances facts) 
             older = after.older;
             counted = omega (arith, count, so_far);
             alone = st.alone;
-            inside = st.inside;
           };
         }
 
@@ -267,7 +262,6 @@ module _ (p : Program) (facts : List Facts) (has : HaveFacts p.instances facts) 
             older = after.older;
             counted = omega (arith, so_far);
             alone = st.alone;
-            inside = st.inside;
           };
         }
 
@@ -326,9 +320,9 @@ module _ (p : Program) (facts : List Facts) (has : HaveFacts p.instances facts) 
     stands_raised : (s t : State) → Standing types Sees env s → t ≡ with_exceptions s t.exceptions t.exceptions_declared → Standing types Sees env t
     stands_raised s t st only =
         subst (Standing types Sees env) (sym only)
-        (record { place = st.place; world = st.world; apart = st.apart; older = st.older; counted = st.counted; alone = st.alone; inside = st.inside })
+        (record { place = st.place; world = st.world; apart = st.apart; older = st.older; counted = st.counted; alone = st.alone })
 
-    exceptions_made : (s : State) (region : Region) (is : List Identifier) → Standing types Sees env s → IsRegion p inst types shape_of Sees region
+    pub exceptions_made : (s : State) (region : Region) (is : List Identifier) → Standing types Sees env s → IsRegion p inst types shape_of Sees region
         → AreMade types Sees env s (Raised s region is)
     exceptions_made s region is st h =
         let x = Raised s region is in
@@ -344,7 +338,7 @@ module _ (p : Program) (facts : List Facts) (has : HaveFacts p.instances facts) 
         }
 
   -- a declaration of each kind
-  module _ (types : AdaType → Type 0) (Sees : tree.Object → Type 0) (env : Env) (s : State) (st : Standing types Sees env s) where
+  module _ (types : AdaType → Type 0) (Sees : tree.Object → Type 0) (env : Env) (s : State) (st : Standing types Sees env s) (inside : env.is_library ≡ false) where
     inside_only : {B : Type 0} (P : B → Type 0) (b : Bool) (o r : Plan B) → b ≡ false → IfPassed r.outcome P → IfPassed (if b then o else r).outcome P
     inside_only P true o r e h = absurd (false≢true (sym e))
     inside_only P false o r e h = h
@@ -360,11 +354,11 @@ module _ (p : Program) (facts : List Facts) (has : HaveFacts p.instances facts) 
         (o : Option Initial) → Indicated types Sees env s st region h s x
         → IfPassed (objects_declared env q c region is x o).outcome (AreMade types Sees env s)
     objects_plan q c region h is x None k =
-        inside_only (AreMade types Sees env s) env.is_library _ _ st.inside
+        inside_only (AreMade types Sees env s) env.is_library _ _ inside
         (typed_so (AreMade types Sees env s) env.step (local_bare c region is x) (option_map (λ u. local_bare c region is x) (may_be_bare c)) st.place.step
         (may_be_bare_so (AreMade types Sees env s) c (local_bare c region is x) (bare_made types Sees env s st c region h is x k)))
     objects_plan q c region h is x (Some i) k =
-        inside_only (AreMade types Sees env s) env.is_library _ _ st.inside
+        inside_only (AreMade types Sees env s) env.is_library _ _ inside
         (part_so (Valued types Sees env s st region h x.next x.value) (AreMade types Sees env s) (new_value (with_local env region) x.next x.value i).answer
         (λ v. typed_rule env.step (local_set env q c region is x.value v) (option_map (λ u. local_set env q c region is x.value v) (one_name is)))
         (new_value_known p inst types st.apart shape_of Sees (with_local env region) (regions.local_known p inst types shape_of Sees env region st.place h) x.next x.value i)
@@ -447,15 +441,15 @@ module _ (p : Program) (facts : List Facts) (has : HaveFacts p.instances facts) 
   }
 
   pub declarations_known : (types : AdaType → Type 0) (Sees : tree.Object → Type 0) (env : Env) (s : State) (q : Pos) (ds : List Declaration)
-      → Standing types Sees env s → AreWritten ds → IfOk (all_declared env s q ds).answer (Rest types Sees env)
-  declarations_known types Sees env s q [] st written =
+      → Standing types Sees env s → env.is_library ≡ false → AreWritten ds → IfOk (all_declared env s q ds).answer (Rest types Sees env)
+  declarations_known types Sees env s q [] st inside written =
       λ all. record { new = []; made = tt; stands = stands_local types Sees env s env.local st st.place.regions.0 }
-  declarations_known types Sees env s q (d ∷ ds) st written =
+  declarations_known types Sees env s q (d ∷ ds) st inside written =
       answered (Rest types Sees env) q _
       (part_so (λ x. AreMade types Sees env s x × Leads p facts are inst shape_of env.generic s x.next) (Rest types Sees env) (declared env s d).answer
       (λ x. all_declared (with_local env x.region) x.next q ds >>= (λ xs. rule (Some (record { region = xs.region; next = xs.next; made = x.made ++ xs.made }))))
       (both_ok (AreMade types Sees env s) (λ x. Leads p facts are inst shape_of env.generic s x.next) (declared env s d).answer
-      (declaration_known types Sees env s st d written.0) (declaration_leads p facts are inst shape_of env s d))
+      (declaration_known types Sees env s st inside d written.0) (declaration_leads p facts are inst shape_of env s d))
       (λ x h. part_so
       (λ xs. Leads p facts are inst shape_of env.generic x.next xs.next
       × ((f : Final env.generic x.next) → Rest (with_types types h.0.new) (behind_all Sees x.made) (with_local env x.region) xs))
@@ -466,7 +460,7 @@ module _ (p : Program) (facts : List Facts) (has : HaveFacts p.instances facts) 
       (all_declared (with_local env x.region) x.next q ds).answer (declarations_lead p facts are inst shape_of (with_local env x.region) x.next q ds)
       (each_ok (λ (f : Final env.generic x.next) xs. Rest (with_types types h.0.new) (behind_all Sees x.made) (with_local env x.region) xs)
       (all_declared (with_local env x.region) x.next q ds).answer
-      (λ f. declarations_known (with_types types h.0.new) (behind_all Sees x.made) (with_local env x.region) x.next q ds (h.0.stands f) written.1)))
+      (λ f. declarations_known (with_types types h.0.new) (behind_all Sees x.made) (with_local env x.region) x.next q ds (h.0.stands f) inside written.1)))
       (λ xs k all. let first = k.0.back (h.1.counted st.counted) all in all_joined types Sees env s x xs h.0 first all (k.1 first all))))
 
   -- a later state
@@ -479,5 +473,4 @@ module _ (p : Program) (facts : List Facts) (has : HaveFacts p.instances facts) 
     older = λ u n h e. let few = st.older u n h e in let rise = go.rise in omega (arith, few, rise);
     counted = go.counted st.counted;
     alone = st.alone;
-    inside = st.inside;
   }

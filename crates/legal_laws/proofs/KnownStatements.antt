@@ -89,7 +89,6 @@ module _ (p : Program) (facts : List Facts) (has : HaveFacts p.instances facts) 
     older = st.older;
     counted = st.counted;
     alone = st.alone;
-    inside = st.inside;
   }
 
   pub in_handler_stands : (types : AdaType → Type 0) (Sees : tree.Object → Type 0) (env : Env) (s : State) → Standing types Sees env s → Standing types Sees (in_handler env) s
@@ -100,7 +99,6 @@ module _ (p : Program) (facts : List Facts) (has : HaveFacts p.instances facts) 
     older = st.older;
     counted = st.counted;
     alone = st.alone;
-    inside = st.inside;
   }
 
   pub opened_stands : (types : AdaType → Type 0) (Sees : tree.Object → Type 0) (env : Env) (s : State) → Standing types Sees env s → Standing types Sees (opened env) s
@@ -111,7 +109,6 @@ module _ (p : Program) (facts : List Facts) (has : HaveFacts p.instances facts) 
     older = st.older;
     counted = st.counted;
     alone = st.alone;
-    inside = refl;
   }
 
   -- in a for loop its parameter is visible
@@ -139,7 +136,6 @@ module _ (p : Program) (facts : List Facts) (has : HaveFacts p.instances facts) 
         older = now.older;
         counted = omega (arith, count);
         alone = st.alone;
-        inside = refl;
       }
 
   -- a rule on types that a statement has to pass
@@ -374,7 +370,7 @@ module _ (p : Program) (facts : List Facts) (has : HaveFacts p.instances facts) 
         (λ x. all_handled (with_local (opened env) x.region) x.next q h >>= (λ f. rule (Some (one (tree.block_statement (block_of x.made f.value)) f.next))))
         (both_ok (LeadsOn p facts are inst shape_of env.generic s) (λ x. Final env.generic x.next → AreAllMade p facts has are inst shape_of types Sees (opened env) x)
         (all_declared (opened env) s q (declarations_in ds)).answer (declarations_lead p facts are inst shape_of (opened env) s q (declarations_in ds))
-        (declarations_known p facts has are inst shape_of types Sees (opened env) s q (declarations_in ds) inner (declared_texts ds written.0)))
+        (declarations_known p facts has are inst shape_of types Sees (opened env) s q (declarations_in ds) inner refl (declared_texts ds written.0)))
         (λ x k. part_so
         (λ f. Ahead env.generic x.next f
         × ((now : Final env.generic x.next) → Final env.generic f.next → FrameShown (behind_all Sees x.made) (with_local (opened env) x.region) f.value))

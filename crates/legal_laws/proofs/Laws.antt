@@ -1,5 +1,5 @@
 -- The laws of the layers, over lists of types and of visible objects.
-use Rattle.std.proofs.Common.{◌≡◌, ◌≤◌, ℕ, Bool, List, [], ◌∷◌, length, Some, IfOk, slice_get}
+use Rattle.std.proofs.Common.{◌≡◌, ◌≤◌, ℕ, Bool, false, List, [], ◌∷◌, length, Some, IfOk, slice_get}
 use Rattle.std.specs.Prelude.{unwrap_or}
 use Rattle.cov_base.specs.declared.position.Pos.{Pos}
 use Rattle.cov_base.specs.Lists.{Everywhere}
@@ -32,13 +32,13 @@ use Rattle.legal_laws.proofs.UnitBodies.{subprogram_known, packaged_known}
 
 pub declarations_law : (p : Program) (facts : List Facts) → HaveFacts p.instances facts → Everywhere AreFactsInBase facts → (inst : ℕ)
     (shape_of : Object → Shape) (types : List AdaType) (seen : List Object) (env : Env) (s : State) (q : Pos) (ds : List Declaration)
-    → Stands p inst shape_of (IsOneOf types) (IsOneOf seen) env s → AreWritten ds
+    → Stands p inst shape_of (IsOneOf types) (IsOneOf seen) env s → env.is_library ≡ false → AreWritten ds
     → IfOk (all_declared env s q ds).answer
     (λ x. IsFinal facts inst p shape_of env.generic x.next → AreDeclarations p inst shape_of (IsOneOf seen) x.made)
-declarations_law p facts has are inst shape_of types seen env s q ds st written =
+declarations_law p facts has are inst shape_of types seen env s q ds st inside written =
     weaker_ok (λ x. IsFinal facts inst p shape_of env.generic x.next → AreAllMade p facts has are inst shape_of (IsOneOf types) (IsOneOf seen) env x)
     (λ x. IsFinal facts inst p shape_of env.generic x.next → AreDeclarations p inst shape_of (IsOneOf seen) x.made) (all_declared env s q ds).answer
-    (declarations_known p facts has are inst shape_of (IsOneOf types) (IsOneOf seen) env s q ds st written) (λ x h all. (h all).made)
+    (declarations_known p facts has are inst shape_of (IsOneOf types) (IsOneOf seen) env s q ds st inside written) (λ x h all. (h all).made)
 
 pub statements_law : (p : Program) (facts : List Facts) → HaveFacts p.instances facts → Everywhere AreFactsInBase facts → (inst : ℕ)
     (shape_of : Object → Shape) (function : Bool) (types : List AdaType) (seen : List Object) (env : Env) (s : State) (q : Pos) (ss : Statements)

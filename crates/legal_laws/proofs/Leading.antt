@@ -302,7 +302,7 @@ module _ (p : Program) (facts : List Facts) (are : Everywhere AreFactsInBase fac
   exceptions_lead env s region (i ∷ is) =
       leads_both env.generic s (exception_declared env i s) _ (leads_raised env.generic env i s) (exceptions_lead env (exception_declared env i s) _ is)
 
-  library_leads : (env : Env) (c : Constancy) (region : Region) (is : List Identifier) (t : AdaSubtype) (v : LibraryValue) (s : State)
+  pub library_leads : (env : Env) (c : Constancy) (region : Region) (is : List Identifier) (t : AdaSubtype) (v : LibraryValue) (s : State)
       → LeadsOn env.generic s (library_declared env c region is t v s)
   library_leads env c region is t v s =
       let k = known_constant env c t (λ e. Some e) v.known s in

@@ -97,7 +97,6 @@ first_stands p shape_of seen = record {
   older = none_declared;
   counted = refl;
   alone = λ h. refl;
-  inside = refl;
 }
   where
     none_declared : (t : AdaType) (n : ℕ) → IsOneOf predefined_types t → identity_of t ≡ declared_in (owner_of (opened first_env)) (opened first_env).unit_number n → n < beginning_state.types

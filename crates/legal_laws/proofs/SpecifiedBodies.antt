@@ -122,7 +122,6 @@ module _ (p : Program) (facts : List Facts) (has : HaveFacts p.instances facts) 
         older = λ u n i e. let few = st.older u n i e in let rise = c.leads.rise in omega (arith, few, rise);
         counted = c.leads.counted refl;
         alone = st.alone;
-        inside = refl;
       }
         where
           own_if : (b : Bool) (r own : Region) → IsRegion p inst types shapes Starts r → IsRegion p inst types shapes Starts own

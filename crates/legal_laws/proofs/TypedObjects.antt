@@ -83,7 +83,7 @@ module _ (p : Program) (facts : List Facts) (has : HaveFacts p.instances facts) 
   abbrev TypedBy : {A : Type 0} → Option ℕ → State → Given A → Type 0
   TypedBy o s g = Final o g.next → Typed s g.next
 
-  module _ (types : AdaType → Type 0) (Sees : tree.Object → Type 0) (env : Env) (s : State) (st : Standing types Sees env s) where
+  module _ (types : AdaType → Type 0) (Sees : tree.Object → Type 0) (env : Env) (s : State) (st : Standing types Sees env s) (inside : env.is_library ≡ false) where
     abbrev Indicated : (region : Region) → IsRegion p inst types shape_of Sees region → Given AdaSubtype → Type 0
     Indicated region h x =
         IsIndicated p facts has are inst types st.apart shape_of Sees (with_local env region) (local_known p inst types shape_of Sees env region st.place h) st.world s x
@@ -97,13 +97,13 @@ module _ (p : Program) (facts : List Facts) (has : HaveFacts p.instances facts) 
     objects_typed : (q : Pos) (c : Constancy) (region : Region) (h : IsRegion p inst types shape_of Sees region) (is : List Identifier) (x : Given AdaSubtype)
         (i : Option Initial) → Indicated region h x → IfPassed (objects_declared env q c region is x i).outcome (TypedOn env.generic s)
     objects_typed q c region h is x None k =
-        inside_only (TypedOn env.generic s) env.is_library _ _ st.inside
+        inside_only (TypedOn env.generic s) env.is_library _ _ inside
         (typed_so (TypedOn env.generic s) env.step (local_bare c region is x) (option_map (λ u. local_bare c region is x) (may_be_bare c)) st.place.step
         (mapped_any (TypedOn env.generic s) (may_be_bare c) (local_bare c region is x)
         (λ all ws. let first = (leads_objects p facts are inst shape_of env.generic x.value is x.next).back (now x.next k.only) all in
         counted_typed x.value is x.next.words (is_typed x.value (k.subtype first.serves)) (typed_statics s x.next k.only ws))))
     objects_typed q c region h is x (Some i) k =
-        inside_only (TypedOn env.generic s) env.is_library _ _ st.inside
+        inside_only (TypedOn env.generic s) env.is_library _ _ inside
         (part_so (λ v. Behind x.next v × Ahead env.generic x.next v) (TypedOn env.generic s) (new_value (with_local env region) x.next x.value i).answer
         (λ v. typed_rule env.step (local_set env q c region is x.value v) (option_map (λ u. local_set env q c region is x.value v) (one_name is)))
         (both_ok (Behind x.next) (Ahead env.generic x.next) (new_value (with_local env region) x.next x.value i).answer
@@ -149,23 +149,23 @@ module _ (p : Program) (facts : List Facts) (has : HaveFacts p.instances facts) 
     declaration_typed d = answered (TypedOn env.generic s) d.pos (kind_declared env s d.pos d.kind).outcome (kind_typed d.pos d.kind)
 
   pub declarations_typed : (types : AdaType → Type 0) (Sees : tree.Object → Type 0) (env : Env) (s : State) (q : Pos) (ds : List Declaration)
-      → Standing types Sees env s → AreWritten ds → IfOk (all_declared env s q ds).answer (TypedOn env.generic s)
-  declarations_typed types Sees env s q [] st written = λ all ws. ws
-  declarations_typed types Sees env s q (d ∷ ds) st written =
+      → Standing types Sees env s → env.is_library ≡ false → AreWritten ds → IfOk (all_declared env s q ds).answer (TypedOn env.generic s)
+  declarations_typed types Sees env s q [] st inside written = λ all ws. ws
+  declarations_typed types Sees env s q (d ∷ ds) st inside written =
       answered (TypedOn env.generic s) q _
       (part_so (λ x. (AreMade p facts has are inst shape_of types Sees env s x × Go env.generic s x.next) × TypedOn env.generic s x) (TypedOn env.generic s) (declared env s d).answer
       (λ x. all_declared (with_local env x.region) x.next q ds >>= (λ xs. rule (Some (record { region = xs.region; next = xs.next; made = x.made ++ xs.made }))))
       (both_ok (λ x. AreMade p facts has are inst shape_of types Sees env s x × Go env.generic s x.next) (TypedOn env.generic s) (declared env s d).answer
       (both_ok (AreMade p facts has are inst shape_of types Sees env s) (λ x. Go env.generic s x.next) (declared env s d).answer
-      (declaration_known p facts has are inst shape_of types Sees env s st d written.0) (declaration_leads p facts are inst shape_of env s d))
-      (declaration_typed types Sees env s st d))
+      (declaration_known p facts has are inst shape_of types Sees env s st inside d written.0) (declaration_leads p facts are inst shape_of env s d))
+      (declaration_typed types Sees env s st inside d))
       (λ x h. part_so (λ xs. Go env.generic x.next xs.next × ((f : Final env.generic x.next) → TypedOn env.generic x.next xs)) (TypedOn env.generic s)
       (all_declared (with_local env x.region) x.next q ds).answer
       (λ xs. rule (Some (record { region = xs.region; next = xs.next; made = x.made ++ xs.made })))
       (both_ok (λ xs. Go env.generic x.next xs.next) (λ xs. (f : Final env.generic x.next) → TypedOn env.generic x.next xs)
       (all_declared (with_local env x.region) x.next q ds).answer (declarations_lead p facts are inst shape_of (with_local env x.region) x.next q ds)
       (each_ok (λ (f : Final env.generic x.next) xs. TypedOn env.generic x.next xs) (all_declared (with_local env x.region) x.next q ds).answer
-      (λ f. declarations_typed (with_types types h.0.0.new) (behind_all Sees x.made) (with_local env x.region) x.next q ds (h.0.0.stands f) written.1)))
+      (λ f. declarations_typed (with_types types h.0.0.new) (behind_all Sees x.made) (with_local env x.region) x.next q ds (h.0.0.stands f) inside written.1)))
       (λ xs k all ws. let first = k.0.back (h.0.1.counted st.counted) all in k.1 first all (h.1 first ws))))
 
   led : (types : AdaType → Type 0) (Sees : tree.Object → Type 0) (env : Env) (s t : State) → Standing types Sees env s → Go env.generic s t → Standing types Sees env t
@@ -354,8 +354,8 @@ module _ (p : Program) (facts : List Facts) (has : HaveFacts p.instances facts) 
         (all_declared (opened env) s q (declarations_in ds)).answer
         (both_ok (λ x. Go env.generic s x.next) (TypedOn env.generic s) (all_declared (opened env) s q (declarations_in ds)).answer
         (declarations_lead p facts are inst shape_of (opened env) s q (declarations_in ds))
-        (declarations_typed types Sees (opened env) s q (declarations_in ds) inner (declared_texts ds written.0)))
-        (declarations_known p facts has are inst shape_of types Sees (opened env) s q (declarations_in ds) inner (declared_texts ds written.0)))
+        (declarations_typed types Sees (opened env) s q (declarations_in ds) inner refl (declared_texts ds written.0)))
+        (declarations_known p facts has are inst shape_of types Sees (opened env) s q (declarations_in ds) inner refl (declared_texts ds written.0)))
         (λ x k. part_so (λ f. Ahead env.generic x.next f × ((g : Final env.generic x.next) → TypedBy env.generic x.next f)) (TypedBy env.generic s)
         (all_handled (with_local (opened env) x.region) x.next q h).answer
         (λ f. rule (Some (one (tree.block_statement (block_of x.made f.value)) f.next)))

@@ -31,7 +31,6 @@ pub record Stands (p : Program) (inst : ℕ) (shape_of : Object → Shape) (decl
   pub older : AreOlder declared env s
   pub counted : s.objects ≡ length s.words
   pub alone : env.generic ≡ None → inst ≡ 0
-  pub inside : env.is_library ≡ false
 
 -- what `return` gives: a procedure nothing, a function a value of a scalar subtype (RM 6.5)
 abbrev pub ReturnsAs : Program → (inst : ℕ) → (AdaType → Type 0) → (function : Bool) → Returning → Type 0

@@ -12,7 +12,7 @@
 //! The functions here do nothing: each carries a law of the definitions as its contract.
 #![tactic(auto)]
 
-ghost use Rattle.std.specs.Prelude.{◌≡◌, ◌≤◌, ◌∷◌, ℕ, Bool, true, List, Option, None, Some, IfOk, length, reverse, slice_get, unwrap_or};
+ghost use Rattle.std.specs.Prelude.{◌≡◌, ◌≤◌, ◌∷◌, ℕ, Bool, false, true, List, Option, None, Some, IfOk, length, reverse, slice_get, unwrap_or};
 ghost use Rattle.cov_base.specs.Lists.{Everywhere};
 ghost use Rattle.cov_base.specs.declared.position.Pos.{Pos};
 ghost use Rattle.ada_syntax.specs.StatementTree.{Statements};
@@ -91,7 +91,8 @@ pub fn demands_give_values()
 pub fn declarations_are_well_formed()
     ensures { (p : Program) (facts : List Facts) → HaveFacts p.instances facts → Everywhere AreFactsInBase facts → (inst : ℕ)
         (shape_of : Object → Shape) (types : List AdaType) (seen : List Object) (env : Env) (s : State) (q : Pos)
-        (ds : List Declaration) → Stands p inst shape_of (IsOneOf types) (IsOneOf seen) env s → AreWritten ds
+        (ds : List Declaration) → Stands p inst shape_of (IsOneOf types) (IsOneOf seen) env s
+        → env.is_library ≡ false → AreWritten ds
         → IfOk (all_declared env s q ds).answer (λ x. IsFinal facts inst p shape_of env.generic x.next
         → AreDeclarations p inst shape_of (IsOneOf seen) x.made) }
 {}
