@@ -32,3 +32,4 @@ mod UnitBodies
 mod Laws
 mod Predefined
 mod ScopedValues
+mod LibraryDeclarations

@@ -6,3 +6,4 @@ pub mod Served
 pub mod Written
 pub mod Standing
 pub mod Scoped
+pub mod LibraryLevel
