@@ -19,10 +19,10 @@ use Rattle.ada_meaning.specs.Types.{Static}
 use Rattle.ada_meaning.specs.WellFormed.{HasNumber, IsType, IsInitial, behind_all}
 use Rattle.ada_rules.specs.Plan.{Plan, ◌>>=◌, rule, outcome_after, answer_at}
 use Rattle.ada_rules.specs.Types.{AdaType, integer_type, enumeration, formal_type, array_type, record_type, AdaSubtype, of_type, type_in, range_in, Kind, fits, subtype_in_tree}
-use Rattle.ada_rules.specs.Entities.{key, Region, redefined}
+use Rattle.ada_rules.specs.Entities.{key, raisable, Region, redefined}
 use Rattle.ada_rules.specs.Environment.{typed_rule, State, Given, given, Env, with_local, owner_of, new_identity, one_type_more, hide, hide_all}
 use Rattle.ada_rules.specs.Expressions.{Valued, static_part}
-use Rattle.ada_rules.specs.Declarations.{in_range, indicated, defined, innermost, initial_for, LibraryValue, known_value, library_value, Declared, may_be_bare, one_name, known_constant, object_entity, library_entities, library_objects, with_library_objects, library_declared, no_library_value, local_bare, local_set, new_value, objects_declared, exceptions_from, type_declared, subtype_declared, kind_declared, declared}
+use Rattle.ada_rules.specs.Declarations.{in_range, indicated, defined, innermost, initial_for, LibraryValue, known_value, library_value, Declared, may_be_bare, one_name, known_constant, object_entity, library_entities, library_objects, with_library_objects, library_declared, no_library_value, local_bare, local_set, new_value, objects_declared, exception_declared, exceptions_from, type_declared, subtype_declared, kind_declared, declared}
 use Rattle.ada_rules.specs.Statics.{Facts}
 use Rattle.legal_laws.specs.Kept.{OnlyStatics}
 use Rattle.legal_laws.specs.Known.{IsKnownSubtype, IsRegion}
@@ -165,3 +165,86 @@ module _ (p : Program) (facts : List Facts) (has : HaveFacts p.instances facts) 
           only = ap (λ y. y.objects_declared) k.only;
           initial = l;
         }))))
+
+    module _ (library : env.is_library ≡ true) where
+      objects_known : (q : Pos) (c : Constancy) (region : Region) (h : IsRegion p inst types shape_of Sees region) (is : List Identifier) (x : Given AdaSubtype)
+          (i : Option Initial) → Marked region h x → IfPassed (objects_declared env q c region is x i).outcome Made
+      objects_known q c region h is x None k =
+          at_library Made env.is_library _ (typed_rule env.step (local_bare c region is x) (option_map (λ u. local_bare c region is x) (may_be_bare c))) library
+          (typed_so Made env.step (library_declared env c region is x.value no_library_value x.next)
+          (option_map (λ u. library_declared env c region is x.value no_library_value x.next) (may_be_bare c)) st.place.step
+          (mapped_any Made (may_be_bare c) (library_declared env c region is x.value no_library_value x.next)
+          (objects_made c region h is x.value no_library_value x.next (leads_statics p facts are inst shape_of env.generic s x.next k.only k.before)
+          (ap (λ y. y.objects_declared) k.only) (λ f. (k.subtype f.serves, tt)))))
+      objects_known q c region h is x (Some i) k =
+          at_library Made env.is_library _
+          (new_value (with_local env region) x.next x.value i >>= (λ v. typed_rule env.step (local_set env q c region is x.value v)
+          (option_map (λ u. local_set env q c region is x.value v) (one_name is)))) library
+          (part_so (IsLibraryValue x.next) Made (library_value (with_local env region) x.next x.value i).answer
+          (λ v. typed_rule env.step (library_declared env c region is x.value v.value v.next)
+          (option_map (λ u. library_declared env c region is x.value v.value v.next) (one_name is)))
+          (value_made region h x.next x.value i)
+          (λ v g. typed_so Made env.step _ _ st.place.step
+          (mapped_any Made (one_name is) (library_declared env c region is x.value v.value v.next)
+          (objects_made c region h is x.value v.value v.next
+          (leads_both p facts are inst shape_of env.generic s x.next v.next (leads_statics p facts are inst shape_of env.generic s x.next k.only k.before) g.leads)
+          (g.only ∙ ap (λ y. y.objects_declared) k.only)
+          (λ f. (k.subtype (g.leads.back (ap (λ y. y.objects) k.only ∙ st.counted ∙ sym (ap (λ y. length y.words) k.only)) f).serves, g.initial f))))))
+
+      -- what declares no object
+      as_library : (x : Declared) → x.made ≡ [] → x.next.objects_declared ≡ s.objects_declared → AreMade p facts has are inst shape_of types Sees env s x → Made x
+      as_library x none same h all objects = record {
+        new = h.new;
+        stands = subst (λ ds. Stands p inst shape_of (with_types types h.new) (behind_all Sees ds) (with_local env x.region) x.next) none (h.stands all);
+        formed = λ f. subst Formed (sym same) f;
+      }
+
+      exceptions_objects : (u : State) (region : Region) (is : List Identifier) → (exceptions_from env u region is).next.objects_declared ≡ u.objects_declared
+      exceptions_objects u region [] = refl
+      exceptions_objects u region (i ∷ is) =
+          exceptions_objects (exception_declared env i u) (redefined (key i) (raisable (tree.declared (owner_of env) u.exceptions)) region) is
+
+      kind_library : (q : Pos) (d : DeclarationKind) → IsWritten d → IfPassed (kind_declared env s q d).outcome Made
+      kind_library q (declares.Type i d) written =
+          part_so (IsRegion p inst types shape_of Sees) Made (hide env.local i).answer
+          (λ region. defined (with_local env region) (one_type_more s) q (new_identity env s) d >>= (λ x. rule (Some (type_declared env q i (new_identity env s) x))))
+          (hidden_known p inst types shape_of Sees env.local i st.place.regions.0)
+          (λ region h. part_so (IsDefined p facts has are inst shape_of types st.apart Sees env.generic (one_type_more s) (new_identity env s)) Made
+          (defined (with_local env region) (one_type_more s) q (new_identity env s) d).answer
+          (λ x. rule (Some (type_declared env q i (new_identity env s) x)))
+          (defined_known p facts has are inst shape_of types st.apart Sees (with_local env region)
+          (local_known p inst types shape_of Sees env region st.place h) st.world (one_type_more s) q (new_identity env s) d written)
+          (λ x k. as_library (type_declared env q i (new_identity env s) x) refl (ap (λ y. y.objects_declared) k.only)
+          (type_made p facts has are inst shape_of types Sees env s st q i x k)))
+      kind_library q (declares.Subtype i t) written =
+          part_so (IsRegion p inst types shape_of Sees) Made (hide env.local i).answer
+          (λ region. indicated (with_local env region) (one_type_more s) t >>= (λ x. rule (Some (subtype_declared i region (new_identity env s) x))))
+          (hidden_known p inst types shape_of Sees env.local i st.place.regions.0)
+          (λ region h. part_so (Indicated p facts has are inst shape_of types Sees env s st region h (one_type_more s)) Made
+          (indicated (with_local env region) (one_type_more s) t).answer (λ x. rule (Some (subtype_declared i region (new_identity env s) x)))
+          (indicated_known p facts has are inst types st.apart shape_of Sees (with_local env region)
+          (local_known p inst types shape_of Sees env region st.place h) st.world (one_type_more s) t)
+          (λ x k. as_library (subtype_declared i region (new_identity env s) x) refl (ap (λ y. y.objects_declared) k.only)
+          (subtype_made p facts has are inst shape_of types Sees env s st i region h x k)))
+      kind_library q (declares.Object is c t i) written =
+          part_so (IsRegion p inst types shape_of Sees) Made (hide_all q env.local is).answer
+          (λ region. indicated (with_local env region) s t >>= (λ x. objects_declared env q c region is x i))
+          (all_hidden_known p inst types shape_of Sees q env.local is st.place.regions.0)
+          (λ region h. part_so (Marked region h) Made (indicated (with_local env region) s t).answer (λ x. objects_declared env q c region is x i)
+          (indicated_known p facts has are inst types st.apart shape_of Sees (with_local env region)
+          (local_known p inst types shape_of Sees env region st.place h) st.world s t)
+          (λ x k. objects_known q c region h is x i k))
+      kind_library q (declares.Exception is) written =
+          part_so (IsRegion p inst types shape_of Sees) Made (hide_all q env.local is).answer (λ region. rule (Some (exceptions_from env s region is)))
+          (all_hidden_known p inst types shape_of Sees q env.local is st.place.regions.0)
+          (λ region h. as_library (exceptions_from env s region is) (numbering.exceptions_made env s region is) (exceptions_objects s region is)
+          (exceptions_made p facts has are inst shape_of types Sees env st.alone s region is st h))
+      kind_library q (declares.Pragma a) written = λ all objects. record {
+        new = [];
+        stands = stands_local p facts has are inst shape_of types Sees env s env.local st st.place.regions.0;
+        formed = λ f. f;
+      }
+
+      -- a declaration of the library level
+      pub library_known : (d : Declaration) → IsWritten d.kind → IfOk (declared env s d).answer Made
+      library_known d written = answered Made d.pos (kind_declared env s d.pos d.kind).outcome (kind_library d.pos d.kind written)
