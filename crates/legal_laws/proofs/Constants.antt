@@ -18,10 +18,10 @@ use Rattle.ada_rules.specs.Declarations.{numbered}
 use Rattle.ada_rules.specs.Expressions.{entered_constant, value_named, static_known}
 use Rattle.ada_rules.specs.Statics.{Test, Facts, instance_values, value_in, holds}
 use Rattle.legal_laws.specs.Demanded.{IsDemanded}
-use Rattle.legal_laws.specs.Kept.{OnlyDecides, with_statics, OnlyStatics}
+use Rattle.legal_laws.specs.Kept.{OnlyDecides, OnlyStatics}
 use Rattle.legal_laws.specs.Served.{HaveValues, HaveOwnValues, AreLimited, Serves, AreShaped, AreListed, IsFinal}
 use Rattle.legal_laws.specs.Valued.{AreFactsInBase, HaveFacts}
-use Rattle.legal_laws.proofs.KeptStatics.{with_named, OnlyNames, named_only, decides_statics}
+use Rattle.legal_laws.proofs.KeptStatics.{named_only}
 use Rattle.legal_laws.proofs.Values.{value_alike, value_in_base, facts_in_base}
 
 within_base : (o : Option ℤ) → IfSome o IsInBase → within o (Some base_range) ≡ o

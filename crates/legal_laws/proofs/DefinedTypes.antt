@@ -1,12 +1,9 @@
 -- Type definitions in the step of types: the type that is defined is known beside those before.
-use Rattle.std.proofs.Common.{◌≡◌, ◌⊎◌, ◌≤◌, ◌+◌, ℕ, suc, ℤ, pos, ◌-ℤ◌, int_le, Bool, true, false, if◌then◌else◌, List, [], ◌∷◌, length, Option, Some, None, IfSome, IfOk, refl, sym, ap, ◌∙◌, subst, arith, inl, inr}
+use Rattle.std.proofs.Common.{◌≡◌, ◌≤◌, ◌+◌, ℕ, pos, ◌-ℤ◌, int_le, true, if◌then◌else◌, List, [], ◌∷◌, length, Option, Some, None, IfOk, refl, sym, subst, arith, inl, inr}
 use Rattle.std.proofs.lemmas.Int.{ints}
 use Rattle.cov_base.specs.declared.position.Pos.{Pos}
 use Rattle.cov_base.specs.Lists.{Everywhere}
-use Rattle.ada_syntax.specs.declared.declaration.Bounds.{Bounds}
 use Rattle.ada_syntax.specs.declared.declaration.Component.{Component}
-use Rattle.ada_syntax.specs.declared.declaration.DiscreteRange.{DiscreteRange}
-use Rattle.ada_syntax.specs.declared.declaration.SubtypeIndication.{SubtypeIndication}
 use Rattle.ada_syntax.specs.declared.declaration.TypeDefinition.{TypeDefinition}
 use Rattle.ada_syntax.specs.declared.declaration.TypeDefinition.TheVariants as definition
 use Rattle.ada_syntax.specs.declared.name.Identifier.{Identifier}
@@ -16,8 +13,8 @@ use Rattle.ada_meaning.specs.Shape.{Shape}
 use Rattle.ada_meaning.specs.Statics.{in_base, bounds_between}
 use Rattle.ada_meaning.specs.Tree as tree
 use Rattle.ada_meaning.specs.WellFormed.{HasChoice}
-use Rattle.ada_rules.specs.Plan.{Plan, ◌>>=◌, rule, outcome_after, answer_at}
-use Rattle.ada_rules.specs.Types.{Identity, AdaType, integer_type, enumeration, array_type, record_type, AdaSubtype, of_type, Fields, no_field, and_field, identity_of, type_in, range_in, base, numbers, is_integral, subtype_in_tree}
+use Rattle.ada_rules.specs.Plan.{◌>>=◌, rule}
+use Rattle.ada_rules.specs.Types.{Identity, AdaType, integer_type, enumeration, array_type, record_type, AdaSubtype, of_type, Fields, identity_of, type_in, base, is_integral, subtype_in_tree}
 use Rattle.ada_rules.specs.Entities.{key, Entity, literal, component, Region, redefined}
 use Rattle.ada_rules.specs.Environment.{State, Given, given, Env, with_local, opened, hide_all}
 use Rattle.ada_rules.specs.Declarations.{bounded, indicated, index_of, with_fields, all_as, fields_of, Defined, literals, enumerated, unchanged, defined}

@@ -1,17 +1,16 @@
 -- The body of a function returns a value where its text returns, and that of a procedure never does.
-use Rattle.std.proofs.Common.{◌≡◌, ℕ, nat_eq, Bool, true, false, if◌then◌else◌, List, [], ◌∷◌, ◌++◌, length, Option, Some, None, option_map, IfSome, IfOk, refl, sym, ap, ◌∙◌}
+use Rattle.std.proofs.Common.{◌≡◌, nat_eq, Bool, true, false, if◌then◌else◌, List, [], ◌∷◌, ◌++◌, length, Option, Some, None, option_map, IfSome, IfOk, refl, sym, ap, ◌∙◌}
 use Rattle.std.specs.Prelude.{◌&&◌, ◌||◌, is_none}
 use Rattle.cov_base.specs.declared.position.Pos.{Pos}
 use Rattle.ada_syntax.specs.StatementTree as text
-use Rattle.ada_syntax.specs.Tree as source
 use Rattle.ada_syntax.specs.declared.statement.LoopScheme.TheVariants as scheme
-use Rattle.ada_meaning.specs.Declared.{gives, some_gives, branch_gives, alternative_gives, handler_gives, block_gives}
+use Rattle.ada_meaning.specs.Declared.{gives, some_gives, branch_gives, alternative_gives, handler_gives}
 use Rattle.ada_meaning.specs.Tree as tree
-use Rattle.ada_rules.specs.Plan.{Plan, ◌>>=◌, rule, outcome_after, answer_at}
-use Rattle.ada_rules.specs.Types.{type_in, range_in, fits}
-use Rattle.ada_rules.specs.Entities.{key, Parameter, Routine}
-use Rattle.ada_rules.specs.Environment.{Step, typing, Returning, no_result, result_of, typed_rule, State, Given, given, Env, with_local, opened, in_loop, in_handler, demanded, hide, statement_label, started}
-use Rattle.ada_rules.specs.Denoted.{Judged, expr_of, Denoted, a_mark, a_value, a_variable, a_routine, a_call, an_exception, a_unit, the_test_io, a_thing}
+use Rattle.ada_rules.specs.Plan.{◌>>=◌, rule}
+use Rattle.ada_rules.specs.Types.{type_in, fits}
+use Rattle.ada_rules.specs.Entities.{key, Parameter}
+use Rattle.ada_rules.specs.Environment.{typing, Returning, no_result, result_of, typed_rule, State, Given, given, Env, with_local, opened, in_loop, in_handler, hide, statement_label, started}
+use Rattle.ada_rules.specs.Denoted.{Judged, Denoted, a_mark, a_value, a_variable, a_routine, a_call, an_exception, a_unit, the_test_io, a_thing}
 use Rattle.ada_rules.specs.Expressions.{itself, denoted, judged, decision}
 use Rattle.ada_rules.specs.Declarations.{new_value, all_declared}
 use Rattle.ada_rules.specs.Statements.{stmts_of, one, target, call_of, Chosen, branches_of, Selector, selector, all_chosen, Arm, alternatives_of, ends_with_others, case_of, turned, loop_parameter, one_object_more, is_reverse, returned, returned_value, exception_of, where_allowed, all_caught, is_last, declarations_in, Frame, block_of, typed_stmt, stated, all_stated, branched, all_arms, all_handlers, all_handled, has_return, any_return, branches_return, arms_return, handlers_return, frame_returns}

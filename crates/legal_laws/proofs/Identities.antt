@@ -1,10 +1,10 @@
 -- A type with a new identity is known beside those before.
-use Rattle.std.proofs.Common.{◌≡◌, ◌⊎◌, ◌<◌, ◌+◌, ℕ, nat_eq, Bool, true, false, List, [], ◌∷◌, ◌++◌, refl, sym, ap, ◌∙◌, subst, arith, inl, inr}
+use Rattle.std.proofs.Common.{◌≡◌, ◌<◌, ◌+◌, ℕ, nat_eq, true, List, [], ◌∷◌, ◌++◌, refl, sym, ap, ◌∙◌, arith, inl, inr}
 use Rattle.std.specs.Prelude.{◌&&◌}
 use Rattle.std.proofs.lemmas.Bool.{eqb-true, false≢true}
 use Rattle.ada_meaning.specs.Types.{Owner, here, of_instance}
 use Rattle.ada_rules.specs.Environment.{State, Env, owner_of, new_identity}
-use Rattle.ada_rules.specs.Types.{Identity, integer, natural, positive, boolean, declared_in, same_owner, same_identity, AdaType, identity_of, same_type}
+use Rattle.ada_rules.specs.Types.{Identity, integer, natural, positive, boolean, declared_in, same_owner, same_identity, AdaType, identity_of}
 use Rattle.legal_laws.specs.Known.{AreApart}
 use Rattle.legal_laws.specs.Standing.{with_type, with_types, AreOlder}
 use Rattle.legal_laws.proofs.Passing.{both_true}

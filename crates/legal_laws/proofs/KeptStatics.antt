@@ -1,49 +1,41 @@
 -- Static expressions, and all constructs below declarations and statements, change no more of the state than decisions, demands, constants of
 -- generics and the places where a limit is passed, in both steps.
-use Rattle.std.proofs.Common.{◌≡◌, ◌≤◌, ◌+◌, ℕ, Bool, true, false, if◌then◌else◌, List, [], ◌∷◌, ◌++◌, length, Result, Ok, Err, Option, Some, None, option_map, IfSome, IfOk, refl, sym, ap, ◌∙◌, subst, arith, le_refl, le_trans}
+use Rattle.std.proofs.Common.{◌≡◌, ℕ, Bool, true, false, List, [], ◌∷◌, Option, Some, None, option_map, IfSome, IfOk, refl, sym, ap, ◌∙◌}
 use Rattle.std.specs.Option.{option_and_then}
 use Rattle.cov_base.specs.declared.position.Pos.{Pos}
-use Rattle.cov_base.specs.Lists.{Everywhere}
 use Rattle.ada_syntax.specs.Tree as source
 use Rattle.ada_syntax.specs.Tree.{expr_pos, name_pos}
 use Rattle.ada_syntax.specs.declared.declaration.Bounds.{Bounds}
 use Rattle.ada_syntax.specs.declared.declaration.Component.{Component}
-use Rattle.ada_syntax.specs.declared.declaration.Constancy.{Constancy}
-use Rattle.ada_syntax.specs.declared.declaration.Declaration.{Declaration}
-use Rattle.ada_syntax.specs.declared.declaration.DeclarationKind.{DeclarationKind}
-use Rattle.ada_syntax.specs.declared.declaration.DeclarationKind.TheVariants as declares
 use Rattle.ada_syntax.specs.declared.declaration.DiscreteRange.{DiscreteRange}
 use Rattle.ada_syntax.specs.declared.declaration.DiscreteRange.TheVariants as discrete
 use Rattle.ada_syntax.specs.declared.declaration.Initial.{Initial}
 use Rattle.ada_syntax.specs.declared.declaration.SubtypeIndication.{SubtypeIndication}
 use Rattle.ada_syntax.specs.declared.declaration.TypeDefinition.{TypeDefinition}
 use Rattle.ada_syntax.specs.declared.declaration.TypeDefinition.TheVariants as definition
-use Rattle.ada_syntax.specs.declared.name.Identifier.{Identifier}
 use Rattle.ada_meaning.specs.Program.{Program}
 use Rattle.ada_meaning.specs.Program as program
-use Rattle.ada_meaning.specs.Shape.{Shape}
 use Rattle.ada_meaning.specs.Tree as tree
-use Rattle.ada_meaning.specs.Types.{Static, Range, Subtype}
-use Rattle.ada_rules.specs.Plan.{Plan, ◌>>=◌, rule, outcome_after, answer_at}
+use Rattle.ada_meaning.specs.Types.{Static, Range}
+use Rattle.ada_rules.specs.Plan.{◌>>=◌, rule}
 use Rattle.ada_rules.specs.Types.{Identity, integer_type, array_type, record_type, AdaSubtype, of_type, type_in, range_in, base, integer_subtype, Kind, is_integral, is_discrete, is_scalar, fits, common}
-use Rattle.ada_rules.specs.Entities.{key, component, Region}
-use Rattle.ada_rules.specs.Environment.{Step, naming, typing, typed_rule, State, Given, given, map_given, Env, with_local, opened, new_identity, one_type_more, demanded, hide, hide_all, started}
+use Rattle.ada_rules.specs.Entities.{component}
+use Rattle.ada_rules.specs.Environment.{typed_rule, State, Given, given, map_given, Env, with_local, opened, demanded, hide_all}
 use Rattle.ada_rules.specs.Denoted.{Judged}
 use Rattle.ada_rules.specs.Expressions.{itself, judged, Valued, any_valued, static_known, accepted, static_part, Marked, mark_part, scalar_mark}
-use Rattle.ada_rules.specs.Declarations.{in_range, ordered, bounded, constrained, constraint_of, indicated, index_between, index_of, with_fields, all_as, fields_of, Defined, enumerated, unchanged, defined, value_for, any_value, initial_pos, known_of, NewValue, new_value, innermost, initial_for, LibraryValue, known_value, library_value, Declared, may_be_bare, one_name, known_constant, lying_in, with_objects, local_bare, local_set, counted, with_library_objects, library_declared, library_known, no_library_value, objects_declared, exception_declared, exceptions_from, type_counted, type_declared, subtype_declared, kind_declared, declared, all_declared}
-use Rattle.ada_rules.specs.Statics.{Test, Facts, in_order}
+use Rattle.ada_rules.specs.Declarations.{in_range, ordered, bounded, constrained, constraint_of, indicated, index_between, index_of, with_fields, all_as, fields_of, enumerated, unchanged, defined, value_for, any_value, initial_pos, known_of, new_value, innermost, initial_for, known_value, library_value}
+use Rattle.ada_rules.specs.Statics.{Test, in_order}
 use Rattle.ada_syntax.specs.declared.statement.Choice.{Choice}
 use Rattle.ada_syntax.specs.declared.statement.Choice.TheVariants as choice
 use Rattle.ada_syntax.specs.declared.statement.ExceptionChoice.{ExceptionChoice}
 use Rattle.ada_syntax.specs.declared.statement.ExceptionChoice.TheVariants as taken
-use Rattle.ada_rules.specs.Statements.{stmts_of, one, any_variable, writable, target, call_of, Chosen, branches_of, Selector, any_selector, selector_of, selector, among, chosen, all_chosen, Arm, alternatives_of, ends_with_others, has_others, choices_in, case_of, Turns, any_turns, turns_between, turns_over, turned, loop_parameter, one_object_more, is_reverse, returned, returned_value, exception_of, where_allowed, caught, all_caught, is_last, declarations_in, Frame, block_of, typed_stmt, stated, all_stated, branched, all_arms, all_handlers, all_handled}
-use Rattle.ada_rules.specs.Environment.{decision_label}
+use Rattle.ada_rules.specs.Statements.{any_variable, writable, target, Selector, any_selector, selector_of, selector, among, chosen, all_chosen, any_turns, turns_between, turns_over, turned, exception_of, where_allowed, caught, all_caught}
 use Rattle.ada_meaning.specs.Program.{GenericConstant}
 use Rattle.ada_meaning.specs.Types.{static_number, static_formal, static_constant, static_first, static_last, static_length, static_sign, static_operation, static_of}
-use Rattle.ada_rules.specs.Expressions.{value_named, entered_constant, denoted, decision}
+use Rattle.ada_rules.specs.Expressions.{value_named, denoted, decision}
 use Rattle.ada_rules.specs.Declarations.{numbered}
 use Rattle.legal_laws.specs.Kept.{OnlyDecides, with_statics, OnlyStatics}
-use Rattle.legal_laws.proofs.Passing.{IfPassed, if_map, if_test, answered, ruled_so, part_so, weaker_ok, typed_either, any_answer}
+use Rattle.legal_laws.proofs.Passing.{IfPassed, if_test, answered, part_so, weaker_ok, typed_either, any_answer}
 use Rattle.legal_laws.proofs.KeptExpressions.{judged_behind, mark_part_behind, scalar_mark_behind, denoted_behind, decision_behind}
 
 -- nothing else changes where a value is named

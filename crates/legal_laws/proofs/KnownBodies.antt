@@ -1,12 +1,11 @@
 -- The body of a subprogram, where its specification is known: a well-formed subprogram in the instance.
-use Rattle.std.proofs.Common.{◌≡◌, ◌≤◌, ◌+◌, ℕ, zero, suc, Bool, true, false, if◌then◌else◌, List, [], ◌∷◌, ◌++◌, map, length, reverse, Option, Some, None, option_map, IfSome, IfOk, slice_get, refl, sym, ap, ◌∙◌, subst, arith, append_assoc, length-append}
-use Rattle.std.specs.Prelude.{◌&&◌, ◌||◌, unwrap_or}
+use Rattle.std.proofs.Common.{◌≡◌, ◌≤◌, ◌+◌, ℕ, suc, Bool, true, false, if◌then◌else◌, List, [], ◌∷◌, ◌++◌, map, length, reverse, Option, Some, None, IfOk, slice_get, refl, sym, ap, ◌∙◌, subst, arith, append_assoc, length-append}
+use Rattle.std.specs.Prelude.{◌&&◌, unwrap_or}
 use mathlib.Core.List.{reverse-cons}
-use Rattle.cov_base.specs.declared.position.Pos.{Pos}
 use Rattle.cov_base.specs.Lists.{Everywhere}
 use Rattle.ada_syntax.specs.declared.unit.SubprogramBody.{SubprogramBody}
 use Rattle.ada_meaning.specs.Arithmetic.{base_range}
-use Rattle.ada_meaning.specs.Declared.{object_shape, object_shapes, is_function, block_gives, some_gives, handler_gives}
+use Rattle.ada_meaning.specs.Declared.{object_shape, object_shapes, is_function, block_gives}
 use Rattle.ada_meaning.specs.Objects.{number_of, objects_of, all_objects, handler_objects, block_objects}
 use Rattle.ada_meaning.specs.Obligations.{numbers}
 use Rattle.ada_meaning.specs.Program.{in_mode, Subprogram, Program}
@@ -14,12 +13,11 @@ use Rattle.ada_meaning.specs.Program as program
 use Rattle.ada_meaning.specs.Resolved.{shape_in}
 use Rattle.ada_meaning.specs.Shape.{Shape, word}
 use Rattle.ada_meaning.specs.Tree as tree
-use Rattle.ada_meaning.specs.Types.{Subtype}
 use Rattle.ada_meaning.specs.WellFormed.{IsType, IsFrame, most_parameters, StartSees, IsSubprogram, behind_all}
-use Rattle.ada_rules.specs.Plan.{Plan, ◌>>=◌, rule, outcome_after, answer_at}
+use Rattle.ada_rules.specs.Plan.{◌>>=◌, outcome_after}
 use Rattle.ada_rules.specs.Types.{AdaType, subtype_in_tree}
 use Rattle.ada_rules.specs.Entities.{Parameter, Region}
-use Rattle.ada_rules.specs.Environment.{Returning, no_result, result_of, typed_rule, Words, State, Given, Env, with_local}
+use Rattle.ada_rules.specs.Environment.{typed_rule, Words, State, Given, Env, with_local}
 use Rattle.ada_rules.specs.Declarations.{Declared, all_declared}
 use Rattle.ada_rules.specs.Statements.{stmts_of, Frame, block_of, all_handled, frame_returns}
 use Rattle.ada_rules.specs.Statics.{Facts}
@@ -28,12 +26,12 @@ use Rattle.legal_laws.specs.Served.{Serves, AreShaped, AreListed, IsFinal}
 use Rattle.legal_laws.specs.Standing.{with_types, Stands, ReturnsAs}
 use Rattle.legal_laws.specs.Valued.{AreFactsInBase, HaveFacts}
 use Rattle.legal_laws.specs.Written.{AreWritten, IsHandledText}
-use Rattle.legal_laws.proofs.Passing.{IfPassed, if_test, answered, part_so, typed_so, both_ok, each_ok, weaker_ok, any_answer, every_both}
+use Rattle.legal_laws.proofs.Passing.{if_test, answered, part_so, typed_so, both_ok, each_ok, weaker_ok, any_answer, every_both}
 use Rattle.legal_laws.proofs.Giving.{returns_value, FrameAs, handled_gives}
 use Rattle.legal_laws.proofs.Identities.{types_more}
 use Rattle.legal_laws.proofs.KnownDeclarations.{AreAllMade, declarations_known}
 use Rattle.legal_laws.proofs.KnownStatements.{FrameShown, handled_known, returns_more}
-use Rattle.legal_laws.proofs.Leading.{Leads, Lead, LeadsOn, declarations_lead}
+use Rattle.legal_laws.proofs.Leading.{Lead, LeadsOn, declarations_lead}
 use Rattle.legal_laws.proofs.LeadingStatements.{handled_lead}
 use Rattle.legal_laws.proofs.NumberedObjects.{numbers_joined, Counts, counts_joined, Declares, declarations_count, handled_count}
 use Rattle.legal_laws.proofs.NumberedObjects as numbering

@@ -1,35 +1,33 @@
 -- Calls, choices, branches and handlers in the step of types.
-use Rattle.std.proofs.Common.{◌≡◌, ◌≤◌, ℕ, zero, suc, nat_eq, Bool, true, false, ◌&&◌, if◌then◌else◌, is_none, List, [], ◌∷◌, ◌++◌, length, Option, Some, None, option_map, IfSome, IfOk, refl, sym, ap, ◌∙◌, subst, arith}
-use Rattle.std.proofs.lemmas.Bool.{eqb-true, false≢true}
+use Rattle.std.proofs.Common.{◌≡◌, ◌≤◌, ℕ, nat_eq, Bool, true, false, if◌then◌else◌, is_none, List, [], ◌∷◌, ◌++◌, length, Option, Some, None, option_map, IfSome, IfOk, arith}
 use Rattle.cov_base.specs.declared.position.Pos.{Pos}
 use Rattle.cov_base.specs.Lists.{Everywhere}
 use Rattle.ada_syntax.specs.Tree.{Expr, expr_pos, name_pos}
-use Rattle.ada_syntax.specs.declared.declaration.Bounds.{Bounds}
 use Rattle.ada_syntax.specs.declared.statement.Choice.{Choice}
 use Rattle.ada_syntax.specs.declared.statement.Choice.TheVariants as choice
 use Rattle.ada_syntax.specs.declared.statement.ExceptionChoice.{ExceptionChoice}
 use Rattle.ada_syntax.specs.declared.statement.ExceptionChoice.TheVariants as taken
-use Rattle.ada_meaning.specs.Program.{Mode, in_mode, out_mode, Target, get_target, put_target, body_target, Program}
+use Rattle.ada_meaning.specs.Program.{in_mode, out_mode, Target, get_target, put_target, body_target, Program}
 use Rattle.ada_meaning.specs.Resolved.{ResolvedParameter, target_in, parameters_of}
 use Rattle.ada_meaning.specs.Shape.{Shape}
 use Rattle.ada_meaning.specs.Statics.{static_value, static_bounds, values_of}
 use Rattle.ada_meaning.specs.Tree as tree
 use Rattle.ada_meaning.specs.Types.{Static}
 use Rattle.ada_meaning.specs.WellFormed.{HasNumber, HasChoice, AreActuals, IsCall, IsException, IsChoice, IsExceptionChoice, IsStatement, AreStatements, AreBranches, AreAlternatives, IsTest}
-use Rattle.ada_rules.specs.Plan.{Plan, ◌>>=◌, rule, outcome_after, answer_at}
+use Rattle.ada_rules.specs.Plan.{◌>>=◌, rule}
 use Rattle.ada_rules.specs.Types.{AdaType, type_in, range_in, fits}
 use Rattle.ada_rules.specs.Entities.{Parameter, Routine}
 use Rattle.ada_rules.specs.Environment.{Returning, no_result, result_of, typed_rule, State, Given, given, Env, demanded}
-use Rattle.ada_rules.specs.Denoted.{Judged, expr_of, Denoted, a_mark, a_value, a_variable, a_routine, a_call, an_exception, a_unit, the_test_io, a_thing}
+use Rattle.ada_rules.specs.Denoted.{Judged, Denoted, a_mark, a_value, a_variable, a_routine, a_call, an_exception, a_unit, the_test_io, a_thing}
 use Rattle.ada_rules.specs.Expressions.{denoted, Valued, static_part}
 use Rattle.ada_rules.specs.Statements.{stmts_of, procedure_called, call_of, Chosen, branches_of, Selector, among, chosen, all_chosen, Arm, alternatives_of, returned, returned_value, exception_of, where_allowed, caught, all_caught}
 use Rattle.ada_rules.specs.Statics.{Facts, in_order, holds}
 use Rattle.legal_laws.specs.Kept.{OnlyDecides}
-use Rattle.legal_laws.specs.Known.{CallsProcedure, AreParameters, IsResult, IsRoutine, IsJudged, IsDenoted, IsEnv}
+use Rattle.legal_laws.specs.Known.{CallsProcedure, IsResult, IsJudged, IsDenoted}
 use Rattle.legal_laws.specs.Served.{Serves}
 use Rattle.legal_laws.specs.Standing.{ReturnsAs, Stands}
 use Rattle.legal_laws.specs.Valued.{AreFactsInBase, HaveFacts}
-use Rattle.legal_laws.proofs.Passing.{IfPassed, if_map, if_test, answered, part_so, typed_so, every_so}
+use Rattle.legal_laws.proofs.Passing.{if_map, if_test, answered, part_so, typed_so}
 use Rattle.legal_laws.proofs.Values.{choice_demanded}
 use Rattle.legal_laws.proofs.Constants.{serves_demanded}
 use Rattle.legal_laws.proofs.KnownTypes.{order_bounds, range_known, type_known, scalar_fits}

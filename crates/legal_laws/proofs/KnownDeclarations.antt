@@ -1,5 +1,5 @@
 -- Declarations of a subprogram or a block in the step of types: what they declare is well-formed, and known behind them.
-use Rattle.std.proofs.Common.{◌≡◌, ◌⊎◌, ◌≤◌, ◌<◌, ◌+◌, ℕ, Bool, true, false, if◌then◌else◌, is_some, List, [], ◌∷◌, ◌++◌, length, Option, Some, None, option_map, IfSome, IfOk, refl, sym, ap, ◌∙◌, subst, arith, inl, inr, le_refl, le_trans}
+use Rattle.std.proofs.Common.{◌≡◌, ◌≤◌, ◌<◌, ◌+◌, ℕ, Bool, true, false, if◌then◌else◌, is_some, List, [], ◌∷◌, ◌++◌, length, Option, Some, None, option_map, IfSome, IfOk, refl, sym, ap, ◌∙◌, subst, arith, inl, inr, le_refl}
 use Rattle.std.proofs.lemmas.Bool.{false≢true}
 use Rattle.cov_base.specs.declared.position.Pos.{Pos}
 use Rattle.cov_base.specs.Lists.{Everywhere}
@@ -14,17 +14,17 @@ use Rattle.ada_meaning.specs.Resolved.{rank_of, owner_in}
 use Rattle.ada_meaning.specs.Shape.{Shape}
 use Rattle.ada_meaning.specs.Tree as tree
 use Rattle.ada_meaning.specs.Types.{here, of_instance}
-use Rattle.ada_meaning.specs.WellFormed.{IsException, behind, behind_all, AreDeclarations, IsValue, value_shape}
-use Rattle.ada_rules.specs.Plan.{Plan, ◌>>=◌, rule, outcome_after, answer_at}
-use Rattle.ada_rules.specs.Types.{AdaType, AdaSubtype, type_in, subtype_in_tree}
-use Rattle.ada_rules.specs.Entities.{key, Entity, mark, raisable, Region, redefined}
-use Rattle.ada_rules.specs.Environment.{typed_rule, State, Given, given, Env, with_local, owner_of, new_identity, one_type_more, hide, hide_all, statement_label, started}
-use Rattle.ada_rules.specs.Declarations.{indicated, Defined, defined, NewValue, new_value, Declared, may_be_bare, one_name, known_constant, lying_in, local_objects, counted, with_objects, bare_declarations, local_bare, local_known, local_set, library_declared, library_value, no_library_value, objects_declared, exception_of, exception_declared, exceptions_from, type_counted, type_declared, subtype_declared, kind_declared, declared, all_declared}
+use Rattle.ada_meaning.specs.WellFormed.{IsException, behind, behind_all, AreDeclarations, IsValue}
+use Rattle.ada_rules.specs.Plan.{Plan, ◌>>=◌, rule}
+use Rattle.ada_rules.specs.Types.{AdaType, AdaSubtype, type_in}
+use Rattle.ada_rules.specs.Entities.{key, mark, raisable, Region, redefined}
+use Rattle.ada_rules.specs.Environment.{typed_rule, State, Given, Env, with_local, owner_of, new_identity, one_type_more, hide, hide_all, statement_label, started}
+use Rattle.ada_rules.specs.Declarations.{indicated, Defined, defined, NewValue, new_value, Declared, may_be_bare, one_name, known_constant, lying_in, counted, with_objects, bare_declarations, local_bare, local_set, objects_declared, exception_declared, exceptions_from, type_counted, type_declared, subtype_declared, kind_declared, declared, all_declared}
 use Rattle.ada_rules.specs.Statics.{Facts}
 use Rattle.legal_laws.specs.Kept.{OnlyStatics}
-use Rattle.legal_laws.specs.Known.{IsKnownSubtype, IsRegion, IsEnv}
+use Rattle.legal_laws.specs.Known.{IsRegion}
 use Rattle.legal_laws.specs.Served.{Serves, AreListed, IsFinal}
-use Rattle.legal_laws.specs.Standing.{with_type, with_types, AreOlder, Stands}
+use Rattle.legal_laws.specs.Standing.{with_type, with_types, Stands}
 use Rattle.legal_laws.specs.Valued.{AreFactsInBase, HaveFacts}
 use Rattle.legal_laws.specs.Written.{IsWritten, AreWritten}
 use Rattle.legal_laws.proofs.Passing.{IfPassed, answered, part_so, typed_so, if_map, both_ok, each_ok}
@@ -32,11 +32,11 @@ use Rattle.legal_laws.proofs.Constants.{serves_decided, final_before}
 use Rattle.legal_laws.proofs.KeptStatics.{decides_statics, statics_both}
 use Rattle.legal_laws.proofs.DefinedTypes.{IsDefined, defined_known}
 use Rattle.legal_laws.proofs.Identities.{apart_with, older_with, types_joined}
-use Rattle.legal_laws.proofs.KnownObjects.{behind_more, counted_length, of_one, constant_only, constant_before, HaveShape, AreCounted, counted_shapes, bare_declared, bare_seen, objects_known}
+use Rattle.legal_laws.proofs.KnownObjects.{behind_more, counted_length, of_one, constant_only, constant_before, counted_shapes, bare_declared, bare_seen, objects_known}
 use Rattle.legal_laws.proofs.KnownRegions.{hidden_known, all_hidden_known, redefined_known}
 use Rattle.legal_laws.proofs.KnownRegions as regions
 use Rattle.legal_laws.proofs.KnownStatics.{IsIndicated, indicated_known}
-use Rattle.legal_laws.proofs.KnownValues.{IsSet, IsNewValue, new_value_known}
+use Rattle.legal_laws.proofs.KnownValues.{IsNewValue, new_value_known}
 use Rattle.legal_laws.proofs.Leading.{Leads, declaration_leads, declarations_lead}
 use Rattle.legal_laws.proofs.Wider.{env_wider, region_wider}
 

@@ -1,7 +1,6 @@
 -- Objects of a subprogram in the step of types: they have the shapes of their subtypes, and are visible behind their declaration.
-use Rattle.std.proofs.Common.{◌≡◌, ◌⊎◌, ◌+◌, ℕ, zero, suc, nat_eq, Bool, true, false, if◌then◌else◌, List, [], ◌∷◌, length, Option, Some, None, option_map, IfSome, IfOk, refl, sym, ap, ◌∙◌, subst, arith, inl, inr}
-use Rattle.std.proofs.lemmas.Bool.{eqb-true, false≢true}
-use Rattle.cov_base.specs.declared.position.Pos.{Pos}
+use Rattle.std.proofs.Common.{◌≡◌, ◌+◌, ℕ, nat_eq, Bool, true, false, if◌then◌else◌, List, [], ◌∷◌, length, Option, Some, None, option_map, IfSome, refl, sym, ap, ◌∙◌, arith, inl, inr}
+use Rattle.std.proofs.lemmas.Bool.{eqb-true}
 use Rattle.cov_base.specs.Lists.{Everywhere}
 use Rattle.ada_syntax.specs.declared.declaration.Constancy.{Constancy}
 use Rattle.ada_syntax.specs.declared.declaration.Constancy.TheVariants as constancy
@@ -10,16 +9,15 @@ use Rattle.ada_meaning.specs.Program.{Program}
 use Rattle.ada_meaning.specs.Resolved.{shape_in}
 use Rattle.ada_meaning.specs.Shape.{Shape}
 use Rattle.ada_meaning.specs.Tree as tree
-use Rattle.ada_meaning.specs.Types.{Static, Range}
-use Rattle.ada_meaning.specs.WellFormed.{behind, behind_all, AreDeclarations, IsDeclaration}
+use Rattle.ada_meaning.specs.Types.{Static}
+use Rattle.ada_meaning.specs.WellFormed.{behind, behind_all, AreDeclarations}
 use Rattle.ada_rules.specs.Types.{AdaType, AdaSubtype, range_in, subtype_in_tree}
-use Rattle.ada_rules.specs.Entities.{key, Entity, Region, redefined}
-use Rattle.ada_rules.specs.Environment.{Words, State, Given, given, map_given, Env, statement_label, started}
-use Rattle.ada_rules.specs.Expressions.{entered_constant, value_named}
-use Rattle.ada_rules.specs.Declarations.{numbered, known_constant, object_entity, word_of, local_objects, counted, with_objects, bare_declarations}
+use Rattle.ada_rules.specs.Entities.{key, Region, redefined}
+use Rattle.ada_rules.specs.Environment.{Words, State, Env}
+use Rattle.ada_rules.specs.Declarations.{known_constant, object_entity, word_of, local_objects, counted, bare_declarations}
 use Rattle.ada_rules.specs.Statics.{Facts}
 use Rattle.legal_laws.specs.Kept.{OnlyStatics}
-use Rattle.legal_laws.specs.Known.{IsKnownSubtype, IsVariable, IsEntity, IsRegion}
+use Rattle.legal_laws.specs.Known.{IsKnownSubtype, IsEntity, IsRegion}
 use Rattle.legal_laws.specs.Served.{Serves, AreShaped}
 use Rattle.legal_laws.specs.Valued.{AreFactsInBase}
 use Rattle.legal_laws.proofs.Constants.{numbered_before}

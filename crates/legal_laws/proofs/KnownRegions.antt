@@ -1,12 +1,11 @@
 -- Regions in which names are hidden, declared and redefined, and what a construct stands in.
-use Rattle.std.proofs.Common.{◌≡◌, ℕ, Bool, true, false, if◌then◌else◌, List, [], ◌∷◌, ◌++◌, Option, Some, None, IfSome, IfOk, refl}
+use Rattle.std.proofs.Common.{ℕ, Bool, true, false, if◌then◌else◌, List, [], ◌∷◌, ◌++◌, Some, IfSome, IfOk}
 use Rattle.cov_base.specs.declared.position.Pos.{Pos}
-use Rattle.cov_base.specs.Lists.{Everywhere}
 use Rattle.ada_syntax.specs.declared.name.Identifier.{Identifier}
 use Rattle.ada_meaning.specs.Program.{Program}
 use Rattle.ada_meaning.specs.Shape.{Shape}
 use Rattle.ada_meaning.specs.Tree as tree
-use Rattle.ada_rules.specs.Plan.{Plan, ◌>>=◌, rule, outcome_after, answer_at}
+use Rattle.ada_rules.specs.Plan.{◌>>=◌, rule}
 use Rattle.ada_rules.specs.Types.{AdaType}
 use Rattle.ada_rules.specs.Entities.{key, same_name, Entity, hidden, Region, is_new, redefined}
 use Rattle.ada_rules.specs.Environment.{Env, with_local, opened, in_loop, in_handler, with_name, hide, hide_all}

@@ -1,7 +1,6 @@
 -- Specifications of subprograms in the step of types: parameters have the shapes of their subtypes, and a function its result.
-use Rattle.std.proofs.Common.{◌≡◌, ◌⊎◌, ◌≤◌, ◌+◌, ℕ, zero, suc, nat_eq, Bool, true, false, not, if◌then◌else◌, List, [], ◌∷◌, ◌++◌, length, Option, Some, None, option_map, IfSome, IfOk, refl, sym, ap, ◌∙◌, subst, arith, length-append}
+use Rattle.std.proofs.Common.{◌≡◌, ◌+◌, ℕ, suc, nat_eq, true, if◌then◌else◌, List, [], ◌∷◌, ◌++◌, length, Option, Some, None, IfOk, refl, sym, ap, subst, arith, length-append}
 use Rattle.std.specs.List.{list_all}
-use Rattle.std.specs.Prelude.{◌&&◌}
 use Rattle.std.proofs.lemmas.Bool.{false≢true}
 use Rattle.cov_base.specs.declared.position.Pos.{Pos}
 use Rattle.cov_base.specs.Lists.{Everywhere}
@@ -11,29 +10,28 @@ use Rattle.ada_syntax.specs.declared.unit.Parameter.{Parameter as SourceParamete
 use Rattle.ada_syntax.specs.declared.unit.Specification.{Specification}
 use Rattle.ada_meaning.specs.Declared.{object_shape}
 use Rattle.ada_meaning.specs.Program.{Mode, in_mode, out_mode, in_out_mode, Subprogram, Program}
-use Rattle.ada_meaning.specs.Resolved.{shape_in}
 use Rattle.ada_meaning.specs.Shape.{Shape}
 use Rattle.ada_meaning.specs.Tree as tree
 use Rattle.ada_meaning.specs.WellFormed.{StartSees}
-use Rattle.ada_rules.specs.Plan.{Plan, ◌>>=◌, rule, outcome_after, answer_at}
-use Rattle.ada_rules.specs.Types.{AdaType, AdaSubtype, type_in, range_in, is_scalar, subtype_in_tree}
+use Rattle.ada_rules.specs.Plan.{◌>>=◌, rule, outcome_after}
+use Rattle.ada_rules.specs.Types.{AdaType, AdaSubtype, type_in, is_scalar}
 use Rattle.ada_rules.specs.Entities.{key, Parameter, Region, redefined}
-use Rattle.ada_rules.specs.Environment.{Returning, no_result, result_of, typed_rule, State, Given, given, Env, with_local, opened, exceeded, hide_all}
+use Rattle.ada_rules.specs.Environment.{typed_rule, State, Given, given, Env, with_local, opened, exceeded, hide_all}
 use Rattle.ada_rules.specs.Expressions.{Marked, mark_part}
 use Rattle.ada_rules.specs.Declarations.{with_objects}
 use Rattle.ada_rules.specs.Statics.{Facts}
-use Rattle.ada_rules.specs.Subprograms.{mode_of, same_mode, is_in, Profile, parameter_entity, parameters_for, parameter_objects, most_parameters, limited, parameters_judged, as_result, is_function_profile, with_result, result_judged, fresh, specified, returning_of, inside_body}
+use Rattle.ada_rules.specs.Subprograms.{mode_of, is_in, Profile, parameter_entity, parameters_for, parameter_objects, most_parameters, limited, parameters_judged, is_function_profile, with_result, result_judged, fresh, specified, returning_of}
 use Rattle.legal_laws.specs.Kept.{OnlyDecides}
-use Rattle.legal_laws.specs.Known.{AreApart, IsKnownSubtype, IsEntity, IsRegion, IsEnv}
-use Rattle.legal_laws.specs.Served.{AreShaped, IsFinal}
-use Rattle.legal_laws.specs.Standing.{Stands, ReturnsAs}
+use Rattle.legal_laws.specs.Known.{AreApart, IsKnownSubtype, IsRegion, IsEnv}
+use Rattle.legal_laws.specs.Served.{IsFinal}
+use Rattle.legal_laws.specs.Standing.{ReturnsAs}
 use Rattle.legal_laws.specs.Valued.{AreFactsInBase, HaveFacts}
-use Rattle.legal_laws.proofs.Passing.{IfPassed, both_true, if_test, answered, part_so, typed_so, typed_either, both_ok, each_ok, weaker_ok, any_answer}
+use Rattle.legal_laws.proofs.Passing.{IfPassed, both_true, if_test, answered, part_so, typed_so, both_ok, each_ok, any_answer}
 use Rattle.legal_laws.proofs.Giving.{returns_value}
 use Rattle.legal_laws.proofs.KeptExpressions.{only_both, only_exceeded, mark_part_behind}
 use Rattle.legal_laws.proofs.KnownBodies.{AreOfShape}
-use Rattle.legal_laws.proofs.KnownExpressions.{GivesMark, mark_part_known}
-use Rattle.legal_laws.proofs.KnownObjects.{HaveShape, AreSeen, AreCounted, counted_shapes}
+use Rattle.legal_laws.proofs.KnownExpressions.{mark_part_known}
+use Rattle.legal_laws.proofs.KnownObjects.{HaveShape, AreSeen, counted_shapes}
 use Rattle.legal_laws.proofs.KnownRegions.{all_hidden_known, redefined_known, local_known, opened_known}
 use Rattle.legal_laws.proofs.KnownTypes.{subtype_is_type}
 use Rattle.legal_laws.proofs.Leading.{Leads, leads_same, leads_both, leads_decides, leads_objects}

@@ -1,28 +1,26 @@
 -- Statements in the step of types, where all that they may name is known: they are well-formed.
-use Rattle.std.proofs.Common.{◌≡◌, ◌⊎◌, ◌≤◌, ◌+◌, ℕ, suc, nat_eq, Bool, true, false, ◌&&◌, if◌then◌else◌, List, [], ◌∷◌, ◌++◌, length, Option, Some, None, option_map, IfSome, IfOk, refl, sym, ap, ◌∙◌, subst, arith, inl, inr}
+use Rattle.std.proofs.Common.{◌≡◌, ℕ, nat_eq, Bool, true, ◌&&◌, List, [], ◌∷◌, ◌++◌, length, Option, Some, None, option_map, IfSome, IfOk, refl, sym, ap, ◌∙◌, subst, arith, inl, inr}
 use Rattle.cov_base.specs.declared.position.Pos.{Pos}
 use Rattle.cov_base.specs.Lists.{Everywhere}
 use Rattle.ada_syntax.specs.StatementTree as text
 use Rattle.ada_syntax.specs.Tree as source
 use Rattle.ada_syntax.specs.declared.declaration.Declaration.{Declaration}
 use Rattle.ada_syntax.specs.declared.name.Identifier.{Identifier}
-use Rattle.ada_syntax.specs.declared.statement.Direction.{Direction}
 use Rattle.ada_syntax.specs.declared.statement.LoopScheme.TheVariants as scheme
 use Rattle.ada_meaning.specs.Program.{Program}
-use Rattle.ada_meaning.specs.Resolved.{shape_in}
 use Rattle.ada_meaning.specs.Shape.{Shape}
 use Rattle.ada_meaning.specs.Tree as tree
-use Rattle.ada_meaning.specs.WellFormed.{HasChoice, IsScalar, IsTest, IsValue, IsException, IsStatement, AreStatements, AreBranches, AreAlternatives, IsFrame, AreHandlers, behind, behind_all}
-use Rattle.ada_rules.specs.Plan.{Plan, ◌>>=◌, rule, outcome_after, answer_at}
-use Rattle.ada_rules.specs.Types.{AdaType, AdaSubtype, subtype_in_tree}
-use Rattle.ada_rules.specs.Entities.{key, Variable, Region}
-use Rattle.ada_rules.specs.Environment.{Returning, no_result, result_of, typed_rule, State, Given, given, Env, with_local, opened, in_loop, in_handler, demanded, hide, statement_label, started}
+use Rattle.ada_meaning.specs.WellFormed.{IsScalar, IsTest, IsValue, IsException, IsStatement, AreStatements, AreHandlers, behind, behind_all}
+use Rattle.ada_rules.specs.Plan.{◌>>=◌, rule, outcome_after}
+use Rattle.ada_rules.specs.Types.{AdaType}
+use Rattle.ada_rules.specs.Entities.{key, Variable}
+use Rattle.ada_rules.specs.Environment.{Returning, no_result, result_of, typed_rule, State, Given, given, Env, with_local, opened, in_loop, in_handler, hide, statement_label, started}
 use Rattle.ada_rules.specs.Expressions.{itself, denoted, judged, decision}
-use Rattle.ada_rules.specs.Declarations.{NewValue, new_value, Declared, all_declared}
-use Rattle.ada_rules.specs.Statements.{stmts_of, one, target, call_of, Chosen, branches_of, Selector, selector, all_chosen, Arm, alternatives_of, ends_with_others, has_others, choices_in, case_of, Turns, turned, loop_parameter, one_object_more, is_reverse, returned, returned_value, exception_of, where_allowed, all_caught, is_last, declarations_in, Frame, block_of, typed_stmt, stated, all_stated, branched, all_arms, all_handlers, all_handled}
+use Rattle.ada_rules.specs.Declarations.{NewValue, new_value, all_declared}
+use Rattle.ada_rules.specs.Statements.{stmts_of, one, target, call_of, Chosen, branches_of, Selector, selector, all_chosen, Arm, ends_with_others, has_others, choices_in, case_of, Turns, turned, loop_parameter, one_object_more, is_reverse, returned, returned_value, exception_of, where_allowed, all_caught, is_last, declarations_in, Frame, block_of, typed_stmt, stated, all_stated, branched, all_arms, all_handlers, all_handled}
 use Rattle.ada_rules.specs.Statics.{Facts, covers}
 use Rattle.legal_laws.specs.Kept.{OnlyDecides}
-use Rattle.legal_laws.specs.Known.{IsKnownSubtype, IsRegion, IsVariable, IsJudged, IsDenoted}
+use Rattle.legal_laws.specs.Known.{IsKnownSubtype, IsRegion}
 use Rattle.legal_laws.specs.Served.{IsFinal}
 use Rattle.legal_laws.specs.Standing.{with_types, Stands, ReturnsAs}
 use Rattle.legal_laws.specs.Valued.{AreFactsInBase, HaveFacts}
@@ -32,10 +30,9 @@ use Rattle.legal_laws.proofs.Identities.{types_more}
 use Rattle.legal_laws.proofs.KeptExpressions.{decision_behind}
 use Rattle.legal_laws.proofs.KnownCalls.{call_known, returned_known, statements_joined, IsBranch, branches_known, IsArm, alternatives_known, exception_known, value_returned, AreAllChosen, all_chosen_known, AreAllCaught, all_caught_known}
 use Rattle.legal_laws.proofs.KnownDeclarations.{AreAllMade, declarations_known, stands_led, stands_local}
-use Rattle.legal_laws.proofs.KnownExpressions.{GivesTest, decision_known}
-use Rattle.legal_laws.proofs.KnownObjects.{behind_more}
+use Rattle.legal_laws.proofs.KnownExpressions.{decision_known}
 use Rattle.legal_laws.proofs.KnownRegions.{hidden_known, local_known, opened_known, loop_known, handler_known}
-use Rattle.legal_laws.proofs.KnownValues.{IsSet, GivesValue, expression, IsNewValue, new_value_known, GivesName, name, IsTarget, target_known, IsSelector, selector_known, AreTurns, turned_known}
+use Rattle.legal_laws.proofs.KnownValues.{GivesValue, expression, IsNewValue, new_value_known, GivesName, name, IsTarget, target_known, IsSelector, selector_known, AreTurns, turned_known}
 use Rattle.legal_laws.proofs.Leading.{Leads, leads_both, leads_decides, leads_demanded, leads_started, Lead, LeadsOn, declarations_lead}
 use Rattle.legal_laws.proofs.LeadingStatements.{leads_parameter, stated_leads, all_lead, branches_lead, arms_lead, handlers_lead, handled_lead, all_chosen_lead, all_caught_lead}
 use Rattle.legal_laws.proofs.Wider.{env_wider, subtype_wider}

@@ -1,5 +1,5 @@
 -- The laws of the layers, over lists of types and of visible objects.
-use Rattle.std.proofs.Common.{◌≡◌, ◌≤◌, ℕ, Bool, false, List, [], ◌∷◌, length, Some, IfOk, slice_get}
+use Rattle.std.proofs.Common.{◌≡◌, ◌≤◌, ℕ, Bool, true, false, List, ◌∷◌, length, Some, IfOk, slice_get}
 use Rattle.std.specs.Prelude.{unwrap_or}
 use Rattle.cov_base.specs.declared.position.Pos.{Pos}
 use Rattle.cov_base.specs.Lists.{Everywhere}
@@ -12,22 +12,24 @@ use Rattle.ada_meaning.specs.Program.{Subprogram, Program}
 use Rattle.ada_meaning.specs.Shape.{Shape}
 use Rattle.ada_meaning.specs.Tree.{Object}
 use Rattle.ada_meaning.specs.WellFormed.{AreDeclarations, AreStatements, StartSees, IsSubprogram, most_parameters}
-use Rattle.ada_rules.specs.Declarations.{all_declared}
+use Rattle.ada_rules.specs.Declarations.{declared, all_declared}
 use Rattle.ada_rules.specs.Entities.{key}
-use Rattle.ada_rules.specs.Environment.{Env, State, opened}
+use Rattle.ada_rules.specs.Environment.{Env, State, owner_of, opened}
 use Rattle.ada_rules.specs.Statements.{stmts_of, all_stated}
 use Rattle.ada_rules.specs.Statics.{Facts}
 use Rattle.ada_rules.specs.Subprograms.{body_number, packaged_body}
 use Rattle.ada_rules.specs.Types.{AdaType}
 use Rattle.ada_rules.specs.Units.{at_unit, subprogram_body}
 use Rattle.legal_laws.specs.Known.{IsOneOf}
+use Rattle.legal_laws.specs.LibraryLevel.{AreObjects, AreFormed}
 use Rattle.legal_laws.specs.Served.{Serves, AreListed, IsFinal}
 use Rattle.legal_laws.specs.Standing.{Stands, ReturnsAs}
 use Rattle.legal_laws.specs.Valued.{AreFactsInBase, HaveFacts}
-use Rattle.legal_laws.specs.Written.{AreWritten, AreStatementTexts, IsBodyText}
+use Rattle.legal_laws.specs.Written.{IsWritten, AreWritten, AreStatementTexts, IsBodyText}
 use Rattle.legal_laws.proofs.Passing.{weaker_ok}
 use Rattle.legal_laws.proofs.KnownDeclarations.{AreAllMade, declarations_known}
 use Rattle.legal_laws.proofs.KnownStatements.{all_known}
+use Rattle.legal_laws.proofs.LibraryDeclarations.{Made, library_known}
 use Rattle.legal_laws.proofs.UnitBodies.{subprogram_known, packaged_known}
 
 pub declarations_law : (p : Program) (facts : List Facts) → HaveFacts p.instances facts → Everywhere AreFactsInBase facts → (inst : ℕ)
@@ -67,3 +69,16 @@ pub library_law : (p : Program) (facts : List Facts) → HaveFacts p.instances f
     → Serves facts inst env.generic t → AreListed facts inst p (object_shape p inst sub) env.generic t.exceptions_declared → IsSubprogram p inst sub)
 library_law p facts has are inst sub types env s b st written few =
     subprogram_known p facts has are inst sub (IsOneOf types) env s b written few st
+
+pub library_declaration_law : (p : Program) (facts : List Facts) → HaveFacts p.instances facts → Everywhere AreFactsInBase facts → (inst : ℕ)
+    (shape_of : Object → Shape) (types : List AdaType) (seen : List Object) (env : Env) (s : State) (d : Declaration)
+    → Stands p inst shape_of (IsOneOf types) (IsOneOf seen) env s → env.is_library ≡ true → IsWritten d.kind
+    → IfOk (declared env s d).answer (λ x. IsFinal facts inst p shape_of env.generic x.next
+    → AreObjects p inst env.generic shape_of (IsOneOf seen) (owner_of env) x.next.objects_declared
+    → AreFormed p inst env.generic s.objects_declared → AreFormed p inst env.generic x.next.objects_declared)
+library_declaration_law p facts has are inst shape_of types seen env s d st library written =
+    weaker_ok (Made p facts has are inst shape_of (IsOneOf types) (IsOneOf seen) env s st)
+    (λ x. IsFinal facts inst p shape_of env.generic x.next → AreObjects p inst env.generic shape_of (IsOneOf seen) (owner_of env) x.next.objects_declared
+    → AreFormed p inst env.generic s.objects_declared → AreFormed p inst env.generic x.next.objects_declared)
+    (declared env s d).answer (library_known p facts has are inst shape_of (IsOneOf types) (IsOneOf seen) env s st library d written)
+    (λ x h all objects formed. (h all objects).formed formed)

@@ -1,5 +1,5 @@
 -- The walk only adds to its state: what the final program keeps of a later state it keeps of an earlier one, in both steps.
-use Rattle.std.proofs.Common.{◌≡◌, ◌≤◌, ◌+◌, ℕ, Bool, true, false, if◌then◌else◌, List, [], ◌∷◌, ◌++◌, length, Result, Ok, Err, Option, Some, None, option_map, IfSome, IfOk, refl, sym, ap, ◌∙◌, subst, arith, le_refl, le_trans}
+use Rattle.std.proofs.Common.{◌≡◌, ◌≤◌, ℕ, Bool, true, false, if◌then◌else◌, List, [], ◌∷◌, ◌++◌, length, Option, Some, None, option_map, IfSome, IfOk, refl, sym, ap, ◌∙◌, arith, le_refl, le_trans}
 use Rattle.std.specs.Option.{option_and_then}
 use Rattle.cov_base.specs.declared.position.Pos.{Pos}
 use Rattle.cov_base.specs.Lists.{Everywhere}
@@ -22,23 +22,23 @@ use Rattle.ada_meaning.specs.Program.{Program}
 use Rattle.ada_meaning.specs.Program as program
 use Rattle.ada_meaning.specs.Shape.{Shape}
 use Rattle.ada_meaning.specs.Tree as tree
-use Rattle.ada_meaning.specs.Types.{Static, Range, Subtype}
-use Rattle.ada_rules.specs.Plan.{Plan, ◌>>=◌, rule, outcome_after, answer_at}
+use Rattle.ada_meaning.specs.Types.{Static, Range}
+use Rattle.ada_rules.specs.Plan.{Plan, ◌>>=◌, rule}
 use Rattle.ada_rules.specs.Types.{Identity, integer_type, array_type, record_type, AdaSubtype, of_type, type_in, range_in, base, integer_subtype, Kind, is_integral, is_discrete, is_scalar, fits, common}
-use Rattle.ada_rules.specs.Entities.{key, component, Region}
-use Rattle.ada_rules.specs.Environment.{Step, naming, typing, typed_rule, State, Given, given, map_given, Env, with_local, opened, new_identity, one_type_more, demanded, hide, hide_all, started}
+use Rattle.ada_rules.specs.Entities.{component, Region}
+use Rattle.ada_rules.specs.Environment.{typed_rule, State, Given, given, map_given, Env, with_local, opened, new_identity, one_type_more, demanded, hide, hide_all, started}
 use Rattle.ada_rules.specs.Denoted.{Judged}
 use Rattle.ada_rules.specs.Expressions.{itself, judged, Valued, any_valued, static_known, accepted, static_part, Marked, mark_part, scalar_mark}
-use Rattle.ada_rules.specs.Declarations.{in_range, ordered, bounded, constrained, constraint_of, indicated, index_between, index_of, with_fields, all_as, fields_of, Defined, enumerated, unchanged, defined, value_for, any_value, initial_pos, known_of, NewValue, new_value, innermost, initial_for, LibraryValue, known_value, library_value, Declared, may_be_bare, one_name, known_constant, lying_in, with_objects, local_bare, local_set, counted, with_library_objects, library_declared, library_known, no_library_value, objects_declared, exception_declared, exceptions_from, type_counted, type_declared, subtype_declared, kind_declared, declared, all_declared}
+use Rattle.ada_rules.specs.Declarations.{in_range, ordered, bounded, constrained, constraint_of, indicated, index_between, index_of, with_fields, all_as, fields_of, enumerated, unchanged, defined, value_for, any_value, initial_pos, known_of, NewValue, new_value, innermost, initial_for, LibraryValue, known_value, library_value, Declared, may_be_bare, one_name, known_constant, lying_in, with_objects, local_bare, local_set, with_library_objects, library_declared, no_library_value, objects_declared, exception_declared, exceptions_from, type_counted, type_declared, subtype_declared, kind_declared, declared, all_declared}
 use Rattle.ada_rules.specs.Statics.{Test, Facts, in_order}
 use Rattle.legal_laws.specs.Kept.{OnlyDecides, OnlyStatics}
-use Rattle.legal_laws.specs.Served.{Serves, AreShaped, IsFinal}
+use Rattle.legal_laws.specs.Served.{Serves, IsFinal}
 use Rattle.legal_laws.specs.Valued.{AreFactsInBase}
-use Rattle.legal_laws.proofs.Passing.{IfPassed, if_map, if_test, answered, ruled_so, part_so, weaker_ok, typed_either, any_answer}
+use Rattle.legal_laws.proofs.Passing.{IfPassed, if_test, answered, part_so, weaker_ok, typed_either, any_answer}
 use Rattle.legal_laws.proofs.Constants.{serves_demanded, serves_decided, static_before, final_before}
-use Rattle.legal_laws.proofs.KeptStatics.{decides_statics, statics_both, static_only}
+use Rattle.legal_laws.proofs.KeptStatics.{decides_statics, static_only}
 use Rattle.legal_laws.proofs.KeptExpressions.{judged_behind, mark_part_behind, scalar_mark_behind}
-use Rattle.legal_laws.proofs.KnownObjects.{counted_length, AreCounted, counted_shapes, constant_only, constant_before}
+use Rattle.legal_laws.proofs.KnownObjects.{counted_length, counted_shapes, constant_only, constant_before}
 
 module _ (p : Program) (facts : List Facts) (are : Everywhere AreFactsInBase facts) (inst : ℕ) (shape_of : tree.Object → Shape) where
   abbrev Final : Option ℕ → State → Type 0

@@ -1,12 +1,11 @@
 -- The walk over statements only adds to its state, in both steps.
-use Rattle.std.proofs.Common.{◌≡◌, ◌≤◌, ◌+◌, ℕ, suc, nat_eq, Bool, true, false, ◌&&◌, if◌then◌else◌, List, [], ◌∷◌, ◌++◌, length, Option, Some, None, option_map, IfSome, IfOk, refl, sym, ap, ◌∙◌, arith, le_refl}
+use Rattle.std.proofs.Common.{ℕ, nat_eq, Bool, true, false, ◌&&◌, List, [], ◌∷◌, ◌++◌, length, Option, Some, None, option_map, IfSome, IfOk, arith, le_refl}
 use Rattle.std.specs.Option.{option_and_then}
 use Rattle.cov_base.specs.declared.position.Pos.{Pos}
 use Rattle.cov_base.specs.Lists.{Everywhere}
 use Rattle.ada_syntax.specs.StatementTree as text
 use Rattle.ada_syntax.specs.Tree as source
 use Rattle.ada_syntax.specs.Tree.{expr_pos, name_pos}
-use Rattle.ada_syntax.specs.declared.declaration.Bounds.{Bounds}
 use Rattle.ada_syntax.specs.declared.declaration.DiscreteRange.{DiscreteRange}
 use Rattle.ada_syntax.specs.declared.declaration.DiscreteRange.TheVariants as discrete
 use Rattle.ada_syntax.specs.declared.statement.Choice.{Choice}
@@ -17,16 +16,15 @@ use Rattle.ada_syntax.specs.declared.statement.LoopScheme.TheVariants as scheme
 use Rattle.ada_meaning.specs.Program.{Program}
 use Rattle.ada_meaning.specs.Shape.{Shape}
 use Rattle.ada_meaning.specs.Tree as tree
-use Rattle.ada_rules.specs.Plan.{Plan, ◌>>=◌, rule, outcome_after, answer_at}
+use Rattle.ada_rules.specs.Plan.{◌>>=◌, rule}
 use Rattle.ada_rules.specs.Types.{AdaSubtype, fits, common}
 use Rattle.ada_rules.specs.Entities.{key}
-use Rattle.ada_rules.specs.Environment.{Step, typed_rule, State, Given, given, Env, with_local, opened, in_loop, in_handler, demanded, hide, statement_label, started}
+use Rattle.ada_rules.specs.Environment.{typed_rule, State, Given, given, Env, with_local, opened, in_loop, in_handler, demanded, hide, statement_label, started}
 use Rattle.ada_rules.specs.Expressions.{itself, denoted, judged, decision, static_part, scalar_mark}
 use Rattle.ada_rules.specs.Declarations.{new_value, all_declared}
-use Rattle.ada_rules.specs.Statements.{stmts_of, one, any_variable, writable, target, call_of, Chosen, branches_of, Selector, any_selector, selector_of, selector, among, chosen, all_chosen, Arm, alternatives_of, ends_with_others, has_others, choices_in, case_of, Turns, any_turns, turns_between, turns_over, turned, loop_parameter, one_object_more, is_reverse, returned, returned_value, exception_of, where_allowed, caught, all_caught, is_last, declarations_in, Frame, block_of, typed_stmt, stated, all_stated, branched, all_arms, all_handlers, all_handled}
+use Rattle.ada_rules.specs.Statements.{stmts_of, one, any_variable, writable, target, call_of, branches_of, Selector, any_selector, selector_of, selector, among, chosen, all_chosen, Arm, ends_with_others, has_others, choices_in, case_of, any_turns, turns_between, turns_over, turned, loop_parameter, one_object_more, is_reverse, returned, returned_value, exception_of, where_allowed, caught, all_caught, is_last, declarations_in, block_of, typed_stmt, stated, all_stated, branched, all_arms, all_handlers, all_handled}
 use Rattle.ada_rules.specs.Statics.{Facts, in_order, covers}
 use Rattle.legal_laws.specs.Kept.{OnlyDecides}
-use Rattle.legal_laws.specs.Served.{IsFinal}
 use Rattle.legal_laws.specs.Valued.{AreFactsInBase}
 use Rattle.legal_laws.proofs.Passing.{IfPassed, if_test, answered, part_so, weaker_ok}
 use Rattle.legal_laws.proofs.KeptExpressions.{denoted_behind, decision_behind}

@@ -1,8 +1,7 @@
 -- An array type that keeps to the limit of words has a length that a number can say.
-use Rattle.std.proofs.Common.{◌≡◌, ◌≤◌, ◌+◌, ◌*◌, ℕ, zero, suc, ℤ, pos, int_le, Bool, true, false, List, Option, Some, None, if◌then◌else◌, refl, sym, ap, subst, arith, mul-pos}
+use Rattle.std.proofs.Common.{◌≡◌, ◌≤◌, ◌*◌, ℕ, zero, suc, ℤ, pos, int_le, true, List, Option, Some, None, if◌then◌else◌, sym, subst, arith, mul-pos}
 use Rattle.std.specs.Option.{option_and_then}
 use Rattle.std.proofs.lemmas.Int.{ints}
-use Rattle.cov_base.specs.Lists.{Everywhere}
 use Rattle.ada_meaning.specs.Arithmetic.{base_range, is_within, count_between}
 use Rattle.ada_meaning.specs.Program.{Bounds, Program}
 use Rattle.ada_meaning.specs.Statics.{in_base, static_value, static_bounds, values_of}

@@ -1,5 +1,5 @@
 -- Declarations of the library level in the step of types: what they declare is known behind them, and has a type and an initial value.
-use Rattle.std.proofs.Common.{◌≡◌, ◌≤◌, ◌+◌, ℕ, Bool, true, false, if◌then◌else◌, List, [], ◌∷◌, ◌++◌, length, Option, Some, None, option_map, IfSome, IfOk, refl, sym, ap, ◌∙◌, subst}
+use Rattle.std.proofs.Common.{◌≡◌, ◌+◌, ℕ, Bool, true, false, if◌then◌else◌, List, [], ◌∷◌, length, Option, Some, None, option_map, IfSome, IfOk, refl, sym, ap, ◌∙◌, subst}
 use Rattle.std.proofs.lemmas.Bool.{false≢true}
 use Rattle.cov_base.specs.declared.position.Pos.{Pos}
 use Rattle.cov_base.specs.Lists.{Everywhere}
@@ -17,29 +17,27 @@ use Rattle.ada_meaning.specs.Statics.{static_value, values_of}
 use Rattle.ada_meaning.specs.Tree as tree
 use Rattle.ada_meaning.specs.Types.{Static}
 use Rattle.ada_meaning.specs.WellFormed.{HasNumber, IsType, IsInitial, behind_all}
-use Rattle.ada_rules.specs.Plan.{Plan, ◌>>=◌, rule, outcome_after, answer_at}
-use Rattle.ada_rules.specs.Types.{AdaType, integer_type, enumeration, formal_type, array_type, record_type, AdaSubtype, of_type, type_in, range_in, Kind, fits, subtype_in_tree}
+use Rattle.ada_rules.specs.Plan.{Plan, ◌>>=◌, rule}
+use Rattle.ada_rules.specs.Types.{AdaType, integer_type, enumeration, formal_type, array_type, record_type, AdaSubtype, of_type, range_in, fits, subtype_in_tree}
 use Rattle.ada_rules.specs.Entities.{key, raisable, Region, redefined}
 use Rattle.ada_rules.specs.Environment.{typed_rule, State, Given, given, Env, with_local, owner_of, new_identity, one_type_more, hide, hide_all}
 use Rattle.ada_rules.specs.Expressions.{Valued, static_part}
-use Rattle.ada_rules.specs.Declarations.{in_range, indicated, defined, innermost, initial_for, LibraryValue, known_value, library_value, Declared, may_be_bare, one_name, known_constant, object_entity, library_entities, library_objects, with_library_objects, library_declared, no_library_value, local_bare, local_set, new_value, objects_declared, exception_declared, exceptions_from, type_declared, subtype_declared, kind_declared, declared}
+use Rattle.ada_rules.specs.Declarations.{in_range, indicated, defined, innermost, initial_for, LibraryValue, known_value, library_value, Declared, may_be_bare, one_name, known_constant, object_entity, library_entities, library_objects, library_declared, no_library_value, local_bare, local_set, new_value, objects_declared, exception_declared, exceptions_from, type_declared, subtype_declared, kind_declared, declared}
 use Rattle.ada_rules.specs.Statics.{Facts}
-use Rattle.legal_laws.specs.Kept.{OnlyStatics}
 use Rattle.legal_laws.specs.Known.{IsKnownSubtype, IsRegion}
 use Rattle.legal_laws.specs.LibraryLevel.{AreObjects, AreFormed}
-use Rattle.legal_laws.specs.Served.{Serves, IsFinal}
+use Rattle.legal_laws.specs.Served.{IsFinal}
 use Rattle.legal_laws.specs.Standing.{with_types, Stands}
 use Rattle.legal_laws.specs.Valued.{AreFactsInBase, HaveFacts}
 use Rattle.legal_laws.specs.Written.{IsWritten}
-use Rattle.legal_laws.proofs.Passing.{IfPassed, if_map, if_test, if_each, answered, part_so, typed_so, both_ok}
+use Rattle.legal_laws.proofs.Passing.{IfPassed, if_map, if_test, if_each, answered, part_so, typed_so}
 use Rattle.legal_laws.proofs.Values.{value_demanded}
 use Rattle.legal_laws.proofs.KnownDeclarations.{AreMade, type_made, subtype_made, exceptions_made, Indicated, stands_local, stands_led}
 use Rattle.legal_laws.proofs.KnownRegions.{hidden_known, all_hidden_known, redefined_known, local_known}
-use Rattle.legal_laws.proofs.KnownStatics.{IsStaticPart, static_part_known, IsIndicated, indicated_known}
+use Rattle.legal_laws.proofs.KnownStatics.{IsStaticPart, static_part_known, indicated_known}
 use Rattle.legal_laws.proofs.KnownTypes.{subtype_is_type}
 use Rattle.legal_laws.proofs.DefinedTypes.{IsDefined, defined_known}
-use Rattle.legal_laws.proofs.KeptStatics.{Behind, defined_keeps, indicated_keeps}
-use Rattle.legal_laws.proofs.Leading.{Leads, leads_both, leads_statics, library_leads, Lead, static_leads}
+use Rattle.legal_laws.proofs.Leading.{Leads, leads_both, leads_statics, library_leads}
 use Rattle.legal_laws.proofs.NumberedObjects.{mapped_any}
 use Rattle.legal_laws.proofs.NumberedObjects as numbering
 use Rattle.legal_laws.proofs.KnownObjects.{constant_keeps}

@@ -4,7 +4,6 @@ use Rattle.std.specs.Prelude.{◌&&◌, is_none}
 use Rattle.std.proofs.lemmas.Bool.{false≢true}
 use Rattle.cov_base.specs.declared.position.Pos.{Pos}
 use Rattle.ada_syntax.specs.StatementTree as text
-use Rattle.ada_syntax.specs.Tree as source
 use Rattle.ada_syntax.specs.declared.declaration.Constancy.{Constancy}
 use Rattle.ada_syntax.specs.declared.declaration.Declaration.{Declaration}
 use Rattle.ada_syntax.specs.declared.declaration.DeclarationKind.{DeclarationKind}
@@ -12,22 +11,20 @@ use Rattle.ada_syntax.specs.declared.declaration.DeclarationKind.TheVariants as 
 use Rattle.ada_syntax.specs.declared.declaration.Initial.{Initial}
 use Rattle.ada_syntax.specs.declared.name.Identifier.{Identifier}
 use Rattle.ada_syntax.specs.declared.statement.LoopScheme.TheVariants as scheme
-use Rattle.ada_meaning.specs.Objects.{number_of, objects, all_objects, branch_objects, alternative_objects, handler_objects, block_objects}
+use Rattle.ada_meaning.specs.Objects.{number_of, objects, all_objects, branch_objects, alternative_objects, handler_objects}
 use Rattle.ada_meaning.specs.Obligations.{numbers}
 use Rattle.ada_meaning.specs.Tree as tree
-use Rattle.ada_meaning.specs.Types.{Static}
-use Rattle.ada_rules.specs.Plan.{Plan, ◌>>=◌, rule, outcome_after, answer_at}
-use Rattle.ada_rules.specs.Types.{AdaSubtype, type_in, range_in, fits}
-use Rattle.ada_rules.specs.Entities.{key, Parameter, Routine, raisable, Region, redefined}
-use Rattle.ada_rules.specs.Environment.{Step, typing, Returning, no_result, result_of, typed_rule, State, Given, given, Env, owner_of, with_local, opened, in_loop, in_handler, new_identity, one_type_more, demanded, hide, hide_all, statement_label, started}
-use Rattle.ada_rules.specs.Denoted.{Judged, expr_of, Denoted, a_mark, a_value, a_variable, a_routine, a_call, an_exception, a_unit, the_test_io, a_thing}
+use Rattle.ada_rules.specs.Plan.{Plan, ◌>>=◌, rule}
+use Rattle.ada_rules.specs.Types.{AdaSubtype, type_in, fits}
+use Rattle.ada_rules.specs.Entities.{key, Parameter, raisable, Region, redefined}
+use Rattle.ada_rules.specs.Environment.{typing, Returning, no_result, result_of, typed_rule, State, Given, given, Env, owner_of, with_local, opened, in_loop, in_handler, new_identity, one_type_more, hide, hide_all, statement_label, started}
+use Rattle.ada_rules.specs.Denoted.{Judged, Denoted, a_mark, a_value, a_variable, a_routine, a_call, an_exception, a_unit, the_test_io, a_thing}
 use Rattle.ada_rules.specs.Expressions.{itself, denoted, judged, decision}
-use Rattle.ada_rules.specs.Declarations.{indicated, defined, NewValue, new_value, Declared, may_be_bare, one_name, known_constant, lying_in, with_objects, bare_declarations, local_bare, local_set, library_value, library_declared, no_library_value, objects_declared, exception_declared, exceptions_from, type_declared, subtype_declared, kind_declared, declared, all_declared}
+use Rattle.ada_rules.specs.Declarations.{indicated, defined, NewValue, new_value, Declared, may_be_bare, one_name, known_constant, lying_in, with_objects, bare_declarations, local_bare, local_set, objects_declared, exception_declared, exceptions_from, type_declared, subtype_declared, kind_declared, declared, all_declared}
 use Rattle.ada_rules.specs.Statements.{stmts_of, one, target, call_of, Chosen, branches_of, Selector, selector, all_chosen, Arm, alternatives_of, ends_with_others, case_of, turned, loop_parameter, one_object_more, is_reverse, returned, returned_value, exception_of, where_allowed, all_caught, is_last, declarations_in, Frame, block_of, typed_stmt, stated, all_stated, branched, all_arms, all_handlers, all_handled}
-use Rattle.ada_rules.specs.Statics.{Facts}
 use Rattle.legal_laws.specs.Kept.{OnlyStatics}
 use Rattle.legal_laws.proofs.Passing.{IfPassed, if_map, if_test, answered, part_so, typed_so, typed_either, any_answer}
-use Rattle.legal_laws.proofs.KeptStatics.{Behind, numbered_only, expression_keeps, indicated_keeps, new_value_keeps, defined_keeps, name_keeps, decision_keeps, target_keeps, selector_keeps, turned_keeps, all_chosen_keep, all_caught_keep}
+use Rattle.legal_laws.proofs.KeptStatics.{Behind, expression_keeps, indicated_keeps, new_value_keeps, defined_keeps, name_keeps, decision_keeps, target_keeps, selector_keeps, turned_keeps, all_chosen_keep, all_caught_keep}
 use Rattle.legal_laws.proofs.KnownObjects.{of_one, constant_keeps}
 
 pub numbers_joined : (n a b : ℕ) → numbers n (a + b) ≡ (numbers n a ++ numbers (n + a) b)

@@ -1,18 +1,18 @@
 -- The subprogram of a body that is one of the program is known by its specification, in the body too.
-use Rattle.std.proofs.Common.{◌≡◌, ◌+◌, ℕ, Bool, true, false, List, [], ◌∷◌, map, Option, Some, None, slice_get, refl, sym, ap, ◌∙◌, subst}
+use Rattle.std.proofs.Common.{◌≡◌, ◌+◌, ℕ, Bool, false, List, [], ◌∷◌, map, Option, Some, None, slice_get, refl, sym, subst}
 use Rattle.std.specs.Prelude.{unwrap_or}
 use Rattle.std.proofs.lemmas.Bool.{false≢true}
 use Rattle.cov_base.specs.Lists.{Everywhere}
-use Rattle.ada_meaning.specs.Bodies.{Body, IsBody, StandsIn}
+use Rattle.ada_meaning.specs.Bodies.{IsBody, StandsIn}
 use Rattle.ada_meaning.specs.Declared.{is_function}
 use Rattle.ada_meaning.specs.Program.{body_target, Subprogram, Program}
-use Rattle.ada_meaning.specs.Resolved.{owner_in, shape_in, parameter_in, target_in, parameters_of, parameters_of_subprogram}
-use Rattle.ada_meaning.specs.WellFormed.{IsScalar, IsComposite, IsCallable}
+use Rattle.ada_meaning.specs.Resolved.{shape_in, parameter_in, target_in, parameters_of, parameters_of_subprogram}
+use Rattle.ada_meaning.specs.WellFormed.{IsComposite}
 use Rattle.ada_rules.specs.Types.{AdaType, integer_type, enumeration, formal_type, array_type, record_type, AdaSubtype, of_type, type_in, is_scalar, subtype_in_tree}
 use Rattle.ada_rules.specs.Entities.{Parameter}
-use Rattle.ada_rules.specs.Environment.{Env, owner_of}
+use Rattle.ada_rules.specs.Environment.{Env}
 use Rattle.ada_rules.specs.Subprograms.{Profile, returning_of, typed_parameters, body_number, routine_of}
-use Rattle.legal_laws.specs.Known.{AreApart, IsKnownSubtype, IsOfType, AreParameters, IsResult, IsRoutine}
+use Rattle.legal_laws.specs.Known.{AreApart, IsKnownSubtype, AreParameters, IsResult, IsRoutine}
 use Rattle.legal_laws.specs.Standing.{ReturnsAs}
 use Rattle.legal_laws.proofs.Giving.{returns_value}
 use Rattle.legal_laws.proofs.KnownDeclarations.{own_instance}

@@ -1,18 +1,17 @@
 -- The predefined names and those of Test_IO are known in every instance; a library without units stands so.
-use Rattle.std.proofs.Common.{◌≡◌, ◌⊎◌, ◌≤◌, ◌<◌, ◌+◌, ℕ, pos, Bool, true, false, List, [], ◌∷◌, length, Option, None, Some, refl, sym, ap, ◌∙◌, subst, arith, inl, inr}
+use Rattle.std.proofs.Common.{◌≡◌, ◌≤◌, ◌<◌, ℕ, Bool, true, false, List, [], ◌∷◌, refl, sym, ap, ◌∙◌, subst, arith, inl, inr}
 use Rattle.std.proofs.lemmas.Bool.{false≢true}
-use Rattle.cov_base.specs.Lists.{Everywhere}
 use Rattle.ada_meaning.specs.Arithmetic.{base_range}
 use Rattle.ada_meaning.specs.Program.{Program}
 use Rattle.ada_meaning.specs.Shape.{Shape, word}
 use Rattle.ada_meaning.specs.Tree as tree
 use Rattle.ada_meaning.specs.WellFormed.{IsException}
-use Rattle.ada_rules.specs.Types.{Identity, integer, boolean, declared_in, AdaType, integer_type, boolean_type, AdaSubtype, integer_subtype, identity_of, same_type}
+use Rattle.ada_rules.specs.Types.{Identity, integer, declared_in, AdaType, integer_type, boolean_type, integer_subtype, identity_of, same_type}
 use Rattle.ada_rules.specs.Entities.{predefined_region, test_io_region, whole_standard}
 use Rattle.ada_rules.specs.Environment.{typing, beginning_state, Env, opened, owner_of}
 use Rattle.ada_rules.specs.Library.{library_of}
 use Rattle.ada_rules.specs.Units.{world_before, env_of}
-use Rattle.legal_laws.specs.Known.{AreApart, IsOneOf, IsKnownSubtype, IsOfType, IsRegion, IsEnv}
+use Rattle.legal_laws.specs.Known.{AreApart, IsOneOf, IsKnownSubtype, IsOfType, IsRegion}
 use Rattle.legal_laws.specs.Standing.{Stands}
 
 module _ (p : Program) (inst : ℕ) (types : AdaType → Type 0) (integers : types (integer_type integer)) (booleans : types boolean_type)

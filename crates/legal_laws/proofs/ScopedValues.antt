@@ -1,11 +1,11 @@
 -- Constants that look no further than at those before them have the values of their expressions in the final values.
-use Rattle.std.proofs.Common.{◌≡◌, ◌<◌, ◌≤◌, ◌+◌, ℕ, zero, suc, nat_eq, ℤ, pos, Bool, true, false, if◌then◌else◌, List, [], ◌∷◌, ◌++◌, length, Option, Some, None, option_map, slice_get, reverse, refl, sym, ap, ◌∙◌, subst, arith, length-append}
+use Rattle.std.proofs.Common.{◌≡◌, ◌<◌, ◌+◌, ℕ, zero, suc, nat_eq, ℤ, pos, Bool, true, false, if◌then◌else◌, List, [], ◌∷◌, ◌++◌, length, Option, Some, None, option_map, slice_get, reverse, refl, sym, ap, ◌∙◌, subst, arith, length-append}
 use Rattle.std.specs.Prelude.{unwrap_or}
 use Rattle.std.specs.Option.{option_and_then}
 use mathlib.Core.List.{reverse-cons}
 use Rattle.std.proofs.lemmas.Bool.{eqb-true, false≢true}
-use Rattle.ada_meaning.specs.Arithmetic.{count_between, sign_of, is_within}
-use Rattle.ada_meaning.specs.Program.{Bounds, GenericConstant}
+use Rattle.ada_meaning.specs.Arithmetic.{count_between, sign_of}
+use Rattle.ada_meaning.specs.Program.{GenericConstant}
 use Rattle.ada_meaning.specs.Statics.{in_base, computed, bounds_between, InstanceValues, static_value, static_bounds, within, value_of_constant, with_constants, constant_values, constants_of}
 use Rattle.ada_meaning.specs.Types.{Static, static_number, static_formal, static_constant, static_first, static_last, static_length, static_sign, static_operation, static_of, Range, between, formal_range, range_of}
 use Rattle.ada_rules.specs.Statics.{Facts, constant_in, instance_values}

@@ -1,23 +1,20 @@
 -- What is known of a generic's text in an instance is known, through the instance, wherever it is seen.
-use Rattle.std.proofs.Common.{◌≡◌, ◌≤◌, ◌+◌, ℕ, Bool, true, false, List, [], ◌∷◌, map, length, Option, Some, None, option_map, slice_get, refl, sym, ap, ◌∙◌, subst}
-use Rattle.std.proofs.lemmas.Bool.{false≢true}
-use Rattle.cov_base.specs.Lists.{Everywhere}
-use Rattle.ada_meaning.specs.Program.{Mode, Target, Program}
-use Rattle.ada_meaning.specs.Resolved.{ResolvedParameter, shape_in, target_in, parameters_of, exception_in, owner_in}
+use Rattle.std.proofs.Common.{◌≡◌, ◌≤◌, ◌+◌, ℕ, Bool, true, List, [], ◌∷◌, map, length, Option, Some, None, option_map, slice_get, refl, sym, ap, ◌∙◌, subst}
+use Rattle.ada_meaning.specs.Program.{Target, Program}
+use Rattle.ada_meaning.specs.Resolved.{ResolvedParameter, shape_in, target_in, parameters_of, exception_in}
 use Rattle.ada_meaning.specs.Seen.{range_seen}
-use Rattle.ada_meaning.specs.Seen as meaning
 use Rattle.ada_meaning.specs.Shape.{Shape}
-use Rattle.ada_meaning.specs.Statics.{static_value, static_bounds, values_of}
+use Rattle.ada_meaning.specs.Statics.{static_value, values_of}
 use Rattle.ada_meaning.specs.Tree as tree
-use Rattle.ada_meaning.specs.Types.{Owner, here, of_instance, Static, static_number, static_formal, static_constant, static_first, static_last, static_length, static_sign, static_operation, static_of, Range, between, formal_range, range_of}
-use Rattle.ada_meaning.specs.WellFormed.{HasNumber, IsScalar, IsComposite, IsException, part_shape}
+use Rattle.ada_meaning.specs.Types.{here, of_instance, Static, static_number, static_formal, static_constant, static_first, static_last, static_length, static_sign, static_operation, static_of, Range, between, formal_range, range_of}
+use Rattle.ada_meaning.specs.WellFormed.{HasNumber, IsException, part_shape}
 use Rattle.ada_meaning.proofs.SeenShapes.{seen_bounds, seen_shape}
 use Rattle.ada_rules.specs.Types.{AdaType, integer_type, enumeration, formal_type, array_type, record_type, AdaSubtype, of_type, Fields, no_field, and_field, type_in, range_in, is_scalar, subtype_in_tree}
-use Rattle.ada_rules.specs.Entities.{Variable, Parameter, Routine, Entity, hidden, mark, literal, object, formal_object, routine, raisable, component, test_io, unit, Actual, object_actual, type_actual, routine_actual, given_type, owner_seen, static_seen, object_seen, callee_seen, exception_seen, type_seen, subtype_seen, fields_seen, variable_seen, parameter_seen, routine_seen, seen}
+use Rattle.ada_rules.specs.Entities.{Parameter, Routine, Entity, hidden, mark, literal, object, formal_object, routine, raisable, component, test_io, unit, Actual, object_actual, type_actual, routine_actual, given_type, static_seen, object_seen, callee_seen, exception_seen, type_seen, subtype_seen, fields_seen, variable_seen, parameter_seen, routine_seen, seen}
 use Rattle.ada_rules.specs.Statics.{Spans}
 use Rattle.ada_rules.proofs.Seen.{subtype_in_instance}
 use Rattle.legal_laws.specs.Valued.{AreOrdered}
-use Rattle.legal_laws.specs.Known.{CallsProcedure, HasField, IsOrdered, IsKnownType, IsKnownSubtype, AreKnownFields, IsOfType, IsParameter, AreParameters, IsResult, IsRoutine, IsVariable, IsEntity}
+use Rattle.legal_laws.specs.Known.{HasField, IsOrdered, IsKnownType, IsKnownSubtype, AreKnownFields, IsOfType, AreParameters, IsResult, IsRoutine, IsVariable, IsEntity}
 
 -- the type that is given for a formal one is scalar
 given_scalar : (a : Option Actual) → is_scalar (given_type a) ≡ true

@@ -1,5 +1,5 @@
 -- A body with its specification: a well-formed subprogram in the instance.
-use Rattle.std.proofs.Common.{◌≡◌, ◌⊎◌, ◌≤◌, ◌<◌, ◌+◌, ℕ, Bool, true, false, if◌then◌else◌, List, [], ◌∷◌, length, Option, Some, None, IfSome, IfOk, refl, sym, ap, ◌∙◌, subst, arith, inl, inr}
+use Rattle.std.proofs.Common.{◌≡◌, ◌≤◌, ◌+◌, ℕ, Bool, true, false, if◌then◌else◌, List, [], ◌∷◌, length, Option, Some, None, IfOk, refl, sym, ap, ◌∙◌, subst, arith, inl, inr}
 use Rattle.cov_base.specs.Lists.{Everywhere, Somewhere}
 use Rattle.ada_syntax.specs.declared.unit.SubprogramBody.{SubprogramBody}
 use Rattle.ada_meaning.specs.Declared.{object_shape, is_function}
@@ -8,25 +8,24 @@ use Rattle.ada_meaning.specs.Program as program
 use Rattle.ada_meaning.specs.Shape.{Shape}
 use Rattle.ada_meaning.specs.Tree as tree
 use Rattle.ada_meaning.specs.WellFormed.{StartSees, IsSubprogram, most_parameters}
-use Rattle.ada_rules.specs.Plan.{Plan, ◌>>=◌, rule, outcome_after, answer_at}
+use Rattle.ada_rules.specs.Plan.{◌>>=◌, outcome_after}
 use Rattle.ada_rules.specs.Types.{AdaType}
 use Rattle.ada_rules.specs.Entities.{Parameter, Region}
 use Rattle.ada_rules.specs.Environment.{typing, typed_rule, State, Given, Env, with_local, opened}
 use Rattle.ada_rules.specs.Declarations.{Declared, all_declared}
 use Rattle.ada_rules.specs.Statements.{Frame, block_of, all_handled, frame_returns}
 use Rattle.ada_rules.specs.Statics.{Facts}
-use Rattle.ada_rules.specs.Subprograms.{Profile, returning_of, may_end, typed_parameters, body_made, inside_body, body_judged, closed_by, fresh}
+use Rattle.ada_rules.specs.Subprograms.{Profile, returning_of, may_end, typed_parameters, body_made, inside_body, body_judged, closed_by}
 use Rattle.legal_laws.specs.Known.{IsRegion}
 use Rattle.legal_laws.specs.Served.{Serves, AreListed, IsFinal}
 use Rattle.legal_laws.specs.Standing.{Stands}
 use Rattle.legal_laws.specs.Valued.{AreFactsInBase, HaveFacts}
 use Rattle.legal_laws.specs.Written.{AreWritten, IsHandledText}
-use Rattle.legal_laws.proofs.Passing.{IfPassed, if_test, answered, part_so, typed_so, both_ok, each_ok, weaker_ok, any_answer}
+use Rattle.legal_laws.proofs.Passing.{if_test, answered, part_so, typed_so, both_ok, each_ok, weaker_ok, any_answer}
 use Rattle.legal_laws.proofs.Giving.{returns_value, FrameAs, handled_gives}
 use Rattle.legal_laws.proofs.KnownBodies.{head_or, objects_shaped, IsSpecified, IsBodyOf, body_known, gives_as, parameter_count}
-use Rattle.legal_laws.proofs.KnownRegions.{local_known, opened_known}
 use Rattle.legal_laws.proofs.KnownSpecifications.{AreVisible, IsCountedProfile, IsProfileOf, Specifies}
-use Rattle.legal_laws.proofs.Leading.{Leads, Lead, LeadsOn, leads_both, declarations_lead}
+use Rattle.legal_laws.proofs.Leading.{Lead, LeadsOn, leads_both, declarations_lead}
 use Rattle.legal_laws.proofs.LeadingStatements.{handled_lead}
 
 module _ (p : Program) (facts : List Facts) (has : HaveFacts p.instances facts) (are : Everywhere AreFactsInBase facts) (inst : ℕ) (sub : Subprogram) where

@@ -1,9 +1,8 @@
 -- Objects of a subprogram have types: what declarations and loops declare is of a known subtype.
-use Rattle.std.proofs.Common.{◌≡◌, ◌+◌, ℕ, nat_eq, Bool, true, false, ◌&&◌, if◌then◌else◌, List, [], ◌∷◌, ◌++◌, length, Option, Some, None, option_map, IfSome, IfOk, refl, sym, ap, ◌∙◌, subst, inr}
+use Rattle.std.proofs.Common.{◌≡◌, ℕ, nat_eq, true, false, ◌&&◌, List, [], ◌∷◌, ◌++◌, length, Option, Some, None, option_map, IfSome, IfOk, refl, sym, ap, ◌∙◌, subst, inr}
 use Rattle.cov_base.specs.declared.position.Pos.{Pos}
 use Rattle.cov_base.specs.Lists.{Everywhere}
 use Rattle.ada_syntax.specs.StatementTree as text
-use Rattle.ada_syntax.specs.Tree as source
 use Rattle.ada_syntax.specs.declared.declaration.Constancy.{Constancy}
 use Rattle.ada_syntax.specs.declared.declaration.Declaration.{Declaration}
 use Rattle.ada_syntax.specs.declared.declaration.DeclarationKind.{DeclarationKind}
@@ -16,32 +15,32 @@ use Rattle.ada_meaning.specs.Resolved.{shape_in}
 use Rattle.ada_meaning.specs.Shape.{Shape}
 use Rattle.ada_meaning.specs.Tree as tree
 use Rattle.ada_meaning.specs.WellFormed.{IsType, behind, behind_all}
-use Rattle.ada_rules.specs.Plan.{Plan, ◌>>=◌, rule, outcome_after, answer_at}
+use Rattle.ada_rules.specs.Plan.{◌>>=◌, rule}
 use Rattle.ada_rules.specs.Types.{AdaType, AdaSubtype, subtype_in_tree}
 use Rattle.ada_rules.specs.Entities.{key, raisable, Region, redefined}
 use Rattle.ada_rules.specs.Environment.{typed_rule, Words, State, Given, given, Env, owner_of, with_local, opened, in_loop, in_handler, new_identity, one_type_more, hide, hide_all, statement_label, started}
 use Rattle.ada_rules.specs.Expressions.{itself, denoted, judged, decision}
-use Rattle.ada_rules.specs.Declarations.{indicated, defined, NewValue, new_value, Declared, may_be_bare, one_name, known_constant, lying_in, word_of, counted, with_objects, local_bare, local_set, objects_declared, exception_declared, exceptions_from, type_declared, subtype_declared, kind_declared, declared, all_declared}
-use Rattle.ada_rules.specs.Statements.{stmts_of, one, target, call_of, Chosen, branches_of, Selector, selector, all_chosen, Arm, case_of, Turns, turned, loop_parameter, one_object_more, is_reverse, returned, returned_value, exception_of, where_allowed, all_caught, is_last, declarations_in, Frame, block_of, typed_stmt, stated, all_stated, branched, all_arms, all_handlers, all_handled, ends_with_others}
+use Rattle.ada_rules.specs.Declarations.{indicated, defined, new_value, Declared, may_be_bare, one_name, known_constant, lying_in, word_of, counted, local_bare, local_set, objects_declared, exception_declared, exceptions_from, type_declared, subtype_declared, kind_declared, declared, all_declared}
+use Rattle.ada_rules.specs.Statements.{stmts_of, one, target, call_of, branches_of, Selector, selector, all_chosen, case_of, turned, loop_parameter, one_object_more, is_reverse, returned, returned_value, exception_of, where_allowed, all_caught, is_last, declarations_in, block_of, typed_stmt, stated, all_stated, branched, all_arms, all_handlers, all_handled, ends_with_others}
 use Rattle.ada_rules.specs.Statics.{Facts}
 use Rattle.legal_laws.specs.Kept.{OnlyDecides, OnlyStatics}
 use Rattle.legal_laws.specs.Known.{IsKnownSubtype, IsRegion}
 use Rattle.legal_laws.specs.Served.{IsFinal}
 use Rattle.legal_laws.specs.Standing.{with_types, Stands}
 use Rattle.legal_laws.specs.Valued.{AreFactsInBase, HaveFacts}
-use Rattle.legal_laws.specs.Written.{IsWritten, AreWritten, IsStatementText, AreStatementTexts, AreBranchTexts, AreAlternativeTexts, AreHandlerTexts, IsHandledText}
+use Rattle.legal_laws.specs.Written.{AreWritten, IsStatementText, AreStatementTexts, AreBranchTexts, AreAlternativeTexts, AreHandlerTexts, IsHandledText}
 use Rattle.legal_laws.proofs.Passing.{IfPassed, if_map, if_test, answered, part_so, typed_so, typed_either, both_ok, each_ok, any_answer}
-use Rattle.legal_laws.proofs.KeptStatics.{Behind, expression_keeps, indicated_keeps, new_value_keeps, defined_keeps, name_keeps, decision_keeps, target_keeps, selector_keeps, turned_keeps, all_chosen_keep, all_caught_keep, decides_statics}
+use Rattle.legal_laws.proofs.KeptStatics.{Behind, expression_keeps, indicated_keeps, new_value_keeps, defined_keeps, name_keeps, decision_keeps, target_keeps, selector_keeps, all_chosen_keep, all_caught_keep, decides_statics}
 use Rattle.legal_laws.proofs.KnownDeclarations.{AreMade, declaration_known, AreAllMade, declarations_known, stands_led, stands_local}
-use Rattle.legal_laws.proofs.KnownObjects.{of_one, constant_keeps}
+use Rattle.legal_laws.proofs.KnownObjects.{constant_keeps}
 use Rattle.legal_laws.proofs.KnownRegions.{hidden_known, all_hidden_known, local_known}
 use Rattle.legal_laws.proofs.KnownStatements.{declared_texts, in_loop_stands, in_handler_stands, opened_stands, parameter_stands}
 use Rattle.legal_laws.proofs.KnownStatics.{IsIndicated, indicated_known}
 use Rattle.legal_laws.proofs.KnownTypes.{subtype_is_type}
 use Rattle.legal_laws.proofs.KnownValues.{AreTurns, turned_known}
-use Rattle.legal_laws.proofs.Leading.{Leads, leads_both, leads_decides, leads_statics, leads_started, leads_objects, Lead, LeadsOn, new_value_leads, set_leads, declaration_leads, declarations_lead}
+use Rattle.legal_laws.proofs.Leading.{Leads, leads_decides, leads_started, leads_objects, Lead, new_value_leads, set_leads, declaration_leads, declarations_lead}
 use Rattle.legal_laws.proofs.LeadingStatements.{leads_parameter, stated_leads, all_lead, branches_lead, arms_lead, handlers_lead, handled_lead, decision_leads, selector_leads, all_chosen_lead, all_caught_lead}
-use Rattle.legal_laws.proofs.NumberedObjects.{inside_only, mapped_any, exceptions_made}
+use Rattle.legal_laws.proofs.NumberedObjects.{inside_only, mapped_any}
 
 exceptions_words : (env : Env) (s : State) (region : Region) (is : List Identifier) → (exceptions_from env s region is).next.words ≡ s.words
 exceptions_words env s region [] = refl

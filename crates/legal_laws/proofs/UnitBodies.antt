@@ -1,5 +1,5 @@
 -- Bodies in packages, and those of library subprograms: well-formed subprograms in the instance.
-use Rattle.std.proofs.Common.{◌≡◌, ◌≤◌, ℕ, Bool, true, false, if◌then◌else◌, List, [], ◌∷◌, length, Option, Some, None, option_map, IfSome, IfOk, slice_get, refl, sym, ap, ◌∙◌, subst}
+use Rattle.std.proofs.Common.{◌≡◌, ◌≤◌, ℕ, false, List, [], ◌∷◌, length, Option, Some, None, IfSome, IfOk, slice_get}
 use Rattle.std.specs.Prelude.{unwrap_or}
 use Rattle.cov_base.specs.Lists.{Everywhere}
 use Rattle.ada_syntax.specs.declared.name.Identifier.{Identifier}
@@ -10,9 +10,9 @@ use Rattle.ada_meaning.specs.Program.{Subprogram, Program}
 use Rattle.ada_meaning.specs.Shape.{Shape}
 use Rattle.ada_meaning.specs.Tree as tree
 use Rattle.ada_meaning.specs.WellFormed.{StartSees, IsSubprogram, most_parameters}
-use Rattle.ada_rules.specs.Plan.{Plan, ◌>>=◌, rule, outcome_after, answer_at}
+use Rattle.ada_rules.specs.Plan.{Plan, ◌>>=◌, rule, outcome_after}
 use Rattle.ada_rules.specs.Types.{AdaType}
-use Rattle.ada_rules.specs.Entities.{key, Entity, hidden, mark, literal, object, formal_object, routine, raisable, component, test_io, unit, Region, entity_of, redefined}
+use Rattle.ada_rules.specs.Entities.{key, Entity, hidden, mark, literal, object, formal_object, routine, raisable, component, test_io, unit, Region, entity_of}
 use Rattle.ada_rules.specs.Environment.{State, Given, given, Env, with_local, opened}
 use Rattle.ada_rules.specs.Statics.{Facts}
 use Rattle.ada_rules.specs.Subprograms.{Profile, to_complete, completed, conforming, specified, body_judged, body_number, routine_of, with_routine, packaged_body}
@@ -24,7 +24,7 @@ use Rattle.legal_laws.specs.Valued.{AreFactsInBase, HaveFacts}
 use Rattle.legal_laws.specs.Written.{AreWritten, IsHandledText}
 use Rattle.legal_laws.proofs.Passing.{if_test, answered, ruled_so, part_so, any_answer}
 use Rattle.legal_laws.proofs.KnownRegions.{name_added, redefined_known, local_known}
-use Rattle.legal_laws.proofs.KnownSpecifications.{Specifies, IsProfileOf, specified_known}
+use Rattle.legal_laws.proofs.KnownSpecifications.{Specifies, specified_known}
 use Rattle.legal_laws.proofs.OwnRoutines.{own_known}
 use Rattle.legal_laws.proofs.SpecifiedBodies.{RegionKnown, body_after}
 

@@ -1,6 +1,5 @@
 -- What is known where some types are declared and some objects are visible is known where there are more of both.
-use Rattle.std.proofs.Common.{◌≡◌, ℕ, Bool, true, false, List, [], ◌∷◌, Option, Some, None, IfSome, refl}
-use Rattle.cov_base.specs.Lists.{Everywhere}
+use Rattle.std.proofs.Common.{ℕ, List, [], ◌∷◌, Option, Some, None}
 use Rattle.ada_meaning.specs.Program.{Program}
 use Rattle.ada_meaning.specs.Resolved.{ResolvedParameter, target_in, parameters_of}
 use Rattle.ada_meaning.specs.Shape.{Shape, word, row, group}
@@ -10,7 +9,7 @@ use Rattle.ada_rules.specs.Types.{AdaType, integer_type, enumeration, formal_typ
 use Rattle.ada_rules.specs.Entities.{Variable, Parameter, Routine, Entity, hidden, mark, literal, object, formal_object, routine, raisable, component, test_io, unit, Region}
 use Rattle.ada_rules.specs.Environment.{Env, regions_of, interface_of}
 use Rattle.ada_rules.specs.Expressions.{part_of_interface}
-use Rattle.legal_laws.specs.Known.{IsKnownType, IsKnownSubtype, AreKnownFields, IsOfType, IsParameter, AreParameters, IsResult, IsRoutine, IsVariable, IsEntity, IsRegion, IsEnv}
+use Rattle.legal_laws.specs.Known.{IsKnownType, IsKnownSubtype, AreKnownFields, AreParameters, IsResult, IsRoutine, IsVariable, IsEntity, IsRegion, IsEnv}
 use Rattle.legal_laws.proofs.Passing.{every_so, some_so}
 
 module _ (p : Program) (inst : ℕ) (shape_of : tree.Object → Shape) (Sees Shows : tree.Object → Type 0) (wider : (o : tree.Object) → Sees o → Shows o) where

@@ -1,6 +1,6 @@
 -- A construct of a subprogram, where it stands: all that it may name is known, identities of types and numbers of objects are
 -- still to be given, and in no generic there is one instance.
-use Rattle.std.specs.Prelude.{◌≡◌, ◌⊎◌, ◌<◌, ℕ, Bool, true, false, List, [], ◌∷◌, length, Option, None}
+use Rattle.std.specs.Prelude.{◌≡◌, ◌⊎◌, ◌<◌, ℕ, Bool, true, false, List, [], ◌∷◌, length, None}
 use Rattle.cov_base.specs.Lists.{Everywhere}
 use Rattle.ada_meaning.specs.Program.{Program}
 use Rattle.ada_meaning.specs.Shape.{Shape}

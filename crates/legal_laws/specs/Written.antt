@@ -9,7 +9,6 @@ use Rattle.ada_syntax.specs.declared.declaration.DeclarationKind.{DeclarationKin
 use Rattle.ada_syntax.specs.declared.declaration.DeclarationKind.TheVariants as declares
 use Rattle.ada_syntax.specs.declared.declaration.TypeDefinition.{TypeDefinition}
 use Rattle.ada_syntax.specs.declared.declaration.TypeDefinition.TheVariants as definition
-use Rattle.ada_syntax.specs.declared.name.Identifier.{Identifier}
 use Rattle.ada_syntax.specs.declared.unit.SubprogramBody.{SubprogramBody}
 use Rattle.ada_meaning.specs.WellFormed.{HasChoice}
 

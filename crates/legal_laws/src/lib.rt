@@ -27,9 +27,9 @@ ghost use Rattle.ada_meaning.specs.Statics.{static_bounds, static_value, values_
 ghost use Rattle.ada_meaning.specs.Tree.{Object};
 ghost use Rattle.ada_meaning.specs.Types.{between, Static};
 ghost use Rattle.ada_meaning.specs.WellFormed.{most_parameters, AreDeclarations, AreStatements, HasNumber, IsSubprogram, StartSees};
-ghost use Rattle.ada_rules.specs.Declarations.{all_declared};
+ghost use Rattle.ada_rules.specs.Declarations.{all_declared, declared};
 ghost use Rattle.ada_rules.specs.Entities.{key};
-ghost use Rattle.ada_rules.specs.Environment.{opened, Env, State};
+ghost use Rattle.ada_rules.specs.Environment.{opened, owner_of, Env, State};
 ghost use Rattle.ada_rules.specs.Expressions.{Role, denoted, judged};
 ghost use Rattle.ada_rules.specs.Statements.{all_stated, stmts_of};
 ghost use Rattle.ada_rules.specs.Statics.{Asked, Facts, Owed, first_unmet, holds, in_order, lies_in, value_in};
@@ -39,10 +39,11 @@ ghost use Rattle.ada_rules.specs.Units.{at_unit, subprogram_body};
 ghost use Rattle.legal_laws.specs.Demanded.{AreMet};
 ghost use Rattle.legal_laws.specs.Kept.{OnlyDecides};
 ghost use Rattle.legal_laws.specs.Known.{AreApart, IsDenoted, IsEnv, IsJudged, IsOneOf};
+ghost use Rattle.legal_laws.specs.LibraryLevel.{AreFormed, AreObjects};
 ghost use Rattle.legal_laws.specs.Served.{AreListed, IsFinal, Serves};
 ghost use Rattle.legal_laws.specs.Standing.{ReturnsAs, Stands};
 ghost use Rattle.legal_laws.specs.Valued.{AreFactsInBase, AreOrdered, HaveFacts};
-ghost use Rattle.legal_laws.specs.Written.{AreStatementTexts, AreWritten, IsBodyText};
+ghost use Rattle.legal_laws.specs.Written.{AreStatementTexts, AreWritten, IsBodyText, IsWritten};
 
 /// Where no demand is unmet, each holds in each instance in which it is asked, whether the demand or
 /// the instance came first. The walk has what it found latest first.
@@ -97,7 +98,18 @@ pub fn declarations_are_well_formed()
         → AreDeclarations p inst shape_of (IsOneOf seen) x.made) }
 {}
 
-/// So are statements, in a function or in a procedure.
+/// Objects that a declaration of the library level declares have types and initial values, if the final
+/// program keeps the state behind it, and subprograms see them as they are declared.
+pub fn library_declarations_are_well_formed()
+    ensures { (p : Program) (facts : List Facts) → HaveFacts p.instances facts → Everywhere AreFactsInBase facts → (inst : ℕ)
+        (shape_of : Object → Shape) (types : List AdaType) (seen : List Object) (env : Env) (s : State) (d : Declaration)
+        → Stands p inst shape_of (IsOneOf types) (IsOneOf seen) env s → env.is_library ≡ true → IsWritten d.kind
+        → IfOk (declared env s d).answer (λ x. IsFinal facts inst p shape_of env.generic x.next
+        → AreObjects p inst env.generic shape_of (IsOneOf seen) (owner_of env) x.next.objects_declared
+        → AreFormed p inst env.generic s.objects_declared → AreFormed p inst env.generic x.next.objects_declared) }
+{}
+
+/// Statements are well-formed so, in a function or in a procedure.
 #[tactic(auto, using(crate::proofs::Laws::statements_law))]
 pub fn statements_are_well_formed()
     ensures { (p : Program) (facts : List Facts) → HaveFacts p.instances facts → Everywhere AreFactsInBase facts → (inst : ℕ)
