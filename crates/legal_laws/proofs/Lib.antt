@@ -33,3 +33,4 @@ mod Laws
 mod Predefined
 mod ScopedValues
 mod LibraryDeclarations
+mod ListedPrograms
