@@ -1,12 +1,12 @@
 -- The typed program has its instances in order, and its exceptions as the obligations list them.
-use Rattle.std.proofs.Common.{◌≡◌, ◌<◌, ℕ, nat_eq, nat_lt, Bool, true, false, if◌then◌else◌, List, [], ◌∷◌, map, reverse, Option, Some, None, refl, sym, ap, ◌∙◌, subst, arith}
+use Rattle.std.proofs.Common.{◌≡◌, ℕ, nat_eq, nat_lt, Bool, true, false, if◌then◌else◌, List, [], ◌∷◌, map, reverse, refl, ap, ◌∙◌, arith}
 use Rattle.std.specs.Prelude.{◌&&◌, ◌||◌}
 use Rattle.std.proofs.lemmas.Bool.{false≢true}
 use Rattle.std.proofs.lemmas.Bool.Decides.{nat_tests}
 use Rattle.cov_base.specs.TextOrder.{precedes}
 use Rattle.cov_base.specs.declared.position.Pos.{Pos}
 use Rattle.ada_meaning.specs.Obligations.{inserted, in_order, ordered_exceptions}
-use Rattle.ada_meaning.specs.Program.{Instance, Program}
+use Rattle.ada_meaning.specs.Program.{Instance}
 use Rattle.ada_rules.specs.Environment.{World, State}
 use Rattle.ada_rules.specs.Legal.{with_values, program_of}
 use Rattle.ada_rules.specs.Statics.{Facts}

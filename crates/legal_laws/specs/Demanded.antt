@@ -1,5 +1,5 @@
--- Where a demand on static values is asked: in the instances of the generic in whose text it stands, or, where it stands
--- in none, once.
+-- Where a demand on static values is asked: in the instances of the generic in whose text it stands, or, where it
+-- stands in none, once.
 use Rattle.std.specs.Prelude.{◌≡◌, ◌⊎◌, ℕ, true, List, [], ◌∷◌, Option, Some, None}
 use Rattle.ada_rules.specs.Statics.{Demand, Asked, asked, instantiated, Facts, holds}
 

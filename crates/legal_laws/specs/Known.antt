@@ -1,5 +1,5 @@
--- What is known, in an instance, of all that legal text names: types are declared, and have bounds; objects that are named are visible, with the parts that are named; what is called is there, with the parameters
--- that the text gives it.
+-- What is known, in an instance, of all that legal text names: types are declared, and have bounds; objects that are
+-- named are visible, with the parts that are named; what is called is there, with the parameters that the text gives it.
 use Rattle.std.specs.Prelude.{◌≡◌, ℕ, true, false, List, [], ◌∷◌, Option, None, Some, IfSome}
 use Rattle.cov_base.specs.Lists.{Everywhere, Somewhere}
 use Rattle.ada_meaning.specs.Program.{Target, get_target, put_target, body_target, Program}
@@ -140,5 +140,6 @@ module _ (p : Program) (inst : ℕ) (declared : AdaType → Type 0) where
       pub booleans : declared boolean_type
       pub regions : Everywhere IsRegion (regions_of env)
       pub own : IsRegion env.own
-      pub units : (n : ℕ) (name : List ℕ) → IfSome (part_of_interface env.world name (interface_of env.world n)) IsEntity
+      pub units : (n : ℕ) (name : List ℕ)
+          → IfSome (part_of_interface env.world name (interface_of env.world n)) IsEntity
       pub test_io : IsRegion env.world.standard.test_io_declarations

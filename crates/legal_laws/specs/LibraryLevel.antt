@@ -13,10 +13,12 @@ module _ (p : Program) (inst : ℕ) (generic : Option ℕ) where
   AreObjects shape_of Sees owner [] = Unit {0}
   AreObjects shape_of Sees owner (o ∷ os) =
       (o.generic ≡ generic
-      → (shape_of (library_object owner o.declaration) ≡ shape_in p inst o.subtype) × Sees (library_object owner o.declaration))
+      → (shape_of (library_object owner o.declaration) ≡ shape_in p inst o.subtype)
+      × Sees (library_object owner o.declaration))
       × AreObjects shape_of Sees owner os
 
   -- they have types, and initial values
   abbrev pub AreFormed : List LibraryObject → Type 0
   AreFormed [] = Unit {0}
-  AreFormed (o ∷ os) = (o.generic ≡ generic → IsType (shape_in p inst o.subtype) × IsInitial p inst o.initial) × AreFormed os
+  AreFormed (o ∷ os) =
+      (o.generic ≡ generic → IsType (shape_in p inst o.subtype) × IsInitial p inst o.initial) × AreFormed os

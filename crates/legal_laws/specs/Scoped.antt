@@ -1,5 +1,5 @@
--- How far static expressions look: at constants that come before a number, in each instance. A constant of a generic looks
--- at those before it in its own instance, and at those that another instance had when it was made.
+-- How far static expressions look: at constants that come before a number, in each instance. A constant of a generic
+-- looks at those before it in its own instance, and at those that another instance had when it was made.
 use Rattle.std.specs.Prelude.{◌≡◌, ◌<◌, ◌+◌, ℕ, nat_eq, List, [], ◌∷◌, if◌then◌else◌}
 use Rattle.ada_meaning.specs.Program.{GenericConstant}
 use Rattle.ada_meaning.specs.Statics.{InstanceValues, value_of_constant}
@@ -31,7 +31,8 @@ up_to inst had k i = if nat_eq i inst then k else had i
 abbrev pub AreScoped : ℕ → (ℕ → ℕ) → ℕ → List GenericConstant → Type 0
 AreScoped inst had k [] = Unit {0}
 AreScoped inst had k (c ∷ cs) =
-    (IsScoped (up_to inst had k) inst c.value × IsScopedRange (up_to inst had k) inst c.range) × AreScoped inst had (k + 1) cs
+    (IsScoped (up_to inst had k) inst c.value × IsScopedRange (up_to inst had k) inst c.range)
+    × AreScoped inst had (k + 1) cs
 
 -- each has the value of its expression, where these are all values
 abbrev pub AreValued : InstanceValues → ℕ → ℕ → List GenericConstant → Type 0

@@ -1,5 +1,5 @@
--- A construct of a subprogram, where it stands: all that it may name is known, identities of types and numbers of objects are
--- still to be given, and in no generic there is one instance.
+-- A construct, where it stands: all that it may name is known, identities of types and numbers of objects are still to
+-- be given, and in no generic there is one instance.
 use Rattle.std.specs.Prelude.{◌≡◌, ◌⊎◌, ◌<◌, ℕ, Bool, true, false, List, [], ◌∷◌, length, None}
 use Rattle.cov_base.specs.Lists.{Everywhere}
 use Rattle.ada_meaning.specs.Program.{Program}
@@ -23,8 +23,8 @@ abbrev pub AreOlder : (AdaType → Type 0) → Env → State → Type 0
 AreOlder declared env s =
     (t : AdaType) (n : ℕ) → declared t → identity_of t ≡ declared_in (owner_of env) env.unit_number n → n < s.types
 
-pub record Stands (p : Program) (inst : ℕ) (shape_of : Object → Shape) (declared : AdaType → Type 0) (Sees : Object → Type 0) (env : Env) (s : State)
-    : Type 0 where
+pub record Stands (p : Program) (inst : ℕ) (shape_of : Object → Shape) (declared : AdaType → Type 0)
+    (Sees : Object → Type 0) (env : Env) (s : State) : Type 0 where
   pub place : IsEnv p inst declared shape_of Sees env
   pub world : Everywhere AreFactsInBase env.world.instances
   pub apart : AreApart declared

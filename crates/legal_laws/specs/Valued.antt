@@ -1,7 +1,7 @@
 -- What instances have for formals and constants: in the rules' facts and in the typed program.
 use Rattle.std.specs.Prelude.{◌≡◌, ℤ, int_le, true, List, [], ◌∷◌, Option, Some, None, IfSome}
 use Rattle.cov_base.specs.Lists.{Everywhere}
-use Rattle.ada_meaning.specs.Program.{Bounds, FormalActual, actual_object, actual_type, actual_subprogram, Instance}
+use Rattle.ada_meaning.specs.Program.{Bounds, FormalActual, actual_object, actual_type, actual_subprogram, Instance, Program}
 use Rattle.ada_meaning.specs.WellFormed.{IsInBase, AreInBase}
 use Rattle.ada_rules.specs.Statics.{Fact, number_fact, type_fact, result_fact, Facts}
 
@@ -44,3 +44,7 @@ abbrev pub HaveFacts : List Instance → List Facts → Type 0
 HaveFacts [] [] = Unit {0}
 HaveFacts (i ∷ is) (f ∷ fs) = HasFacts i f × HaveFacts is fs
 HaveFacts is fs = ⊥
+
+-- the facts of a program: those of its instances, in the base range
+abbrev pub AreFactsOf : Program → List Facts → Type 0
+AreFactsOf p facts = HaveFacts p.instances facts × Everywhere AreFactsInBase facts

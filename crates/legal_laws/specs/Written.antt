@@ -1,5 +1,5 @@
--- What the grammar ensures of the text beside its trees: enumerations, records and choices are not empty, and an enumeration
--- has no more literals than there are numbers for.
+-- What the grammar ensures of the text beside its trees: enumerations, records and choices are not empty. And an
+-- enumeration has no more literals than there are numbers for.
 use Rattle.std.specs.Prelude.{◌≤◌, ℕ, List, [], ◌∷◌, length, Option, Some, None}
 use Rattle.cov_base.specs.Lists.{Everywhere}
 use Rattle.ada_syntax.specs.StatementTree as text
