@@ -34,3 +34,5 @@ mod Predefined
 mod ScopedValues
 mod LibraryDeclarations
 mod ListedPrograms
+mod TooManyLiterals
+mod DistinctObjects
