@@ -1,0 +1,10 @@
+//! Expressions that have to be static (Ada RM 2012, 4.9).
+#![tactic(auto)]
+
+mod asks;
+mod part;
+mod place;
+
+pub use asks::{Accepted, Asks};
+pub use part::Valued;
+pub use place::{Notes, Place};
