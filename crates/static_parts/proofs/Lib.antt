@@ -1,2 +1,4 @@
 pub mod Commuting
 pub mod PartLaws
+pub mod BoundLaws
+pub mod IndicationLaws

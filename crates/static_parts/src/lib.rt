@@ -2,6 +2,7 @@
 #![tactic(auto)]
 
 mod asks;
+mod bounds;
 mod part;
 mod place;
 
