@@ -1,5 +1,5 @@
 -- Subtype indications: a mark, and its constraint.
-use Rattle.std.proofs.Common.{◌≡◌, Bool, true, false, if◌then◌else◌, Option, Some, None, option_map, Ok, Err, Result, refl, sym, ap, ◌∙◌}
+use Rattle.std.proofs.Common.{◌≡◌, Bool, true, false, if◌then◌else◌, Option, Some, None, option_map, Ok, Err, Result, refl, ap, ◌∙◌}
 use Rattle.cov_base.specs.declared.position.Pos.{Pos}
 use Rattle.cov_base.specs.declared.failure.Failure.{Failure}
 use Rattle.ada_syntax.specs.Tree.{name_pos}

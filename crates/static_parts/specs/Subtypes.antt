@@ -6,15 +6,21 @@ use Rattle.ada_syntax.specs.declared.declaration.Bounds.{Bounds}
 use Rattle.ada_meaning.specs.Types as meaning
 use Rattle.ada_tree.specs.declared.types.ScalarRange.{ScalarRange}
 use Rattle.ada_tree.specs.View.{scalar_range_of}
-use Rattle.ada_rules.specs.Plan.{Plan, ◌>>=◌, answer_at}
-use Rattle.ada_rules.specs.Types.{AdaSubtype, of_type, type_in, range_in, is_scalar, fits}
+use Rattle.ada_rules.specs.Plan.{Plan, ◌>>=◌, ruled, answer_at}
+use Rattle.ada_rules.specs.Types.{AdaSubtype, of_type, type_in, range_in, is_scalar, fits, common}
 use Rattle.ada_rules.specs.Environment.{typed_rule, State, Given, given, Env}
-use Rattle.ada_rules.specs.Declarations.{bounded}
+use Rattle.ada_rules.specs.Declarations.{bounded, index_between}
 use Rattle.ada_entities.specs.declared.fault.Refusal.{Refusal}
 use Rattle.ada_entities.specs.declared.types.Subtype.{Subtype}
 use Rattle.ada_entities.specs.Answers.{Answers}
 use Rattle.ada_entities.specs.Views.{subtype_of}
 use Rattle.ada_entities.specs.EntityViews.{Tables}
+use Rattle.ada_judged.specs.Views.{kind_of}
+use Rattle.ada_demands.specs.declared.statics.Statics.{Statics}
+use Rattle.ada_demands.specs.StaticsViews.{noted}
+use Rattle.static_parts.specs.declared.part.Valued.{Valued}
+use Rattle.static_parts.specs.declared.place.Place.{Place}
+use Rattle.static_parts.specs.Parts.{valued_of}
 use Rattle.ada_phrases.specs.declared.scope.Step.{Step}
 use Rattle.ada_phrases.specs.Scopes.{step_of}
 
@@ -40,3 +46,11 @@ abbrev pub narrowing : Env → State → AdaSubtype → Bounds → Plan (Given A
 narrowing env s t b =
     bounded env s (fits (type_in t)) (range_in t) b
     >>= (λ r. typed_rule env.step (given t r.next) (option_map (λ x. given x r.next) (constrained_to t r.value)))
+
+-- the subtype of an index between two static bounds, in the step of types
+abbrev pub IsIndex : Place → (old new : Statics) → Pos → (low high : Valued) → Result Subtype (Failure Refusal) → Type 0
+IsIndex place old new p low high result =
+    (k : Tables) (env : Env) (s : State) → env.generic ≡ place.generic
+    → Answers (λ t. given (subtype_in k t) (noted k new s))
+    (answer_at p (ruled (option_map (index_between env p (given (valued_of k low) (noted k old s)) (given (valued_of k high) (noted k old s)))
+    (common (kind_of k.types low.kind) (kind_of k.types high.kind))))) result

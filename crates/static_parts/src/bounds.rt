@@ -22,7 +22,7 @@ use cov_base::{Failure, Pos};
 use std::alloc::Global;
 
 /// The range between two values of a text.
-fn between(low: StaticValue, high: StaticValue) -> ScalarRange
+pub(crate) fn between(low: StaticValue, high: StaticValue) -> ScalarRange
     ensures { scalar_range_of result ≡ between (static_value_of low) (static_value_of high) }
 {
     match (low, high) {

@@ -3,6 +3,7 @@
 
 mod asks;
 mod bounds;
+mod index;
 mod part;
 mod place;
 

@@ -1,4 +1,4 @@
-use Rattle.std.proofs.Common.{◌≡◌, refl}
+use Rattle.std.proofs.Common.{refl}
 use Rattle.ada_tree.specs.View.{scalar_range_of}
 use Rattle.ada_phrases.specs.declared.scope.Step.TheVariants as step
 use Rattle.ada_phrases.specs.Scopes.{step_of}

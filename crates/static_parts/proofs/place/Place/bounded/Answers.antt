@@ -1,4 +1,4 @@
-use Rattle.std.proofs.Common.{◌≡◌, Ok, sym, ap, ◌∙◌, rules}
+use Rattle.std.proofs.Common.{Ok, sym, ap, ◌∙◌, rules}
 use Rattle.ada_tree.specs.View.{scalar_range_of, static_value_of}
 use Rattle.ada_rules.specs.Statics.{in_order}
 use Rattle.ada_rules.specs.Environment.{given, demanded}

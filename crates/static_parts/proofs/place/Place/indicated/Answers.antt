@@ -1,4 +1,4 @@
-use Rattle.std.proofs.Common.{◌≡◌, Some, None, sym, ◌∙◌, rules}
+use Rattle.std.proofs.Common.{Some, None, sym, ◌∙◌, rules}
 use Rattle.ada_syntax.specs.Tree.{name_pos}
 use Rattle.ada_rules.specs.Environment.{given}
 use Rattle.ada_phrases.specs.Answers.{counted}

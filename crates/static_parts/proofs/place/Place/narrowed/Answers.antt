@@ -1,4 +1,4 @@
-use Rattle.std.proofs.Common.{◌≡◌, rules}
+use Rattle.std.proofs.Common.{rules}
 use Rattle.ada_rules.specs.Environment.{given}
 use Rattle.ada_phrases.specs.Scopes.{step_of}
 use Rattle.ada_phrases.proofs.Parts.{answers_as}
