@@ -40,8 +40,8 @@ impl NewValue {
     }
 }
 
-/// The place of the first token.
-fn initial_pos(initial: &Initial) -> Pos
+/// The place of the first token of an initial value, or of what is assigned.
+pub fn initial_pos(initial: &Initial) -> Pos
     ensures { result ≡ rules.initial_pos initial.now }
 {
     match initial.others.as_slice().first() {

@@ -1,0 +1,50 @@
+use Rattle.std.proofs.Common.{option_map, refl, sym, ◌∙◌}
+use Rattle.ada_entities.specs.EntityViews.{constant_of}
+use Rattle.program_walk.specs.States.{state_of}
+use Rattle.declarations.specs.Going.{region_in}
+use Rattle.declarations.specs.Locals.{subtype_in_form}
+use Rattle.declarations.proofs.GoingLaws.{goes_nowhere, then_goes}
+use Rattle.declarations.proofs.ObjectLaws.{turn_local, turn_counted, all_locals, all_counted}
+use Rattle.declarations.proofs.locals.add_locals.Goals as goal
+
+pub loop-name-init : goal.loop-name-init
+loop-name-init c = record {
+  region = λ k has. refl;
+  state = λ k has. refl;
+  inside = goes_nowhere c.args.walk.now;
+}
+
+pub loop-name-preserved : goal.loop-name-preserved
+loop-name-preserved c =
+    let f = c.args.form in
+    let old = c.loop-name.walk in
+    let new = c.add_local.new.walk in
+    record {
+      region = λ k has.
+          let a = c.in_ok-add_local.ensures.added k has in
+          sym (turn_local c.args.names.now c.loop-name.name-index _ c.loop-name-test.true c.name-item.is f.constancy (subtype_in_form k f)
+          (option_map constant_of f.known) old.counts.objects new.counts.objects (region_in k old) (region_in k new) a.number a.region)
+          ∙ c.loop-name.invariant.region k has;
+      state = λ k has.
+          sym (turn_counted c.args.names.now c.loop-name.name-index _ c.loop-name-test.true c.name-item.is (subtype_in_form k f)
+          (state_of k old) (state_of k new) (c.in_ok-add_local.ensures.added k has).state)
+          ∙ c.loop-name.invariant.state k has;
+      inside = λ h. then_goes _ _ _ (c.loop-name.invariant.inside h) c.in_ok-add_local.ensures.inside;
+    }
+
+pub returns-clause-added : goal.returns-clause-added
+returns-clause-added c k has =
+    let f = c.args.form in
+    let w = c.loop-name.walk in
+    record {
+      region =
+          sym (all_locals c.args.names.now c.loop-name.name-index c.loop-name-test.false f.constancy (subtype_in_form k f)
+          (option_map constant_of f.known) w.counts.objects (region_in k w))
+          ∙ c.loop-name.invariant.region k has;
+      state =
+          sym (all_counted c.args.names.now c.loop-name.name-index c.loop-name-test.false (subtype_in_form k f) (state_of k w))
+          ∙ c.loop-name.invariant.state k has;
+    }
+
+pub returns-clause-inside : goal.returns-clause-inside
+returns-clause-inside c = c.loop-name.invariant.inside
