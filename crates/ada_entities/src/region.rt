@@ -46,6 +46,15 @@ impl Region {
         }
     }
 
+    /// The same declarations once more.
+    pub fn copied(&self) -> Result<Region, AllocError>
+        ensures { IfOk result (λ r. r ≡ self.now) }
+    {
+        Ok(Region {
+            table: self.table.clone()?,
+        })
+    }
+
     /// What a name, in lower case, denotes in the region.
     pub fn find(&self, name: &[u8]) -> Option<Entity>
         ensures { (k : Tables) → option_map (entity_of k) result ≡ rules.entity_of name.now (region_of k self.now) }
