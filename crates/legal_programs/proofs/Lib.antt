@@ -1,0 +1,4 @@
+mod Lists
+mod Adding
+mod AddingStatements
+mod Extending
