@@ -2,3 +2,4 @@ mod Lists
 mod Adding
 mod AddingStatements
 mod Extending
+mod ExtendingUnits

@@ -8,8 +8,13 @@ ghost use Rattle.ada_rules.specs.Environment.{Env, State};
 ghost use Rattle.ada_syntax.specs.declared.unit.BodyItem.{BodyItem};
 ghost use Rattle.ada_rules.specs.Library.{body_names};
 ghost use Rattle.ada_rules.specs.Statements.{all_stated};
-ghost use Rattle.ada_rules.specs.Units.{body_items};
-ghost use Rattle.legal_programs.specs.Growing.{Adds, AddsBodies};
+ghost use Rattle.ada_rules.specs.Environment.{Step, World};
+ghost use Rattle.ada_rules.specs.Library.{all_bodies, Library};
+ghost use Rattle.ada_rules.specs.Units.{all_bodies_judged, all_interfaces, body_items, Walked};
+ghost use Rattle.ada_syntax.specs.declared.unit.Unit.{Unit as LibraryUnit};
+ghost use Rattle.cov_base.specs.Lists.{Everywhere};
+ghost use Rattle.legal_programs.specs.Homes.{instances_at, HasHome};
+ghost use Rattle.legal_programs.specs.Growing.{Adds, AddsBodies, AddsInterfaces};
 
 /// Statements only add to the state.
 pub fn statements_only_add()
@@ -21,4 +26,13 @@ pub fn statements_only_add()
 pub fn bodies_add_subprograms()
     ensures { (name : List ℕ) (env : Env) (s : State) (p : Pos) (is : List BodyItem)
         → IfOk (body_items env s p is).answer (λ g. AddsBodies (length (body_names name is)) s g.next) }
+{}
+
+/// Units.
+pub fn units_only_add()
+    ensures interfaces { (step : Step) (l : Library) (x : Walked) (ns : List ℕ)
+        → IfOk (all_interfaces step l x ns).answer (λ y. AddsInterfaces (instances_at l ns) x.next y.next) }
+    ensures bodies { (step : Step) (l : Library) (w : World) (s : State) (n : ℕ) (us : List LibraryUnit)
+        → Everywhere (λ u. HasHome l u.item) us
+        → IfOk (all_bodies_judged step l w s n us).answer (AddsBodies (length (all_bodies us)) s) }
 {}
