@@ -35,4 +35,4 @@ pub mod ScopedValues
 pub mod LibraryDeclarations
 pub mod ListedPrograms
 mod TooManyLiterals
-mod DistinctObjects
+pub mod DistinctObjects

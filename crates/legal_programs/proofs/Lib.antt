@@ -3,3 +3,4 @@ mod Adding
 mod AddingStatements
 mod Extending
 mod ExtendingUnits
+mod Passed

@@ -1,10 +1,13 @@
 //! Legal programs are well-formed.
 #![tactic(auto)]
 
-ghost use Rattle.std.specs.Prelude.{length, IfOk, List, ℕ};
+ghost use Rattle.std.specs.Prelude.{◌≡◌, length, IfOk, List, ℕ};
 ghost use Rattle.cov_base.specs.declared.position.Pos.{Pos};
 ghost use Rattle.ada_syntax.specs.StatementTree.{Statements};
+ghost use Rattle.ada_meaning.specs.Program.{Program};
 ghost use Rattle.ada_rules.specs.Environment.{Env, State};
+ghost use Rattle.ada_rules.specs.Legal.{checked_in, legal};
+ghost use Rattle.legal_programs.specs.Walked.{IsLegal};
 ghost use Rattle.ada_syntax.specs.declared.unit.BodyItem.{BodyItem};
 ghost use Rattle.ada_rules.specs.Library.{body_names};
 ghost use Rattle.ada_rules.specs.Statements.{all_stated};
@@ -35,4 +38,9 @@ pub fn units_only_add()
     ensures bodies { (step : Step) (l : Library) (w : World) (s : State) (n : ℕ) (us : List LibraryUnit)
         → Everywhere (λ u. HasHome l u.item) us
         → IfOk (all_bodies_judged step l w s n us).answer (AddsBodies (length (all_bodies us)) s) }
+{}
+
+/// What the walks of a legal program come to.
+pub fn legal_programs_pass_each_step()
+    ensures { (l : Library) (main : List ℕ) (p : Program) → checked_in l main ≡ legal p → IsLegal l main p }
 {}
