@@ -4,3 +4,6 @@ mod AddingStatements
 mod Extending
 mod ExtendingUnits
 mod Passed
+mod Limited
+mod Serving
+mod Finals

@@ -1,3 +1,5 @@
 pub mod Growing
 pub mod Homes
 pub mod Walked
+pub mod Looked
+pub mod Final

@@ -1,13 +1,17 @@
 //! Legal programs are well-formed.
 #![tactic(auto)]
 
-ghost use Rattle.std.specs.Prelude.{◌≡◌, length, IfOk, List, ℕ};
+ghost use Rattle.std.specs.Prelude.{◌≡◌, Option, length, IfOk, List, ℕ};
 ghost use Rattle.cov_base.specs.declared.position.Pos.{Pos};
 ghost use Rattle.ada_syntax.specs.StatementTree.{Statements};
 ghost use Rattle.ada_meaning.specs.Program.{Program};
 ghost use Rattle.ada_rules.specs.Environment.{Env, State};
 ghost use Rattle.ada_rules.specs.Legal.{checked_in, legal};
 ghost use Rattle.legal_programs.specs.Walked.{IsLegal};
+ghost use Rattle.legal_programs.specs.Final.{IsServed};
+ghost use Rattle.legal_programs.specs.Looked.{IsLookedAt};
+ghost use Rattle.ada_meaning.specs.Bodies.{StandsIn};
+ghost use Rattle.legal_laws.specs.Served.{HaveOwnValues};
 ghost use Rattle.ada_syntax.specs.declared.unit.BodyItem.{BodyItem};
 ghost use Rattle.ada_rules.specs.Library.{body_names};
 ghost use Rattle.ada_rules.specs.Statements.{all_stated};
@@ -17,7 +21,7 @@ ghost use Rattle.ada_rules.specs.Units.{all_bodies_judged, all_interfaces, body_
 ghost use Rattle.ada_syntax.specs.declared.unit.Unit.{Unit as LibraryUnit};
 ghost use Rattle.cov_base.specs.Lists.{Everywhere};
 ghost use Rattle.legal_programs.specs.Homes.{instances_at, HasHome};
-ghost use Rattle.legal_programs.specs.Growing.{Adds, AddsBodies, AddsInterfaces};
+ghost use Rattle.legal_programs.specs.Growing.{Adds, AddsBodies, AddsInterfaces, Extends};
 
 /// Statements only add to the state.
 pub fn statements_only_add()
@@ -43,4 +47,12 @@ pub fn units_only_add()
 /// What the walks of a legal program come to.
 pub fn legal_programs_pass_each_step()
     ensures { (l : Library) (main : List ℕ) (p : Program) → checked_in l main ≡ legal p → IsLegal l main p }
+{}
+
+/// The final program.
+pub fn final_programs_serve_each_state()
+    ensures { (l : Library) (main : List ℕ) (p : Program) → (is : IsLegal l main p) → (o : Option ℕ) (inst : ℕ)
+        → IsLookedAt is.walked.world.instances is.walked.next.demands o inst → StandsIn p o inst
+        → HaveOwnValues is.walked.world.instances inst o is.walked.next.constants_declared
+        → (s : State) → Extends s is.walked.next → IsServed is.walked.world.instances p o inst s }
 {}
