@@ -7,3 +7,5 @@ mod Passed
 mod Limited
 mod Serving
 mod Finals
+mod Headings
+mod Counted

@@ -1,7 +1,7 @@
 //! Legal programs are well-formed.
 #![tactic(auto)]
 
-ghost use Rattle.std.specs.Prelude.{◌≡◌, Option, length, IfOk, List, ℕ};
+ghost use Rattle.std.specs.Prelude.{◌≡◌, map, Option, length, IfOk, List, ℕ};
 ghost use Rattle.cov_base.specs.declared.position.Pos.{Pos};
 ghost use Rattle.ada_syntax.specs.StatementTree.{Statements};
 ghost use Rattle.ada_meaning.specs.Program.{Program};
@@ -11,6 +11,7 @@ ghost use Rattle.legal_programs.specs.Walked.{IsLegal};
 ghost use Rattle.legal_programs.specs.Final.{IsServed};
 ghost use Rattle.legal_programs.specs.Looked.{IsLookedAt};
 ghost use Rattle.ada_meaning.specs.Bodies.{StandsIn};
+ghost use Rattle.ada_meaning.specs.Objects.{AreDistinct};
 ghost use Rattle.legal_laws.specs.Served.{HaveOwnValues};
 ghost use Rattle.ada_syntax.specs.declared.unit.BodyItem.{BodyItem};
 ghost use Rattle.ada_rules.specs.Library.{body_names};
@@ -55,4 +56,12 @@ pub fn final_programs_serve_each_state()
         → IsLookedAt is.walked.world.instances is.walked.next.demands o inst → StandsIn p o inst
         → HaveOwnValues is.walked.world.instances inst o is.walked.next.constants_declared
         → (s : State) → Extends s is.walked.next → IsServed is.walked.world.instances p o inst s }
+{}
+
+/// Objects and exceptions.
+pub fn library_declarations_are_declared_once()
+    ensures objects { (l : Library) (main : List ℕ) (p : Program) → IsLegal l main p
+        → AreDistinct (map (λ o. o.declaration) p.objects) }
+    ensures exceptions { (l : Library) (main : List ℕ) (p : Program) → IsLegal l main p
+        → AreDistinct (map (λ e. e.declaration) p.declared) }
 {}
