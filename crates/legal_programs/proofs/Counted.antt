@@ -16,6 +16,7 @@ use Rattle.legal_programs.specs.Walked.{IsWalked, IsLegal}
 use Rattle.legal_programs.proofs.Extending.{extends_both}
 use Rattle.legal_programs.proofs.ExtendingUnits.{interfaces_add, all_bodies_add}
 use Rattle.legal_programs.proofs.Headings.{are_headed, have_homes}
+use Rattle.legal_programs.proofs.Lists.{map_reversed}
 use Rattle.legal_programs.proofs.Passed.{of_ok}
 
 -- the numbers below n in their order
@@ -26,15 +27,6 @@ pub counted_up : (n : ℕ) (xs : List ℕ) → CountsDown n xs → reverse xs �
 counted_up n [] h = sym (ap (numbers 0) h)
 counted_up n (x ∷ xs) h =
     reverse-cons x xs ∙ (ap (λ ys. ys ++ x ∷ []) (counted_up x xs h.1) ∙ (sym (last_number x) ∙ ap (numbers 0) (sym h.0)))
-
-map_joined : {X Y : Type 0} (f : X → Y) (xs ys : List X) → map f (xs ++ ys) ≡ (map f xs ++ map f ys)
-map_joined f [] ys = refl
-map_joined f (x ∷ xs) ys = ap (λ zs. f x ∷ zs) (map_joined f xs ys)
-
-pub map_reversed : {X Y : Type 0} (f : X → Y) (xs : List X) → map f (reverse xs) ≡ reverse (map f xs)
-map_reversed f [] = refl
-map_reversed f (x ∷ xs) =
-    ap (map f) (reverse-cons x xs) ∙ (map_joined f (reverse xs) (x ∷ []) ∙ (ap (λ ys. ys ++ f x ∷ []) (map_reversed f xs) ∙ sym (reverse-cons (f x) (map f xs))))
 
 counted_distinct : {X : Type 0} (f : X → ℕ) (n : ℕ) (xs : List X) → CountsDown n (map f xs) → AreDistinct (map f (reverse xs))
 counted_distinct f n xs h = subst AreDistinct (sym (map_reversed f xs ∙ counted_up n (map f xs) h)) (numbers_distinct 0 n)

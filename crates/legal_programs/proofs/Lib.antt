@@ -9,3 +9,4 @@ mod Serving
 mod Finals
 mod Headings
 mod Counted
+mod LabelledStatements

@@ -1,5 +1,6 @@
 -- Lists that grow at their front.
-use Rattle.std.proofs.Common.{◌≡◌, ◌+◌, ℕ, List, [], ◌∷◌, ◌++◌, refl, sym, subst, ap, ◌∙◌, append_assoc}
+use Rattle.std.proofs.Common.{◌≡◌, ◌+◌, ℕ, List, [], ◌∷◌, ◌++◌, map, reverse, refl, sym, subst, ap, ◌∙◌, append_assoc}
+use mathlib.Core.List.{reverse-cons}
 use Rattle.legal_programs.specs.Growing.{IsLonger}
 
 pub longer_same : {X : Type 0} (xs ys : List X) → ys ≡ xs → IsLonger xs ys
@@ -24,3 +25,13 @@ of_shorter {X = X} P behind xs ys h all = drop_all h.more (transport_to h.is all
 
     transport_to : ys ≡ (h.more ++ xs) → P ys → P (h.more ++ xs)
     transport_to e k = subst P e k
+
+-- what is made of each item
+pub map_joined : {X Y : Type 0} (f : X → Y) (xs ys : List X) → map f (xs ++ ys) ≡ (map f xs ++ map f ys)
+map_joined f [] ys = refl
+map_joined f (x ∷ xs) ys = ap (λ zs. f x ∷ zs) (map_joined f xs ys)
+
+pub map_reversed : {X Y : Type 0} (f : X → Y) (xs : List X) → map f (reverse xs) ≡ reverse (map f xs)
+map_reversed f [] = refl
+map_reversed f (x ∷ xs) =
+    ap (map f) (reverse-cons x xs) ∙ (map_joined f (reverse xs) (x ∷ []) ∙ (ap (λ ys. ys ++ f x ∷ []) (map_reversed f xs) ∙ sym (reverse-cons (f x) (map f xs))))

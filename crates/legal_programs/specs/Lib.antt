@@ -3,3 +3,4 @@ pub mod Homes
 pub mod Walked
 pub mod Looked
 pub mod Final
+pub mod Labelled

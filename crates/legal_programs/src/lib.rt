@@ -5,7 +5,7 @@ ghost use Rattle.std.specs.Prelude.{◌≡◌, map, Option, length, IfOk, List, 
 ghost use Rattle.cov_base.specs.declared.position.Pos.{Pos};
 ghost use Rattle.ada_syntax.specs.StatementTree.{Statements};
 ghost use Rattle.ada_meaning.specs.Program.{Program};
-ghost use Rattle.ada_rules.specs.Environment.{Env, State};
+ghost use Rattle.ada_rules.specs.Environment.{typing, Env, State};
 ghost use Rattle.ada_rules.specs.Legal.{checked_in, legal};
 ghost use Rattle.legal_programs.specs.Walked.{IsLegal};
 ghost use Rattle.legal_programs.specs.Final.{IsServed};
@@ -15,7 +15,9 @@ ghost use Rattle.ada_meaning.specs.Objects.{AreDistinct};
 ghost use Rattle.legal_laws.specs.Served.{HaveOwnValues};
 ghost use Rattle.ada_syntax.specs.declared.unit.BodyItem.{BodyItem};
 ghost use Rattle.ada_rules.specs.Library.{body_names};
-ghost use Rattle.ada_rules.specs.Statements.{all_stated};
+ghost use Rattle.ada_rules.specs.Statements.{all_stated, stmts_of};
+ghost use Rattle.ada_meaning.specs.Collected.{all_labels};
+ghost use Rattle.legal_programs.specs.Labelled.{Labels};
 ghost use Rattle.ada_rules.specs.Environment.{Step, World};
 ghost use Rattle.ada_rules.specs.Library.{all_bodies, Library};
 ghost use Rattle.ada_rules.specs.Units.{all_bodies_judged, all_interfaces, body_items, Walked};
@@ -64,4 +66,10 @@ pub fn library_declarations_are_declared_once()
         → AreDistinct (map (λ o. o.declaration) p.objects) }
     ensures exceptions { (l : Library) (main : List ℕ) (p : Program) → IsLegal l main p
         → AreDistinct (map (λ e. e.declaration) p.declared) }
+{}
+
+/// Labels.
+pub fn statements_are_numbered()
+    ensures { (env : Env) (s : State) (q : Pos) (ss : Statements) → env.step ≡ typing
+        → IfOk (all_stated env s q ss).answer (λ g. Labels s (all_labels (stmts_of g.value)) g.next) }
 {}
