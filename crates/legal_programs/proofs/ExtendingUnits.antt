@@ -102,7 +102,7 @@ interfaces_both m n s t u h k =
       instances = omega (arith, first, second);
     }
 
-adds_at_unit : (s : State) → Adds s (at_unit s)
+pub adds_at_unit : (s : State) → Adds s (at_unit s)
 adds_at_unit s = adds_none s (at_unit s) refl refl refl refl refl refl refl refl refl refl refl
 
 behind_extends : (env : Env) (n : ℕ) (s t : State) → Extends s t → Extends s (behind_unit env n t)

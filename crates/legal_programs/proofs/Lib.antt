@@ -10,3 +10,5 @@ mod Finals
 mod Headings
 mod Counted
 mod LabelledStatements
+mod MadeBodies
+mod MadeUnits

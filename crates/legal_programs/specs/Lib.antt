@@ -4,3 +4,4 @@ pub mod Walked
 pub mod Looked
 pub mod Final
 pub mod Labelled
+pub mod Made

@@ -5,6 +5,11 @@ ghost use Rattle.std.specs.Prelude.{◌≡◌, map, Option, length, IfOk, List, 
 ghost use Rattle.cov_base.specs.declared.position.Pos.{Pos};
 ghost use Rattle.ada_syntax.specs.StatementTree.{Statements};
 ghost use Rattle.ada_meaning.specs.Program.{Program};
+ghost use Rattle.ada_rules.specs.Entities.{Region};
+ghost use Rattle.ada_rules.specs.Subprograms.{body_judged, specified};
+ghost use Rattle.ada_syntax.specs.declared.unit.Specification.{Specification};
+ghost use Rattle.ada_syntax.specs.declared.unit.SubprogramBody.{SubprogramBody};
+ghost use Rattle.legal_programs.specs.Made.{Makes, AreMadeInTurn};
 ghost use Rattle.ada_rules.specs.Environment.{typing, Env, State};
 ghost use Rattle.ada_rules.specs.Legal.{checked_in, legal};
 ghost use Rattle.legal_programs.specs.Walked.{IsLegal};
@@ -72,4 +77,17 @@ pub fn library_declarations_are_declared_once()
 pub fn statements_are_numbered()
     ensures { (env : Env) (s : State) (q : Pos) (ss : Statements) → env.step ≡ typing
         → IfOk (all_stated env s q ss).answer (λ g. Labels s (all_labels (stmts_of g.value)) g.next) }
+{}
+
+/// One body.
+pub fn a_body_makes_a_subprogram()
+    ensures { (env : Env) (before : State) (b : SubprogramBody) (region : Region) (name : List ℕ) (x : Specification)
+        → env.step ≡ typing → IfOk (specified env before x).answer (λ q.
+        IfOk (body_judged env before b region name q).answer (Makes env.generic q.value before)) }
+{}
+
+/// Units in turn.
+pub fn units_make_subprograms_in_turn()
+    ensures { (l : Library) (w : World) (s : State) (n : ℕ) (us : List LibraryUnit)
+        → IfOk (all_bodies_judged typing l w s n us).answer (λ t. AreMadeInTurn s → AreMadeInTurn t) }
 {}
