@@ -12,3 +12,4 @@ mod Counted
 mod LabelledStatements
 mod MadeBodies
 mod MadeUnits
+mod QuietInterfaces

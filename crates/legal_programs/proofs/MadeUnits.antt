@@ -70,7 +70,7 @@ KeepsOn s x = Keeps s x.next
 keeps_statics : (s t : State) → OnlyStatics s t → Keeps s t
 keeps_statics s t only = ap (λ x. x.statements) only
 
-statics_keep : {A : Type 0} (s : State) (r : Result (Given A) Pos) → IfOk r (λ g. Behind s g) → IfOk r (λ g. Keep s g)
+pub statics_keep : {A : Type 0} (s : State) (r : Result (Given A) Pos) → IfOk r (λ g. Behind s g) → IfOk r (λ g. Keep s g)
 statics_keep s r h = weaker_ok (λ g. Behind s g) (λ g. Keep s g) r h (λ x k. keeps_statics s x.next k)
 
 -- declarations of the library level
@@ -78,7 +78,7 @@ at_library : {B : Type 0} (P : B → Type 0) (b : Bool) (o r : Plan B) → b ≡
 at_library P true o r e h = h
 at_library P false o r e h = absurd (false≢true e)
 
-mapped_any : {A B : Type 0} (P : B → Type 0) (x : Option A) (y : B) → P y → IfSome (option_map (λ u. y) x) P
+pub mapped_any : {A B : Type 0} (P : B → Type 0) (x : Option A) (y : B) → P y → IfSome (option_map (λ u. y) x) P
 mapped_any P None y h = tt
 mapped_any P (Some u) y h = h
 
@@ -142,7 +142,7 @@ module _ (env : Env) (library : env.is_library ≡ true) where
   declared_keeps : (s : State) (d : Declaration) → IfOk (declared env s d).answer (KeepsOn s)
   declared_keeps s d = answered (KeepsOn s) d.pos (kind_declared env s d.pos d.kind).outcome (kind_keeps s d.pos d.kind)
 
-specified_keeps : (env : Env) (s : State) (x : Specification) → IfOk (specified env s x).answer (Keep s)
+pub specified_keeps : (env : Env) (s : State) (x : Specification) → IfOk (specified env s x).answer (Keep s)
 specified_keeps env s x =
     weaker_ok (IsNumbered (fresh s)) (Keep s) (specified env s x).answer (specified_numbered env s x) (λ q h. h.statements)
 
@@ -234,7 +234,7 @@ module _ (env : Env) (step : env.step ≡ typing) (s : State) (b : SubprogramBod
       (λ next k. in_turn_made env.generic q.value s next k)))))
 
 -- items
-abbrev Quiet : {A : Type 0} → State → Given A → Type 0
+abbrev pub Quiet : {A : Type 0} → State → Given A → Type 0
 Quiet s g = (g.next.statements ≡ s.statements) × (g.next.subprograms ≡ s.subprograms)
 
 item_quiet : (env : Env) (s : State) (i : PackageItem) → env.is_library ≡ true → IfPassed (package_item env s i).outcome (Quiet s)

@@ -16,12 +16,13 @@ ghost use Rattle.legal_programs.specs.Walked.{IsLegal};
 ghost use Rattle.legal_programs.specs.Final.{IsServed};
 ghost use Rattle.legal_programs.specs.Looked.{IsLookedAt};
 ghost use Rattle.ada_meaning.specs.Bodies.{StandsIn};
-ghost use Rattle.ada_meaning.specs.Objects.{AreDistinct};
+ghost use Rattle.ada_meaning.specs.Objects.{AreDistinct, objects_of};
+ghost use Rattle.ada_meaning.specs.Obligations.{numbers};
 ghost use Rattle.legal_laws.specs.Served.{HaveOwnValues};
 ghost use Rattle.ada_syntax.specs.declared.unit.BodyItem.{BodyItem};
 ghost use Rattle.ada_rules.specs.Library.{body_names};
 ghost use Rattle.ada_rules.specs.Statements.{all_stated, stmts_of};
-ghost use Rattle.ada_meaning.specs.Collected.{all_labels};
+ghost use Rattle.ada_meaning.specs.Collected.{all_labels, labels_of};
 ghost use Rattle.legal_programs.specs.Labelled.{Labels};
 ghost use Rattle.ada_rules.specs.Environment.{Step, World};
 ghost use Rattle.ada_rules.specs.Library.{all_bodies, Library};
@@ -90,4 +91,12 @@ pub fn a_body_makes_a_subprogram()
 pub fn units_make_subprograms_in_turn()
     ensures { (l : Library) (w : World) (s : State) (n : ℕ) (us : List LibraryUnit)
         → IfOk (all_bodies_judged typing l w s n us).answer (λ t. AreMadeInTurn s → AreMadeInTurn t) }
+{}
+
+/// The whole.
+pub fn obligations_and_objects_are_numbered()
+    ensures labels { (l : Library) (main : List ℕ) (p : Program) → IsLegal l main p
+        → map (λ x. x.number) (labels_of p.subprograms) ≡ numbers 0 (length (labels_of p.subprograms)) }
+    ensures locals { (l : Library) (main : List ℕ) (p : Program) → IsLegal l main p
+        → Everywhere (λ m. AreDistinct (objects_of m)) p.subprograms }
 {}
