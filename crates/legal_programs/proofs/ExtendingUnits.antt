@@ -243,7 +243,7 @@ module _ (step : Step) (l : Library) where
       (λ q h. part_so (AddsBodies 1 s) (AddsBodies 1 s) (body_judged (record env { is_library = false }) s b [] [] q).answer (λ next. rule (Some next))
       (judged_adds (record env { is_library = false }) s b [] [] q (adds_both s (at_unit s) q.next (adds_at_unit s) h)) (λ next k. k)))
 
-  bodies_adds : (w : World) (s : State) (n : ℕ) (u : LibraryUnit) (i : LibraryItem) → HasHome l i
+  pub bodies_adds : (w : World) (s : State) (n : ℕ) (u : LibraryUnit) (i : LibraryItem) → HasHome l i
       → IfOk (bodies_judged step l w s n u i).answer (AddsBodies (length (bodies_of_item i)) s)
   bodies_adds w s n u (library.PackageBody b) h = body_of_adds w s n u b (unit_named l.names (key b.name)) h
   bodies_adds w s n u (library.Subprogram b) h =

@@ -31,7 +31,7 @@ module _ (l : Library) where
   is_there None b h = absurd (false≢true h)
   is_there (Some n) b h = tt
 
-  has_home : (n : ℕ) (i : LibraryItem) → is_declared_well l n i ≡ true → HasHome l i
+  pub has_home : (n : ℕ) (i : LibraryItem) → is_declared_well l n i ≡ true → HasHome l i
   has_home n (library.PackageBody b) h =
       is_there (unit_named l.names (key b.name)) (is_first_name n (first_number (bodies_named (key b.name) 0 l.units))) h
   has_home n (library.Package x) h = tt

@@ -13,3 +13,5 @@ mod LabelledStatements
 mod MadeBodies
 mod MadeUnits
 mod QuietInterfaces
+mod MainUnit
+mod Worlds

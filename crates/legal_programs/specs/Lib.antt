@@ -5,3 +5,4 @@ pub mod Looked
 pub mod Final
 pub mod Labelled
 pub mod Made
+pub mod Main

@@ -13,6 +13,7 @@ ghost use Rattle.legal_programs.specs.Made.{Makes, AreMadeInTurn};
 ghost use Rattle.ada_rules.specs.Environment.{typing, Env, State};
 ghost use Rattle.ada_rules.specs.Legal.{checked_in, legal};
 ghost use Rattle.legal_programs.specs.Walked.{IsLegal};
+ghost use Rattle.legal_programs.specs.Main.{HasMain};
 ghost use Rattle.legal_programs.specs.Final.{IsServed};
 ghost use Rattle.legal_programs.specs.Looked.{IsLookedAt};
 ghost use Rattle.ada_meaning.specs.Bodies.{StandsIn};
@@ -99,4 +100,9 @@ pub fn obligations_and_objects_are_numbered()
         → map (λ x. x.number) (labels_of p.subprograms) ≡ numbers 0 (length (labels_of p.subprograms)) }
     ensures locals { (l : Library) (main : List ℕ) (p : Program) → IsLegal l main p
         → Everywhere (λ m. AreDistinct (objects_of m)) p.subprograms }
+{}
+
+/// The main procedure of a legal program is there: it has no parameters, and stands in no generic.
+pub fn main_procedures_are_there()
+    ensures { (l : Library) (main : List ℕ) (p : Program) → IsLegal l main p → HasMain p }
 {}
