@@ -15,3 +15,7 @@ mod MadeUnits
 mod QuietInterfaces
 mod MainUnit
 mod Worlds
+mod Deciding
+mod DecidedExpressions
+mod WholeRegions
+mod DecidedParts

@@ -6,3 +6,4 @@ pub mod Final
 pub mod Labelled
 pub mod Made
 pub mod Main
+pub mod Deciding

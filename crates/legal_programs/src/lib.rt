@@ -13,6 +13,9 @@ ghost use Rattle.legal_programs.specs.Made.{Makes, AreMadeInTurn};
 ghost use Rattle.ada_rules.specs.Environment.{typing, Env, State};
 ghost use Rattle.ada_rules.specs.Legal.{checked_in, legal};
 ghost use Rattle.legal_programs.specs.Walked.{IsLegal};
+ghost use Rattle.ada_syntax.specs.Tree.{Expr};
+ghost use Rattle.ada_rules.specs.Expressions.{Role, is_circuit, judged};
+ghost use Rattle.legal_programs.specs.Deciding.{IsWholeEnv, JudgesFrom};
 ghost use Rattle.legal_programs.specs.Main.{HasMain};
 ghost use Rattle.legal_programs.specs.Final.{IsServed};
 ghost use Rattle.legal_programs.specs.Looked.{IsLookedAt};
@@ -105,4 +108,10 @@ pub fn obligations_and_objects_are_numbered()
 /// The main procedure of a legal program is there: it has no parameters, and stands in no generic.
 pub fn main_procedures_are_there()
     ensures { (l : Library) (main : List ℕ) (p : Program) → IsLegal l main p → HasMain p }
+{}
+
+/// Decisions.
+pub fn decisions_of_expressions_are_numbered()
+    ensures { (env : Env) (r : Role) (s : State) (e : Expr) → env.step ≡ typing → IsWholeEnv env
+        → IfOk (judged env r s e).answer (JudgesFrom r (is_circuit e) s) }
 {}
