@@ -483,7 +483,7 @@ sign_judges env r s q op x step h =
 pub by_itself : (c : Bool) (s : State) (g : Given Judged) → JudgesFrom itself c s g → JudgesFrom itself false s g
 by_itself c s g h = record { decides = h.decides; clear = h.clear; is_plain = h.is_plain; none = λ e. absurd (false≢true e) }
 
-abbrev Decided : State → Given (tree.Label × tree.Test) → Type 0
+abbrev pub Decided : State → Given (tree.Label × tree.Test) → Type 0
 Decided s g = (k : ℕ) (standing : Standing) → Decides s (in_decision k standing g.value.0 g.value.1) g.next
 
 module _ (env : Env) (step : env.step ≡ typing) (is : IsWholeEnv env) where

@@ -19,3 +19,4 @@ mod Deciding
 mod DecidedExpressions
 mod WholeRegions
 mod DecidedParts
+mod DecidedStatements

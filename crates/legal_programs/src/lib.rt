@@ -15,7 +15,7 @@ ghost use Rattle.ada_rules.specs.Legal.{checked_in, legal};
 ghost use Rattle.legal_programs.specs.Walked.{IsLegal};
 ghost use Rattle.ada_syntax.specs.Tree.{Expr};
 ghost use Rattle.ada_rules.specs.Expressions.{Role, is_circuit, judged};
-ghost use Rattle.legal_programs.specs.Deciding.{IsWholeEnv, JudgesFrom};
+ghost use Rattle.legal_programs.specs.Deciding.{Decides, IsWholeEnv, JudgesFrom};
 ghost use Rattle.legal_programs.specs.Main.{HasMain};
 ghost use Rattle.legal_programs.specs.Final.{IsServed};
 ghost use Rattle.legal_programs.specs.Looked.{IsLookedAt};
@@ -26,7 +26,7 @@ ghost use Rattle.legal_laws.specs.Served.{HaveOwnValues};
 ghost use Rattle.ada_syntax.specs.declared.unit.BodyItem.{BodyItem};
 ghost use Rattle.ada_rules.specs.Library.{body_names};
 ghost use Rattle.ada_rules.specs.Statements.{all_stated, stmts_of};
-ghost use Rattle.ada_meaning.specs.Collected.{all_labels, labels_of};
+ghost use Rattle.ada_meaning.specs.Collected.{all_labels, in_stmts, labels_of};
 ghost use Rattle.legal_programs.specs.Labelled.{Labels};
 ghost use Rattle.ada_rules.specs.Environment.{Step, World};
 ghost use Rattle.ada_rules.specs.Library.{all_bodies, Library};
@@ -114,4 +114,10 @@ pub fn main_procedures_are_there()
 pub fn decisions_of_expressions_are_numbered()
     ensures { (env : Env) (r : Role) (s : State) (e : Expr) → env.step ≡ typing → IsWholeEnv env
         → IfOk (judged env r s e).answer (JudgesFrom r (is_circuit e) s) }
+{}
+
+/// Decisions of statements.
+pub fn decisions_of_statements_are_numbered()
+    ensures { (env : Env) (s : State) (q : Pos) (ss : Statements) → env.step ≡ typing → IsWholeEnv env
+        → IfOk (all_stated env s q ss).answer (λ g. Decides s (in_stmts (stmts_of g.value)) g.next) }
 {}
