@@ -94,7 +94,7 @@ named_denotes s None h = tt
 named_denotes s (Some x) h = entity_denotes s x h
 
 -- what is found among whole entities
-entity_whole : (name : List ℕ) (region : Region) → IsWholeRegion region → IfSome (entity_of name region) IsWhole
+pub entity_whole : (name : List ℕ) (region : Region) → IsWholeRegion region → IfSome (entity_of name region) IsWhole
 entity_whole name [] all = tt
 entity_whole name (e ∷ region) all =
     if_either IsWhole (same_name name e.0) (Some e.1) (entity_of name region) all.0 (entity_whole name region all.1)
@@ -103,7 +103,7 @@ found_whole : (name : List ℕ) (regions : List Region) → Everywhere IsWholeRe
 found_whole name [] all = tt
 found_whole name (r ∷ rs) all = if_or IsWhole (entity_of name r) (found name rs) (entity_whole name r all.0) (found_whole name rs all.1)
 
-shown_whole : (o : Option Entity) → IfSome o IsWhole → IfSome (shown o) IsWhole
+pub shown_whole : (o : Option Entity) → IfSome o IsWhole → IfSome (shown o) IsWhole
 shown_whole None h = tt
 shown_whole (Some hidden) h = tt
 shown_whole (Some x) h = h

@@ -124,7 +124,7 @@ module _ (env : Env) (step : env.step ≡ typing) (is : IsWholeEnv env) where
   mark_any s d naming same h = absurd (cc same)
   mark_any s d typing same h = mark_calm_of s d h
 
-  mark_calm : (s : State) (n : source.Name) → IfOk (mark_part env s n).answer (Calm s)
+  pub mark_calm : (s : State) (n : source.Name) → IfOk (mark_part env s n).answer (Calm s)
   mark_calm s n =
       answered (Calm s) (name_pos n) _
       (part_so (DenotesFrom s) (Calm s) (denoted env s n).answer (λ d. rule (option_map (λ m. given m d.next) (mark_or_any env.step d.value)))

@@ -20,3 +20,5 @@ mod DecidedExpressions
 mod WholeRegions
 mod DecidedParts
 mod DecidedStatements
+mod DecidedUnits
+mod DecidedPrograms

@@ -21,7 +21,7 @@ use Rattle.ada_rules.specs.Declarations.{bounded, index_of, indicated, fields_of
 use Rattle.legal_laws.proofs.Passing.{IfPassed, if_test, answered, ruled_so, part_so, typed_either, any_answer, every_end}
 use Rattle.legal_programs.specs.Deciding.{IsWhole, IsWholeRegion, IsWholeEnv}
 
-name_added : (region : Region) (i : Identifier) (x : Entity) → IsWholeRegion region → IsWhole x → IfSome (with_name region i x) IsWholeRegion
+pub name_added : (region : Region) (i : Identifier) (x : Entity) → IsWholeRegion region → IsWhole x → IfSome (with_name region i x) IsWholeRegion
 name_added region i x all h =
     if_test IsWholeRegion (is_new region i) (Some (region ++ (key i, x) ∷ [])) (λ b. every_end (λ e. IsWhole e.1) region (key i, x) all h)
 

@@ -7,3 +7,5 @@ pub mod Labelled
 pub mod Made
 pub mod Main
 pub mod Deciding
+pub mod WholeWorld
+pub mod InText

@@ -16,7 +16,10 @@ ghost use Rattle.legal_programs.specs.Walked.{IsLegal};
 ghost use Rattle.ada_syntax.specs.Tree.{Expr};
 ghost use Rattle.ada_rules.specs.Expressions.{Role, is_circuit, judged};
 ghost use Rattle.legal_programs.specs.Deciding.{Decides, IsWholeEnv, JudgesFrom};
+ghost use Rattle.legal_programs.specs.InText.{IsFormedInInstances, IsInTextOrder};
 ghost use Rattle.legal_programs.specs.Main.{HasMain};
+ghost use Rattle.legal_programs.specs.WholeWorld.{IsWholeStandard};
+ghost use Rattle.ada_meaning.specs.WellFormed.{IsWellFormed};
 ghost use Rattle.legal_programs.specs.Final.{IsServed};
 ghost use Rattle.legal_programs.specs.Looked.{IsLookedAt};
 ghost use Rattle.ada_meaning.specs.Bodies.{StandsIn};
@@ -120,4 +123,10 @@ pub fn decisions_of_expressions_are_numbered()
 pub fn decisions_of_statements_are_numbered()
     ensures { (env : Env) (s : State) (q : Pos) (ss : Statements) → env.step ≡ typing → IsWholeEnv env
         → IfOk (all_stated env s q ss).answer (λ g. Decides s (in_stmts (stmts_of g.value)) g.next) }
+{}
+
+/// The whole, but for instances.
+pub fn legal_programs_are_well_formed_but_for_instances()
+    ensures { (l : Library) (main : List ℕ) (p : Program) → IsLegal l main p → IsWholeStandard l.standard
+        → IsInTextOrder p → IsFormedInInstances p → IsWellFormed p }
 {}

@@ -1,0 +1,92 @@
+-- Decisions of a legal program are numbered in turn, and none has too many conditions; and what makes it well-formed.
+use Rattle.std.proofs.Common.{◌≡◌, ℕ, List, [], ◌∷◌, map, reverse, length, Ok, refl, sym, ap, ◌∙◌, subst}
+use Rattle.cov_base.specs.Lists.{Everywhere}
+use Rattle.ada_syntax.specs.declared.unit.Unit.{Unit as LibraryUnit}
+use Rattle.ada_meaning.specs.Collected.{labels_of, decisions_of}
+use Rattle.ada_meaning.specs.Obligations.{numbers, in_order, ordered_labels, ordered_decisions, ordered_exceptions, IsNumbered}
+use Rattle.cov_base.specs.TextOrder.{precedes}
+use Rattle.ada_meaning.specs.Objects.{IsDeclaredOnce}
+use Rattle.ada_meaning.specs.Program.{Program}
+use Rattle.ada_meaning.specs.WellFormed.{IsWellFormed}
+use Rattle.ada_rules.specs.Entities.{whole_standard}
+use Rattle.ada_rules.specs.Environment.{typing, no_interface, State, beginning_state}
+use Rattle.ada_rules.specs.Legal.{program_of}
+use Rattle.ada_rules.specs.Library.{Library}
+use Rattle.ada_rules.specs.Units.{all_interfaces, all_bodies_judged, world_before}
+use Rattle.legal_laws.proofs.KnownBodies.{mapped_length}
+use Rattle.legal_laws.proofs.ListedPrograms.{instances_in_order}
+use Rattle.legal_laws.proofs.NumberedObjects.{numbers_length}
+use Rattle.legal_programs.specs.Deciding.{Decides, IsNarrow}
+use Rattle.legal_programs.specs.InText.{IsInTextOrder, IsFormedInInstances}
+use Rattle.legal_programs.specs.Main.{HasMain}
+use Rattle.legal_programs.specs.WholeWorld.{IsWholeInterface, IsWholeStandard, IsWholeWorld, AreDecidedInTurn}
+use Rattle.legal_programs.specs.Walked.{IsLegal}
+use Rattle.legal_programs.proofs.Counted.{AreStates, states_of, library_distinct, exceptions_distinct}
+use Rattle.legal_programs.proofs.Deciding.{decides_as}
+use Rattle.legal_programs.proofs.DecidedUnits.{Turn, Seen, interfaces_seen, all_bodies_turn}
+use Rattle.legal_programs.proofs.Finals.{NoneExceeded, none_exceeded}
+use Rattle.legal_programs.proofs.Passed.{of_ok}
+use Rattle.legal_programs.proofs.QuietInterfaces.{labels_numbered, locals_distinct}
+use Rattle.legal_programs.proofs.Worlds.{has_main_sub}
+
+none_declared : (us : List LibraryUnit) → Everywhere IsWholeInterface (map (λ u. no_interface) us)
+none_declared [] = tt
+none_declared (u ∷ us) = (tt, none_declared us)
+
+pub whole_is_whole : IsWholeStandard whole_standard
+whole_is_whole = record {
+  predefined = (tt, (tt, (tt, (tt, (tt, (tt, (tt, (tt, (tt, tt)))))))));
+  test_io = (tt, (tt, (tt, tt)));
+}
+
+module _ (l : Library) (main : List ℕ) (p : Program) (is : IsLegal l main p) (standard : IsWholeStandard l.standard) where
+  decided : AreDecidedInTurn is.walked.next
+  decided =
+      let seen = of_ok (λ y. Seen beginning_state y)
+      (all_interfaces typing l (record { world = world_before l; next = beginning_state }) l.order).answer is.walk.seen is.walk.interfaces
+      (interfaces_seen l (record { world = world_before l; next = beginning_state }) l.order
+      (record { standard = standard; interfaces = none_declared l.units })) in
+      of_ok (Turn is.walk.seen.next) (all_bodies_judged typing l is.walk.seen.world is.walk.seen.next 0 l.units).answer is.walked.next is.walk.bodies
+      (all_bodies_turn l is.walk.seen.world is.walk.seen.next 0 l.units seen.1)
+      (decides_as beginning_state is.walk.seen.next [] (decisions_of (reverse is.walk.seen.next.subprograms))
+      (sym (ap (λ ss. decisions_of (reverse ss)) (states_of l main p is).seen.subprograms)) seen.0)
+
+  pub decisions_numbered : map (λ h. h.label.number) (decisions_of p.subprograms) ≡ numbers 0 (length (decisions_of p.subprograms))
+  decisions_numbered =
+      subst (λ q. map (λ h. h.label.number) (decisions_of q.subprograms) ≡ numbers 0 (length (decisions_of q.subprograms))) (sym is.made) decided.numbered
+
+  pub decisions_narrow : Everywhere IsNarrow (decisions_of p.subprograms)
+  decisions_narrow =
+      subst (λ q. Everywhere IsNarrow (decisions_of q.subprograms)) (sym is.made)
+      (decided.few (none_exceeded is.walked.world is.walked.next l.units is.limited).places).1
+
+  -- the numbers of a program whose obligations stand in the order of the text
+  pub numbered : IsInTextOrder p → IsNumbered p
+  numbered order = record {
+    statements = subst (λ ls. map (λ x. x.number) ls ≡ numbers 0 (length ls)) (sym order.labels) (labels_numbered l main p is);
+    decisions = subst (λ ds. map (λ h. h.label.number) ds ≡ numbers 0 (length ds)) (sym order.decisions) decisions_numbered;
+    instances = subst (λ q. in_order (λ a b. precedes a.place b.place) q.instances ≡ q.instances) (sym is.made) (instances_in_order is.walked.world is.walked.next main);
+    exceptions = subst (λ q. q.exceptions ≡ map (λ x. x.entry) (ordered_exceptions q)) (sym is.made) refl;
+  }
+
+  pub declared_once : IsDeclaredOnce p
+  declared_once = record {
+    locals = locals_distinct l main p is;
+    library = library_distinct l main p is;
+    exceptions = exceptions_distinct l main p is;
+  }
+
+  pub well_formed : IsInTextOrder p → IsFormedInInstances p → IsWellFormed p
+  well_formed order formed =
+      let main_sub = has_main_sub l main p is in
+      record {
+        numbered = numbered order;
+        declared = declared_once;
+        resolved = formed.resolved;
+        narrow = decisions_narrow;
+        library = formed.library;
+        bodies = formed.bodies;
+        main = main_sub.main;
+        is_main = main_sub.is_main;
+        main_alone = main_sub.main_alone;
+      }
