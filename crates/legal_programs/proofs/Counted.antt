@@ -1,18 +1,17 @@
 -- Objects of the library level and exceptions of a legal program have numbers of their own.
-use Rattle.std.proofs.Common.{◌≡◌, ◌+◌, ℕ, zero, suc, List, [], ◌∷◌, ◌++◌, map, reverse, length, Ok, refl, sym, ap, ◌∙◌, subst, arith, length-append}
+use Rattle.std.proofs.Common.{◌≡◌, ◌+◌, ℕ, List, [], ◌∷◌, ◌++◌, map, reverse, length, refl, sym, ap, ◌∙◌, subst, arith}
 use mathlib.Core.List.{reverse-cons}
 use Rattle.ada_meaning.specs.Objects.{AreDistinct}
 use Rattle.ada_meaning.specs.Obligations.{numbers}
 use Rattle.ada_meaning.specs.Program.{Program}
-use Rattle.ada_rules.specs.Environment.{typing, beginning_state, World, State}
-use Rattle.ada_rules.specs.Legal.{program_of}
+use Rattle.ada_rules.specs.Environment.{typing, beginning_state}
 use Rattle.ada_rules.specs.Library.{Library, all_bodies}
 use Rattle.ada_rules.specs.Units.{all_interfaces, all_bodies_judged, world_before}
 use Rattle.legal_laws.proofs.DistinctObjects.{numbers_distinct}
 use Rattle.legal_laws.proofs.NumberedObjects.{numbers_joined}
-use Rattle.legal_programs.specs.Growing.{CountsDown, AreObjectsNumbered, AreExceptionsNumbered, Extends, AddsBodies, AddsInterfaces}
+use Rattle.legal_programs.specs.Growing.{CountsDown, Extends, AddsBodies, AddsInterfaces}
 use Rattle.legal_programs.specs.Homes.{instances_at}
-use Rattle.legal_programs.specs.Walked.{IsWalked, IsLegal}
+use Rattle.legal_programs.specs.Walked.{IsLegal}
 use Rattle.legal_programs.proofs.Extending.{extends_both}
 use Rattle.legal_programs.proofs.ExtendingUnits.{interfaces_add, all_bodies_add}
 use Rattle.legal_programs.proofs.Headings.{are_headed, have_homes}

@@ -1,8 +1,7 @@
 -- Names and expressions number their decisions in the order in which they stand in what they come to.
-use Rattle.std.proofs.Common.{◌≡◌, ◌≤◌, ◌+◌, ℕ, nat_eq, nat_lt, Bool, true, false, if◌then◌else◌, List, [], ◌∷◌, ◌++◌, map, length, Option, Some, None, option_map, IfSome, IfOk, is_some, refl, sym, ap, ◌∙◌, subst, arith, append-nil, append_assoc}
+use Rattle.std.proofs.Common.{◌≡◌, ℕ, nat_eq, nat_lt, Bool, true, false, if◌then◌else◌, List, [], ◌∷◌, ◌++◌, length, Option, Some, None, option_map, IfSome, IfOk, is_some, refl, sym, ap, ◌∙◌, append-nil, append_assoc}
 use Rattle.std.specs.Prelude.{◌&&◌, ◌||◌, not}
-use Rattle.std.specs.Option.{option_and_then, option_or}
-use Rattle.std.specs.Map.{lookup}
+use Rattle.std.specs.Option.{option_and_then}
 use Rattle.std.proofs.lemmas.Bool.{false≢true}
 use Rattle.cov_base.specs.Lists.{Everywhere}
 use Rattle.cov_base.specs.declared.position.Pos.{Pos}
@@ -12,7 +11,7 @@ use Rattle.ada_meaning.specs.Collected.{Standing, Decision, elsewhere, in_expr, 
 use Rattle.ada_meaning.specs.Program.{Mode, in_mode, out_mode, in_out_mode}
 use Rattle.ada_meaning.specs.Tree as tree
 use Rattle.ada_meaning.specs.Types.{Static, Sign, static_sign}
-use Rattle.ada_rules.specs.Plan.{Plan, Outcome, refused_in, broken, passed, ◌>>=◌, rule}
+use Rattle.ada_rules.specs.Plan.{Outcome, refused_in, broken, passed, ◌>>=◌, rule}
 use Rattle.ada_rules.specs.Types.{AdaType, integer_type, enumeration, formal_type, array_type, record_type, AdaSubtype, of_type, type_in, range_in, is_scalar, same_type, Kind, is_integral, is_discrete, is_boolean, fits, common}
 use Rattle.ada_syntax.specs.declared.expr.UnaryOperator.{UnaryOperator}
 use Rattle.ada_syntax.specs.declared.expr.UnaryOperator.TheVariants as unary
@@ -20,11 +19,11 @@ use Rattle.ada_syntax.specs.declared.expr.BinaryOperator.{BinaryOperator}
 use Rattle.ada_syntax.specs.declared.expr.RelationalOperator.{RelationalOperator}
 use Rattle.ada_rules.specs.Entities.{key, Variable, Parameter, Routine, Entity, hidden, mark, literal, object, formal_object, routine, raisable, component, test_io, unit, Region, entity_of, found, shown, visible, same_name}
 use Rattle.ada_rules.specs.Environment.{typing, typed_rule, State, Given, given, Env, regions_of, interface_of, decision_label, decided}
-use Rattle.ada_rules.specs.Denoted.{Form, plain, test_form, Judged, any_judged, valued, Denoted, a_mark, a_value, a_variable, a_routine, a_call, an_exception, a_unit, the_test_io, a_thing, denoted_of, followed_by, part_of, field_among, field_of, component_of, attribute_of_type, attribute_of_object, static_attribute, object_attribute, converts, conversion_of, element_of, written, by_name, by_value, passed_as, actuals_for, called, complemented, complement_of, signed, sign_of, known_of_both, operator_of, operation_of, relation_of, relation_with, circuit_of, is_attribute, attribute_of, negated, test_of_expr, test_of, expr_of, numeral_of, standing_at, enclosed, unary_of, binary_of, related, neutral_of, joined, tested, value_of, applied_to}
-use Rattle.ada_rules.specs.Expressions.{Role, itself, operand, is_circuit, is_circuit_under, role_under, opens, entered, closed, measured, is_own, part_of_unit, part_of_interface, named, selection, attribution, typed_as, denoted, judged, all_judged, decision}
-use Rattle.legal_laws.proofs.Passing.{IfPassed, if_map, if_then, if_test, if_not, if_either, if_or, answered, ruled_so, part_so, typed_so}
-use Rattle.legal_programs.specs.Deciding.{IsNarrow, Decides, IsWhole, IsWholeRegion, IsWholeEnv, in_form, in_denoted, IsPlain, IsPlainIn, IsClearVariable, IsClear, IsClearDenoted, DenotesFrom, JudgesFrom}
-use Rattle.legal_programs.proofs.Deciding.{decides_none, decides_same, decides_joined, decides_as, decides_behind, decides_before, decides_measured}
+use Rattle.ada_rules.specs.Denoted.{Form, plain, test_form, Judged, any_judged, valued, Denoted, a_mark, a_value, a_variable, a_routine, a_call, a_unit, the_test_io, a_thing, denoted_of, followed_by, part_of, field_among, field_of, component_of, attribute_of_type, attribute_of_object, static_attribute, object_attribute, converts, conversion_of, element_of, written, by_name, by_value, passed_as, actuals_for, called, complemented, complement_of, signed, sign_of, known_of_both, operator_of, operation_of, relation_of, relation_with, circuit_of, is_attribute, attribute_of, negated, test_of_expr, test_of, expr_of, numeral_of, standing_at, enclosed, unary_of, binary_of, related, neutral_of, joined, tested, value_of, applied_to}
+use Rattle.ada_rules.specs.Expressions.{Role, itself, operand, is_circuit, opens, entered, closed, measured, is_own, part_of_unit, part_of_interface, named, selection, attribution, typed_as, denoted, judged, all_judged, decision}
+use Rattle.legal_laws.proofs.Passing.{IfPassed, if_map, if_then, if_test, if_not, if_either, if_or, answered, part_so, typed_so}
+use Rattle.legal_programs.specs.Deciding.{Decides, IsWhole, IsWholeRegion, IsWholeEnv, in_form, in_denoted, IsPlain, IsPlainIn, IsClearVariable, IsClear, DenotesFrom, JudgesFrom}
+use Rattle.legal_programs.proofs.Deciding.{decides_same, decides_joined, decides_as, decides_behind, decides_measured}
 
 -- tests
 in_negated : (k : ℕ) (t : tree.Test) → in_test k (negated t) ≡ in_test k t

@@ -1,8 +1,7 @@
 -- What stands in declarations and statements: static expressions and types have no decisions, and values have those of their expressions.
-use Rattle.std.proofs.Common.{◌≡◌, ◌+◌, ℕ, Bool, true, false, if◌then◌else◌, List, [], ◌∷◌, ◌++◌, map, length, Option, Some, None, option_map, IfSome, IfOk, refl, sym, ap, ◌∙◌, subst}
+use Rattle.std.proofs.Common.{◌≡◌, ℕ, Bool, true, false, if◌then◌else◌, List, [], ◌∷◌, ◌++◌, Option, Some, None, option_map, IfSome, IfOk, refl, sym, ap, ◌∙◌}
 use Rattle.std.specs.Prelude.{not, unwrap_or}
 use Rattle.std.specs.Option.{option_and_then}
-use Rattle.std.proofs.lemmas.Bool.{false≢true}
 use Rattle.cov_base.specs.declared.position.Pos.{Pos}
 use Rattle.ada_syntax.specs.Tree as source
 use Rattle.ada_syntax.specs.Tree.{expr_pos, name_pos}
@@ -20,24 +19,24 @@ use Rattle.ada_syntax.specs.declared.statement.Choice.{Choice}
 use Rattle.ada_syntax.specs.declared.statement.Choice.TheVariants as choice
 use Rattle.ada_syntax.specs.declared.statement.ExceptionChoice.{ExceptionChoice}
 use Rattle.ada_syntax.specs.declared.statement.ExceptionChoice.TheVariants as taken
-use Rattle.ada_meaning.specs.Collected.{Decision, in_expr, in_parts, in_value, in_turns}
+use Rattle.ada_meaning.specs.Collected.{in_expr, in_parts, in_value, in_turns}
 use Rattle.ada_meaning.specs.Tree as tree
 use Rattle.ada_meaning.specs.Types.{Static, Range}
-use Rattle.ada_rules.specs.Plan.{Plan, ◌>>=◌, rule}
-use Rattle.ada_rules.specs.Types.{Identity, integer_type, enumeration, formal_type, array_type, record_type, AdaType, AdaSubtype, of_type, type_in, range_in, base, integer_subtype, Kind, is_integral, is_discrete, is_scalar, fits, common, settled, subtype_in_tree}
+use Rattle.ada_rules.specs.Plan.{◌>>=◌, rule}
+use Rattle.ada_rules.specs.Types.{Identity, integer_type, enumeration, formal_type, array_type, record_type, AdaSubtype, of_type, type_in, range_in, base, integer_subtype, Kind, is_integral, is_discrete, is_scalar, fits, common, subtype_in_tree}
 use Rattle.ada_rules.specs.Entities.{key, component, Variable, Region, redefined}
 use Rattle.ada_syntax.specs.declared.name.Identifier.{Identifier}
 use Rattle.ada_rules.specs.Environment.{Step, naming, typing, typed_rule, State, Given, given, map_given, Env, with_local, opened, demanded, hide_all}
-use Rattle.ada_rules.specs.Denoted.{Judged, Denoted, a_mark, a_value, a_variable, a_routine, a_call, an_exception, a_unit, the_test_io, a_thing, expr_of}
+use Rattle.ada_rules.specs.Denoted.{Judged, Denoted, a_mark, a_variable, an_exception, expr_of}
 use Rattle.ada_rules.specs.Expressions.{itself, is_circuit, denoted, judged, Valued, any_valued, value_named, static_known, accepted, static_part, Marked, any_mark, marked, mark_or_any, mark_part, scalar_only, scalar_mark}
-use Rattle.ada_rules.specs.Declarations.{in_range, ordered, bounded, constrained, constraint_of, indicated, index_between, index_of, with_fields, all_as, fields_of, enumerated, unchanged, defined, value_for, any_value, initial_pos, known_of, NewValue, new_value, innermost, initial_for, known_value, library_value, numbered, known_constant}
+use Rattle.ada_rules.specs.Declarations.{in_range, ordered, bounded, constrained, constraint_of, indicated, index_between, index_of, with_fields, all_as, fields_of, enumerated, unchanged, defined, value_for, any_value, initial_pos, known_of, NewValue, new_value, numbered, known_constant}
 use Rattle.ada_rules.specs.Statements.{any_variable, writable, target, Selector, any_selector, selector_of, selector, among, chosen, all_chosen, any_turns, turns_between, turns_over, Turns, turned, exception_of, where_allowed, caught, all_caught}
 use Rattle.ada_rules.specs.Statics.{Test, in_order}
 use Rattle.legal_laws.proofs.KeptStatics.{named_only}
 use Rattle.legal_laws.proofs.Passing.{IfPassed, if_map, if_then, if_test, if_not, answered, ruled_so, part_so, typed_so, typed_either, any_answer}
 use Rattle.legal_programs.specs.Deciding.{Decides, IsWholeRegion, IsWholeEnv, in_form, in_denoted, IsPlain, IsClear, DenotesFrom, JudgesFrom}
-use Rattle.legal_programs.proofs.Deciding.{decides_none, decides_same, decides_joined, decides_as, decides_behind, decides_before}
-use Rattle.legal_programs.proofs.DecidedExpressions.{in_expr_of, by_itself, any_of, denoted_decides, judged_decides}
+use Rattle.legal_programs.proofs.Deciding.{decides_none, decides_same, decides_joined, decides_as, decides_behind}
+use Rattle.legal_programs.proofs.DecidedExpressions.{in_expr_of, any_of, denoted_decides, judged_decides}
 use Rattle.legal_programs.proofs.WholeRegions.{local_whole, opened_whole, all_hidden_whole, redefined_whole}
 
 -- nothing is decided

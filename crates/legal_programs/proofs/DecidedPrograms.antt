@@ -1,32 +1,28 @@
 -- Decisions of a legal program are numbered in turn, and none has too many conditions; and what makes it well-formed.
-use Rattle.std.proofs.Common.{◌≡◌, ℕ, List, [], ◌∷◌, map, reverse, length, Ok, refl, sym, ap, ◌∙◌, subst}
+use Rattle.std.proofs.Common.{◌≡◌, ℕ, List, [], ◌∷◌, map, reverse, length, refl, sym, ap, subst}
 use Rattle.cov_base.specs.Lists.{Everywhere}
 use Rattle.ada_syntax.specs.declared.unit.Unit.{Unit as LibraryUnit}
-use Rattle.ada_meaning.specs.Collected.{labels_of, decisions_of}
-use Rattle.ada_meaning.specs.Obligations.{numbers, in_order, ordered_labels, ordered_decisions, ordered_exceptions, IsNumbered}
+use Rattle.ada_meaning.specs.Collected.{decisions_of}
+use Rattle.ada_meaning.specs.Obligations.{numbers, in_order, ordered_exceptions, IsNumbered}
 use Rattle.cov_base.specs.TextOrder.{precedes}
-use Rattle.ada_meaning.specs.Objects.{IsDeclaredOnce}
 use Rattle.ada_meaning.specs.Program.{Program}
 use Rattle.ada_meaning.specs.WellFormed.{IsWellFormed}
 use Rattle.ada_rules.specs.Entities.{whole_standard}
-use Rattle.ada_rules.specs.Environment.{typing, no_interface, State, beginning_state}
-use Rattle.ada_rules.specs.Legal.{program_of}
+use Rattle.ada_rules.specs.Environment.{typing, no_interface, beginning_state}
 use Rattle.ada_rules.specs.Library.{Library}
 use Rattle.ada_rules.specs.Units.{all_interfaces, all_bodies_judged, world_before}
-use Rattle.legal_laws.proofs.KnownBodies.{mapped_length}
 use Rattle.legal_laws.proofs.ListedPrograms.{instances_in_order}
-use Rattle.legal_laws.proofs.NumberedObjects.{numbers_length}
-use Rattle.legal_programs.specs.Deciding.{Decides, IsNarrow}
+use Rattle.legal_programs.specs.Deciding.{IsNarrow}
 use Rattle.legal_programs.specs.InText.{IsInTextOrder, IsFormedInInstances}
-use Rattle.legal_programs.specs.Main.{HasMain}
-use Rattle.legal_programs.specs.WholeWorld.{IsWholeInterface, IsWholeStandard, IsWholeWorld, AreDecidedInTurn}
+use Rattle.legal_programs.specs.WholeWorld.{IsWholeInterface, IsWholeStandard, AreDecidedInTurn}
 use Rattle.legal_programs.specs.Walked.{IsLegal}
-use Rattle.legal_programs.proofs.Counted.{AreStates, states_of, library_distinct, exceptions_distinct}
+use Rattle.legal_programs.proofs.Counted.{states_of}
 use Rattle.legal_programs.proofs.Deciding.{decides_as}
-use Rattle.legal_programs.proofs.DecidedUnits.{Turn, Seen, interfaces_seen, all_bodies_turn}
-use Rattle.legal_programs.proofs.Finals.{NoneExceeded, none_exceeded}
+use Rattle.legal_programs.proofs.DecidedBodies.{Turn}
+use Rattle.legal_programs.proofs.DecidedUnits.{Seen, interfaces_seen, all_bodies_turn}
+use Rattle.legal_programs.proofs.Finals.{none_exceeded}
 use Rattle.legal_programs.proofs.Passed.{of_ok}
-use Rattle.legal_programs.proofs.QuietInterfaces.{labels_numbered, locals_distinct}
+use Rattle.legal_programs.proofs.QuietInterfaces.{labels_numbered, declared_once}
 use Rattle.legal_programs.proofs.Worlds.{has_main_sub}
 
 none_declared : (us : List LibraryUnit) → Everywhere IsWholeInterface (map (λ u. no_interface) us)
@@ -69,19 +65,12 @@ module _ (l : Library) (main : List ℕ) (p : Program) (is : IsLegal l main p) (
     exceptions = subst (λ q. q.exceptions ≡ map (λ x. x.entry) (ordered_exceptions q)) (sym is.made) refl;
   }
 
-  pub declared_once : IsDeclaredOnce p
-  declared_once = record {
-    locals = locals_distinct l main p is;
-    library = library_distinct l main p is;
-    exceptions = exceptions_distinct l main p is;
-  }
-
   pub well_formed : IsInTextOrder p → IsFormedInInstances p → IsWellFormed p
   well_formed order formed =
       let main_sub = has_main_sub l main p is in
       record {
         numbered = numbered order;
-        declared = declared_once;
+        declared = declared_once l main p is;
         resolved = formed.resolved;
         narrow = decisions_narrow;
         library = formed.library;

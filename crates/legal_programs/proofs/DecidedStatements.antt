@@ -1,7 +1,6 @@
 -- Statements number their decisions in the order in which they stand in the typed program.
-use Rattle.std.proofs.Common.{◌≡◌, ◌+◌, ℕ, nat_eq, Bool, true, false, if◌then◌else◌, List, [], ◌∷◌, ◌++◌, map, length, Option, Some, None, option_map, IfSome, IfOk, refl, sym, ap, ◌∙◌, subst, append-nil, append_assoc}
+use Rattle.std.proofs.Common.{◌≡◌, ◌+◌, ℕ, nat_eq, Bool, true, false, if◌then◌else◌, List, [], ◌∷◌, ◌++◌, length, Option, Some, None, option_map, IfSome, IfOk, refl, sym, ap, ◌∙◌, subst, append-nil, append_assoc}
 use Rattle.std.specs.Prelude.{◌&&◌, is_none}
-use Rattle.std.proofs.lemmas.Bool.{false≢true}
 use Rattle.cov_base.specs.declared.position.Pos.{Pos}
 use Rattle.ada_syntax.specs.StatementTree as text
 use Rattle.ada_syntax.specs.declared.declaration.Constancy.{Constancy}
@@ -13,21 +12,21 @@ use Rattle.ada_syntax.specs.declared.name.Identifier.{Identifier}
 use Rattle.ada_syntax.specs.declared.statement.LoopScheme.TheVariants as scheme
 use Rattle.ada_meaning.specs.Collected.{Decision, after_if, after_while, after_exit, in_expr, in_parts, in_actuals, in_value, in_turns, in_decision, in_declarations, in_stmt, in_stmts, in_branches, in_alternatives, in_handlers, in_block}
 use Rattle.ada_meaning.specs.Tree as tree
-use Rattle.ada_rules.specs.Plan.{Plan, ◌>>=◌, rule}
+use Rattle.ada_rules.specs.Plan.{◌>>=◌, rule}
 use Rattle.ada_rules.specs.Types.{AdaSubtype, type_in, fits}
 use Rattle.ada_rules.specs.Entities.{key, Parameter, raisable, Region, redefined}
 use Rattle.ada_rules.specs.Environment.{typing, Returning, no_result, result_of, typed_rule, State, Given, given, Env, owner_of, with_local, opened, in_loop, in_handler, new_identity, one_type_more, hide, hide_all, statement_label, started}
-use Rattle.ada_rules.specs.Denoted.{Judged, Denoted, a_mark, a_value, a_variable, a_routine, a_call, an_exception, a_unit, the_test_io, a_thing, expr_of}
+use Rattle.ada_rules.specs.Denoted.{Judged, Denoted, a_routine, a_call, an_exception, expr_of}
 use Rattle.ada_rules.specs.Expressions.{itself, is_circuit, denoted, judged, decision}
 use Rattle.ada_rules.specs.Declarations.{indicated, defined, NewValue, new_value, Declared, may_be_bare, one_name, known_constant, lying_in, with_objects, bare_declarations, local_bare, local_set, objects_declared, exception_declared, exceptions_from, type_declared, subtype_declared, kind_declared, declared, all_declared}
-use Rattle.ada_rules.specs.Statements.{stmts_of, one, target, call_of, Chosen, branches_of, Selector, selector, all_chosen, Arm, alternatives_of, ends_with_others, case_of, turned, Turns, loop_parameter, one_object_more, is_reverse, returned, returned_value, exception_of, where_allowed, all_caught, is_last, declarations_in, Frame, block_of, typed_stmt, stated, all_stated, branched, all_arms, all_handlers, all_handled}
+use Rattle.ada_rules.specs.Statements.{stmts_of, one, target, call_of, Chosen, branches_of, Selector, selector, all_chosen, Arm, alternatives_of, ends_with_others, case_of, turned, loop_parameter, one_object_more, is_reverse, returned, returned_value, exception_of, where_allowed, all_caught, is_last, declarations_in, Frame, block_of, typed_stmt, stated, all_stated, branched, all_arms, all_handlers, all_handled}
 use Rattle.legal_laws.proofs.KnownObjects.{of_one}
 use Rattle.legal_laws.proofs.NumberedObjects.{exceptions_made, inside_only, mapped_any}
 use Rattle.legal_laws.proofs.Passing.{IfPassed, if_map, if_test, answered, part_so, typed_so, both_ok, any_answer}
 use Rattle.legal_programs.specs.Deciding.{Decides, IsWholeRegion, IsWholeEnv, in_form, in_denoted, DenotesFrom, JudgesFrom}
 use Rattle.legal_programs.proofs.Deciding.{decides_none, decides_same, decides_joined, decides_as, decides_behind, decides_before}
 use Rattle.legal_programs.proofs.DecidedExpressions.{in_expr_of, Decided, denoted_decides, judged_decides, decision_decides}
-use Rattle.legal_programs.proofs.DecidedParts.{Calm, constant_calm, indicated_calm, defined_calm, ValueFrom, new_value_decides, TargetFrom, target_decides, SelectorFrom, selector_decides, TurnsFrom, turned_decides, all_chosen_calm, exception_calm, all_caught_calm}
+use Rattle.legal_programs.proofs.DecidedParts.{Calm, constant_calm, indicated_calm, defined_calm, new_value_decides, target_decides, SelectorFrom, selector_decides, turned_decides, all_chosen_calm, all_caught_calm}
 use Rattle.legal_programs.proofs.WholeRegions.{local_whole, opened_whole, loop_whole, handler_whole, hidden_whole, all_hidden_whole, RegionWhole, declared_whole}
 
 abbrev pub Declares : State → Declared → Type 0

@@ -1,9 +1,7 @@
 -- Specifications, bodies and units only add to the state, in both steps.
-use Rattle.std.proofs.Common.{◌≡◌, ◌+◌, ℕ, nat_eq, Bool, true, false, if◌then◌else◌, List, [], ◌∷◌, ◌++◌, map, reverse, length, Option, Some, None, option_map, IfSome, IfOk, slice_get, refl, sym, ap, ◌∙◌, subst, arith}
-use Rattle.std.specs.Option.{option_and_then}
+use Rattle.std.proofs.Common.{◌≡◌, ◌+◌, ℕ, nat_eq, Bool, true, false, if◌then◌else◌, List, [], ◌∷◌, ◌++◌, length, Option, Some, None, option_map, IfSome, IfOk, refl, sym, ap, ◌∙◌, subst, arith}
 use Rattle.cov_base.specs.declared.position.Pos.{Pos}
-use Rattle.ada_syntax.specs.Tree as source
-use Rattle.ada_syntax.specs.Tree.{Name, expr_pos}
+use Rattle.ada_syntax.specs.Tree.{Name}
 use Rattle.ada_syntax.specs.declared.name.Identifier.{Identifier}
 use Rattle.ada_syntax.specs.declared.unit.BodyItem.{BodyItem}
 use Rattle.ada_syntax.specs.declared.unit.BodyItem.TheVariants as item
@@ -17,22 +15,21 @@ use Rattle.ada_syntax.specs.declared.unit.Specification.{Specification}
 use Rattle.ada_syntax.specs.declared.unit.SubprogramBody.{SubprogramBody}
 use Rattle.ada_meaning.specs.Types.{static_formal}
 use Rattle.ada_rules.specs.Plan.{Plan, Outcome, refused_in, broken, passed, ◌>>=◌, rule}
-use Rattle.ada_rules.specs.Types.{type_in, range_in, fits}
-use Rattle.ada_rules.specs.Entities.{key, Entity, hidden, mark, literal, object, formal_object, routine, raisable, component, test_io, unit, Region, entity_of, redefined, Actual, object_actual, subtype_seen}
+use Rattle.ada_rules.specs.Entities.{key, formal_object, routine, Region, redefined}
 use Rattle.ada_rules.specs.Environment.{typed_rule, State, Given, given, Env, with_local, opened, new_identity, one_type_more, exceeded, hide, hide_all}
-use Rattle.ada_rules.specs.Expressions.{itself, denoted, judged, static_part, Marked, mark_part, scalar_mark}
-use Rattle.ada_rules.specs.Declarations.{in_range, Declared, with_objects, declared, all_declared}
+use Rattle.ada_rules.specs.Expressions.{Marked, mark_part, scalar_mark}
+use Rattle.ada_rules.specs.Declarations.{Declared, with_objects, declared, all_declared}
 use Rattle.ada_rules.specs.Statements.{Frame, block_of, all_handled}
 use Rattle.ada_rules.specs.Subprograms.{mode_of, Profile, parameters_for, parameter_objects, most_parameters, limited, parameters_judged, is_function_profile, with_result, result_judged, fresh, specified, declared_only, body_number, routine_of, subprogram_declared, completed, conforming, closed_by, may_end, body_made, inside_body, body_judged, with_routine, packaged_body}
-use Rattle.ada_rules.specs.Instances.{formal_mark, formal_routine, formal_type_declared, formal_declared, formals_declared, actual_for_name, any_actual, actual_plan, any_plan, actuals_judged}
+use Rattle.ada_rules.specs.Instances.{formal_mark, formal_routine, formal_type_declared, formal_declared, formals_declared}
 use Rattle.ada_rules.specs.Library.{body_names}
 use Rattle.ada_rules.specs.Units.{package_item, package_items, body_item, body_items}
 use Rattle.legal_laws.specs.Kept.{OnlyDecides}
 use Rattle.legal_laws.proofs.Passing.{IfPassed, if_test, answered, part_so, weaker_ok, typed_either, any_answer, ruled_so, if_map}
-use Rattle.legal_laws.proofs.KeptExpressions.{mark_part_behind, denoted_behind}
-use Rattle.legal_programs.specs.Growing.{IsLonger, CountsDown, AreObjectsNumbered, AreExceptionsNumbered, Adds, Extends, AddsBodies, AddsInterfaces}
+use Rattle.legal_laws.proofs.KeptExpressions.{mark_part_behind}
+use Rattle.legal_programs.specs.Growing.{Adds, Extends, AddsBodies}
 use Rattle.legal_programs.proofs.Lists.{longer_same, longer_by, longer_both}
-use Rattle.legal_programs.proofs.Adding.{adds_same, adds_none, adds_both, adds_decides, adds_objects, adds_typed, Add, AddsOn, expression_adds, static_adds, scalar_mark_adds, declaration_adds, declarations_add}
+use Rattle.legal_programs.proofs.Adding.{adds_same, adds_none, adds_both, adds_decides, adds_objects, adds_typed, Add, AddsOn, scalar_mark_adds, declaration_adds, declarations_add}
 use Rattle.legal_programs.proofs.AddingStatements.{handled_add}
 
 -- specifications

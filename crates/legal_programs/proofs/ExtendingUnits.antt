@@ -1,5 +1,5 @@
 -- Units only add to the state, in both steps.
-use Rattle.std.proofs.Common.{◌≡◌, ◌+◌, ℕ, false, List, [], ◌∷◌, ◌++◌, reverse, length, Option, Some, None, option_map, IfSome, IfOk, slice_get, refl, sym, ap, ◌∙◌, subst, arith, length-append}
+use Rattle.std.proofs.Common.{◌≡◌, ◌+◌, ℕ, false, List, [], ◌∷◌, ◌++◌, length, Option, Some, None, option_map, IfOk, slice_get, refl, sym, ap, ◌∙◌, subst, arith, length-append}
 use Rattle.cov_base.specs.Lists.{Everywhere}
 use Rattle.cov_base.specs.declared.position.Pos.{Pos}
 use Rattle.ada_syntax.specs.Tree as source
@@ -13,24 +13,24 @@ use Rattle.ada_syntax.specs.declared.unit.SubprogramBody.{SubprogramBody}
 use Rattle.ada_syntax.specs.declared.unit.Unit.{Unit as LibraryUnit}
 use Rattle.ada_rules.specs.Plan.{Plan, ◌>>=◌, rule}
 use Rattle.ada_rules.specs.Types.{type_in, range_in, fits}
-use Rattle.ada_rules.specs.Entities.{key, Entity, hidden, mark, literal, object, formal_object, routine, raisable, component, test_io, unit, Region, Actual, object_actual, subtype_seen}
+use Rattle.ada_rules.specs.Entities.{key, Entity, hidden, formal_object, unit, Region, Actual, object_actual, subtype_seen}
 use Rattle.ada_rules.specs.Environment.{Step, typed_rule, World, interface_of, State, Given, given, Env}
 use Rattle.ada_rules.specs.Denoted.{nowhere}
-use Rattle.ada_rules.specs.Statics.{Asked, instantiated}
+use Rattle.ada_rules.specs.Statics.{Asked}
 use Rattle.ada_rules.specs.Expressions.{itself, denoted, judged, static_part}
 use Rattle.ada_rules.specs.Declarations.{in_range}
 use Rattle.ada_rules.specs.Subprograms.{specified, declared_only, closed_by, body_judged}
 use Rattle.ada_rules.specs.Instances.{formals_declared, generic_named, formals_of, actual_for_name, any_actual, actual_plan, any_plan, actuals_judged}
-use Rattle.ada_rules.specs.Library.{Library, is_instance, unit_named, instance_number, body_names, bodies_of_item, all_bodies}
-use Rattle.ada_rules.specs.Units.{env_of, package_items, body_items, Walked, at_unit, behind_unit, formals_in, in_specification, with_package, package_judged, instantiated_by, with_instance, instance_judged, with_subprogram, library_routine, library_subprogram, seen_in, interface_judged, interface_at, all_interfaces, region_of, seen_in_body, in_body, package_body, package_body_of, subprogram_body, library_body, routine_entity, bodies_judged, all_bodies_judged}
+use Rattle.ada_rules.specs.Library.{Library, unit_named, instance_number, body_names, bodies_of_item, all_bodies}
+use Rattle.ada_rules.specs.Units.{env_of, package_items, body_items, Walked, at_unit, behind_unit, formals_in, in_specification, with_package, package_judged, instantiated_by, with_instance, instance_judged, with_subprogram, library_routine, library_subprogram, seen_in, interface_judged, interface_at, all_interfaces, region_of, seen_in_body, in_body, package_body, package_body_of, library_body, routine_entity, bodies_judged, all_bodies_judged}
 use Rattle.legal_laws.specs.Kept.{OnlyDecides}
-use Rattle.legal_laws.proofs.Passing.{IfPassed, if_map, answered, part_so, weaker_ok, typed_either, any_answer}
+use Rattle.legal_laws.proofs.Passing.{IfPassed, answered, part_so, weaker_ok, typed_either, any_answer}
 use Rattle.legal_laws.proofs.KeptExpressions.{denoted_behind}
 use Rattle.legal_programs.specs.Growing.{IsLonger, Adds, Extends, AddsBodies, AddsInterfaces}
 use Rattle.legal_programs.specs.Homes.{IsThere, HasHome, instances_in, instances_at}
 use Rattle.legal_programs.proofs.Lists.{longer_same, longer_by, longer_both}
 use Rattle.legal_programs.proofs.Adding.{adds_same, adds_none, adds_both, adds_decides, Add, expression_adds, static_adds, mapped_adds}
-use Rattle.legal_programs.proofs.Extending.{specified_adds, extends_of, extends_same, extends_both, bodies_of_adds, bodies_both, judged_adds, items_add, body_items_add, formals_add}
+use Rattle.legal_programs.proofs.Extending.{specified_adds, extends_of, extends_both, bodies_of_adds, bodies_both, judged_adds, items_add, body_items_add, formals_add}
 
 -- actuals
 name_adds : (env : Env) (s : State) (n : source.Name) → IfOk (denoted env s n).answer (Add s)

@@ -1,17 +1,15 @@
 -- The final program of a legal library serves each state of its walk.
-use Rattle.std.proofs.Common.{◌≡◌, ℕ, List, [], map, reverse, Option, Some, None, Ok, refl, sym, ap, ◌∙◌, subst}
+use Rattle.std.proofs.Common.{◌≡◌, ℕ, List, [], map, Option, None, refl, sym, ap, subst}
 use Rattle.cov_base.specs.Lists.{Somewhere}
 use Rattle.ada_meaning.specs.Bodies.{StandsIn}
 use Rattle.ada_meaning.specs.Obligations.{ordered_exceptions}
 use Rattle.ada_meaning.specs.Program.{ExceptionDeclaration, Program}
-use Rattle.ada_meaning.specs.Shape.{Shape}
-use Rattle.ada_meaning.specs.Tree.{Object}
 use Rattle.ada_rules.specs.Environment.{World, State}
 use Rattle.ada_rules.specs.Library.{Library}
 use Rattle.ada_rules.specs.Legal.{program_of}
 use Rattle.ada_rules.specs.Limits.{first_declared, first_place, first_unit, first_excess, earlier_of, most_words_of_type, most_words_of_subprogram}
 use Rattle.ada_syntax.specs.declared.unit.Unit.{Unit as LibraryUnit}
-use Rattle.legal_laws.specs.Served.{HaveOwnValues, AreListed}
+use Rattle.legal_laws.specs.Served.{HaveOwnValues}
 use Rattle.legal_programs.specs.Final.{IsServed}
 use Rattle.legal_programs.specs.Growing.{Extends}
 use Rattle.legal_programs.specs.Looked.{IsLookedAt}

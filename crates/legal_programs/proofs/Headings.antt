@@ -1,5 +1,5 @@
 -- The headings of a legal program: names are new, and a body of a package has its package.
-use Rattle.std.proofs.Common.{◌≡◌, ◌+◌, ℕ, Bool, true, false, if◌then◌else◌, List, [], ◌∷◌, Option, Some, None, Ok, slice_get, refl, sym, ap, ◌∙◌, subst}
+use Rattle.std.proofs.Common.{◌≡◌, ◌+◌, ℕ, Bool, true, if◌then◌else◌, List, [], ◌∷◌, Option, Some, None, Ok, slice_get}
 use Rattle.std.specs.Prelude.{◌&&◌}
 use Rattle.std.specs.Option.{option_and_then}
 use Rattle.std.proofs.lemmas.Bool.{false≢true}
@@ -12,7 +12,6 @@ use Rattle.ada_rules.specs.Entities.{key}
 use Rattle.ada_rules.specs.Library.{Library, unit_named, clause_names, all_named_in_with, wants_body, is_first_name, first_number, bodies_named, is_declared_well, heading}
 use Rattle.ada_rules.specs.Plan.{◌>>=◌, rule}
 use Rattle.ada_rules.specs.Units.{all_headings}
-use Rattle.legal_laws.proofs.Passing.{both_true}
 use Rattle.legal_programs.specs.Homes.{IsThere, HasHome, AreHeaded}
 use Rattle.legal_programs.proofs.Passed.{passed_part, passed_rule, passed_test}
 

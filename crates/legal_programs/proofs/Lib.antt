@@ -20,5 +20,6 @@ mod DecidedExpressions
 mod WholeRegions
 mod DecidedParts
 mod DecidedStatements
+mod DecidedBodies
 mod DecidedUnits
 mod DecidedPrograms

@@ -1,5 +1,5 @@
 -- Lists that grow at their front.
-use Rattle.std.proofs.Common.{◌≡◌, ◌+◌, ℕ, List, [], ◌∷◌, ◌++◌, map, reverse, refl, sym, subst, ap, ◌∙◌, append_assoc}
+use Rattle.std.proofs.Common.{◌≡◌, List, [], ◌∷◌, ◌++◌, map, reverse, refl, sym, subst, ap, ◌∙◌, append_assoc}
 use mathlib.Core.List.{reverse-cons}
 use Rattle.legal_programs.specs.Growing.{IsLonger}
 

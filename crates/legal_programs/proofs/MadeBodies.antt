@@ -1,24 +1,22 @@
 -- A body makes one subprogram, whose obligations and objects are numbered in turn.
-use Rattle.std.proofs.Common.{◌≡◌, ◌+◌, ℕ, suc, nat_eq, Bool, true, false, if◌then◌else◌, List, [], ◌∷◌, ◌++◌, map, reverse, length, Option, Some, None, IfOk, refl, sym, ap, ◌∙◌, subst, arith, length-append}
+use Rattle.std.proofs.Common.{◌≡◌, ◌+◌, ℕ, suc, Bool, true, false, if◌then◌else◌, List, [], ◌∷◌, ◌++◌, map, reverse, length, Option, Some, None, IfOk, refl, sym, ap, ◌∙◌, subst, arith, length-append}
 use Rattle.std.specs.Prelude.{◌&&◌}
-use Rattle.cov_base.specs.Lists.{Everywhere}
 use Rattle.cov_base.specs.declared.position.Pos.{Pos}
 use Rattle.ada_syntax.specs.Tree.{Name}
-use Rattle.ada_syntax.specs.declared.name.Identifier.{Identifier}
 use Rattle.ada_syntax.specs.declared.unit.Parameter.{Parameter as SourceParameter}
 use Rattle.ada_syntax.specs.declared.unit.Specification.{Specification}
 use Rattle.ada_syntax.specs.declared.unit.SubprogramBody.{SubprogramBody}
 use Rattle.ada_meaning.specs.Collected.{block_labels}
-use Rattle.ada_meaning.specs.Objects.{number_of, objects_of, all_objects, handler_objects, block_objects, AreDistinct}
+use Rattle.ada_meaning.specs.Objects.{number_of, all_objects, handler_objects, block_objects, AreDistinct}
 use Rattle.ada_meaning.specs.Obligations.{numbers}
 use Rattle.ada_meaning.specs.Program.{Subprogram}
 use Rattle.ada_rules.specs.Plan.{◌>>=◌, rule}
 use Rattle.ada_rules.specs.Entities.{Parameter, Region}
-use Rattle.ada_rules.specs.Environment.{typing, typed_rule, State, Given, given, Env, with_local, opened, exceeded, hide_all}
+use Rattle.ada_rules.specs.Environment.{typing, typed_rule, State, Given, given, Env, with_local, opened, hide_all}
 use Rattle.ada_rules.specs.Expressions.{Marked, mark_part}
 use Rattle.ada_rules.specs.Declarations.{Declared, with_objects, all_declared}
 use Rattle.ada_rules.specs.Statements.{stmts_of, Frame, block_of, all_handled, frame_returns}
-use Rattle.ada_rules.specs.Subprograms.{mode_of, Profile, parameters_for, parameter_objects, most_parameters, limited, parameters_judged, is_function_profile, with_result, result_judged, fresh, specified, returning_of, may_end, typed_parameters, body_made, inside_body, body_judged, closed_by}
+use Rattle.ada_rules.specs.Subprograms.{mode_of, Profile, parameters_for, parameter_objects, limited, parameters_judged, is_function_profile, with_result, result_judged, fresh, specified, returning_of, may_end, typed_parameters, body_made, inside_body, body_judged, closed_by}
 use Rattle.legal_laws.specs.Kept.{OnlyDecides}
 use Rattle.legal_laws.proofs.DistinctObjects.{numbers_distinct}
 use Rattle.legal_laws.proofs.Giving.{returns_value, FrameAs, handled_gives}

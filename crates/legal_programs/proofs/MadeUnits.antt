@@ -1,11 +1,9 @@
 -- Units make their subprograms in turn: statement obligations are numbered through all bodies, and nothing else takes a number.
-use Rattle.std.proofs.Common.{◌≡◌, ◌+◌, ℕ, Bool, true, false, if◌then◌else◌, List, [], ◌∷◌, ◌++◌, map, reverse, length, Option, Some, None, option_map, IfSome, Result, IfOk, slice_get, refl, sym, ap, ◌∙◌, subst, arith, append-nil, append_assoc, length-append}
+use Rattle.std.proofs.Common.{◌≡◌, ◌+◌, ℕ, Bool, true, false, if◌then◌else◌, List, [], ◌∷◌, ◌++◌, map, reverse, length, Option, Some, None, option_map, IfSome, Result, IfOk, refl, sym, ap, ◌∙◌, subst, arith, append-nil, append_assoc}
 use mathlib.Core.List.{reverse-cons}
 use Rattle.std.proofs.lemmas.Bool.{false≢true}
 use Rattle.cov_base.specs.Lists.{Everywhere}
 use Rattle.cov_base.specs.declared.position.Pos.{Pos}
-use Rattle.ada_syntax.specs.Tree as source
-use Rattle.ada_syntax.specs.Tree.{expr_pos}
 use Rattle.ada_syntax.specs.declared.declaration.Constancy.{Constancy}
 use Rattle.ada_syntax.specs.declared.declaration.Declaration.{Declaration}
 use Rattle.ada_syntax.specs.declared.declaration.DeclarationKind.{DeclarationKind}
@@ -14,16 +12,11 @@ use Rattle.ada_syntax.specs.declared.declaration.Initial.{Initial}
 use Rattle.ada_syntax.specs.declared.name.Identifier.{Identifier}
 use Rattle.ada_syntax.specs.declared.unit.BodyItem.{BodyItem}
 use Rattle.ada_syntax.specs.declared.unit.BodyItem.TheVariants as item
-use Rattle.ada_syntax.specs.declared.unit.Formal.{Formal}
-use Rattle.ada_syntax.specs.declared.unit.FormalKind.{FormalKind}
-use Rattle.ada_syntax.specs.declared.unit.FormalKind.TheVariants as formal
-use Rattle.ada_syntax.specs.declared.unit.Instance.{Instance}
 use Rattle.ada_syntax.specs.declared.unit.LibraryItem.{LibraryItem}
 use Rattle.ada_syntax.specs.declared.unit.LibraryItem.TheVariants as library
 use Rattle.ada_syntax.specs.declared.unit.PackageBody.{PackageBody}
 use Rattle.ada_syntax.specs.declared.unit.PackageItem.{PackageItem}
 use Rattle.ada_syntax.specs.declared.unit.PackageItem.TheVariants as part
-use Rattle.ada_syntax.specs.declared.unit.PackageSpecification.{PackageSpecification}
 use Rattle.ada_syntax.specs.declared.unit.Specification.{Specification}
 use Rattle.ada_syntax.specs.declared.unit.SubprogramBody.{SubprogramBody}
 use Rattle.ada_syntax.specs.declared.unit.Unit.{Unit as LibraryUnit}
@@ -32,23 +25,19 @@ use Rattle.ada_meaning.specs.Objects.{AreDistinct, objects_of}
 use Rattle.ada_meaning.specs.Obligations.{numbers}
 use Rattle.ada_meaning.specs.Program.{Subprogram}
 use Rattle.ada_meaning.specs.Tree as tree
-use Rattle.ada_meaning.specs.Types.{static_formal}
 use Rattle.ada_rules.specs.Plan.{Plan, Outcome, refused_in, broken, passed, ◌>>=◌, rule}
-use Rattle.ada_rules.specs.Types.{AdaSubtype, type_in, range_in, fits}
-use Rattle.ada_rules.specs.Entities.{key, Entity, hidden, mark, literal, object, formal_object, routine, raisable, component, test_io, unit, Region, redefined, Actual, object_actual, subtype_seen}
-use Rattle.ada_rules.specs.Environment.{Step, typing, typed_rule, World, interface_of, State, Given, given, Env, with_local, opened, owner_of, new_identity, one_type_more, hide, hide_all}
+use Rattle.ada_rules.specs.Types.{AdaSubtype}
+use Rattle.ada_rules.specs.Entities.{key, routine, raisable, Region, redefined}
+use Rattle.ada_rules.specs.Environment.{typing, typed_rule, World, interface_of, State, Given, given, Env, with_local, owner_of, new_identity, one_type_more, hide, hide_all}
 use Rattle.ada_rules.specs.Denoted.{nowhere}
-use Rattle.ada_rules.specs.Expressions.{itself, denoted, judged, static_part, scalar_mark}
-use Rattle.ada_rules.specs.Declarations.{in_range, innermost, initial_for, LibraryValue, known_value, library_value, indicated, defined, new_value, Declared, may_be_bare, one_name, known_constant, local_bare, local_set, library_declared, no_library_value, objects_declared, exception_declared, exceptions_from, type_declared, subtype_declared, kind_declared, declared}
+use Rattle.ada_rules.specs.Declarations.{LibraryValue, library_value, indicated, defined, new_value, Declared, may_be_bare, one_name, local_bare, local_set, library_declared, no_library_value, objects_declared, exception_declared, exceptions_from, type_declared, subtype_declared, kind_declared, declared}
 use Rattle.ada_rules.specs.Subprograms.{fresh, Profile, specified, declared_only, body_number, routine_of, subprogram_declared, completed, conforming, closed_by, body_judged, with_routine, packaged_body}
-use Rattle.ada_rules.specs.Instances.{formal_mark, formal_routine, formal_type_declared, formal_declared, formals_declared, generic_named, formals_of, actual_for_name, any_actual, actual_plan, any_plan, actuals_judged}
-use Rattle.ada_rules.specs.Library.{Library, unit_named, instance_number}
-use Rattle.ada_rules.specs.Units.{env_of, package_item, package_items, body_item, body_items, Walked, at_unit, behind_unit, formals_in, in_specification, with_package, package_judged, with_instance, instance_judged, with_subprogram, library_routine, library_subprogram, seen_in, interface_judged, interface_at, all_interfaces, region_of, seen_in_body, in_body, package_body, package_body_of, library_body, routine_entity, bodies_judged, all_bodies_judged}
-use Rattle.legal_laws.specs.Kept.{OnlyDecides, OnlyStatics}
-use Rattle.legal_laws.proofs.KeptExpressions.{denoted_behind}
-use Rattle.legal_laws.proofs.KeptStatics.{Behind, static_keeps, expression_keeps, name_keeps, indicated_keeps, defined_keeps, library_value_keeps, scalar_mark_keeps}
+use Rattle.ada_rules.specs.Library.{Library, unit_named}
+use Rattle.ada_rules.specs.Units.{env_of, package_item, package_items, body_item, body_items, at_unit, behind_unit, seen_in, region_of, seen_in_body, in_body, package_body, package_body_of, library_body, routine_entity, bodies_judged, all_bodies_judged}
+use Rattle.legal_laws.specs.Kept.{OnlyStatics}
+use Rattle.legal_laws.proofs.KeptStatics.{Behind, indicated_keeps, defined_keeps, library_value_keeps}
 use Rattle.legal_laws.proofs.KnownObjects.{constant_keeps}
-use Rattle.legal_laws.proofs.Passing.{IfPassed, if_map, if_test, answered, ruled_so, part_so, weaker_ok, both_ok, typed_either, any_answer}
+use Rattle.legal_laws.proofs.Passing.{IfPassed, if_map, answered, ruled_so, part_so, weaker_ok, both_ok, typed_either, any_answer}
 use Rattle.legal_laws.proofs.NumberedObjects.{numbers_joined}
 use Rattle.legal_programs.specs.Made.{Makes, AreMadeInTurn}
 use Rattle.legal_programs.proofs.Adding.{adds_both, Add, AddsOn, declaration_adds}

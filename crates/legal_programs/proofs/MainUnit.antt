@@ -1,6 +1,6 @@
 -- The main unit of a legal program: the one library procedure of its name, whose subprogram stands at the place of its body.
-use Rattle.std.proofs.Common.{◌≡◌, ◌+◌, ◌<◌, ℕ, zero, suc, nat_eq, Bool, true, false, if◌then◌else◌, List, [], ◌∷◌, ◌++◌, map, reverse, length, Option, Some, None, IfOk, Ok, slice_get, refl, sym, ap, ◌∙◌, subst, arith, inl, inr, ◌⊎◌, length-append}
-use Rattle.std.specs.Prelude.{◌&&◌, ◌||◌, not, is_none, unwrap_or}
+use Rattle.std.proofs.Common.{◌≡◌, ◌+◌, ℕ, zero, suc, nat_eq, Bool, true, false, if◌then◌else◌, List, [], ◌∷◌, ◌++◌, reverse, length, Option, Some, None, IfOk, slice_get, refl, sym, ap, ◌∙◌, subst, arith, inl, inr, ◌⊎◌, length-append}
+use Rattle.std.specs.Prelude.{◌&&◌, ◌||◌, not, is_none}
 use Rattle.std.specs.Option.{option_and_then}
 use Rattle.std.proofs.lemmas.List.{reverse-append}
 use mathlib.Core.List.{reverse-cons}
@@ -13,10 +13,9 @@ use Rattle.ada_syntax.specs.declared.unit.BodyItem.TheVariants as item
 use Rattle.ada_syntax.specs.declared.unit.LibraryItem.{LibraryItem}
 use Rattle.ada_syntax.specs.declared.unit.LibraryItem.TheVariants as library
 use Rattle.ada_syntax.specs.declared.unit.Parameter.{Parameter as SourceParameter}
-use Rattle.ada_syntax.specs.declared.unit.Specification.{Specification}
 use Rattle.ada_syntax.specs.declared.unit.SubprogramBody.{SubprogramBody}
 use Rattle.ada_syntax.specs.declared.unit.Unit.{Unit as LibraryUnit}
-use Rattle.ada_meaning.specs.Program.{Subprogram, Program}
+use Rattle.ada_meaning.specs.Program.{Subprogram}
 use Rattle.ada_meaning.specs.WellFormed.{IsMain}
 use Rattle.ada_rules.specs.Denoted.{nowhere}
 use Rattle.ada_rules.specs.Entities.{key, same_name}
@@ -25,9 +24,9 @@ use Rattle.ada_rules.specs.Library.{Library, item_name, unit_named, body_names, 
 use Rattle.ada_rules.specs.Plan.{◌>>=◌, rule, construct}
 use Rattle.ada_rules.specs.Subprograms.{Profile, parameters_judged, result_judged, fresh, specified, is_body, place_among, body_judged, typed_parameters}
 use Rattle.ada_rules.specs.Units.{env_of, at_unit, seen_in, library_body, routine_entity, bodies_judged, all_bodies_judged, is_bare, is_main, has_main}
-use Rattle.legal_laws.proofs.Passing.{answered, part_so, both_ok, both_true, either_true, weaker_ok}
+use Rattle.legal_laws.proofs.Passing.{answered, part_so, both_ok, both_true, either_true}
 use Rattle.legal_programs.specs.Growing.{IsLonger, AddsBodies}
-use Rattle.legal_programs.specs.Homes.{HasHome, AreHeaded}
+use Rattle.legal_programs.specs.Homes.{AreHeaded}
 use Rattle.legal_programs.specs.Made.{Makes}
 use Rattle.legal_programs.proofs.Adding.{adds_both, Add}
 use Rattle.legal_programs.proofs.Extending.{specified_adds}

@@ -1,5 +1,5 @@
 -- What other units see of units takes no label.
-use Rattle.std.proofs.Common.{◌≡◌, ◌+◌, ℕ, Bool, true, false, List, [], ◌∷◌, ◌++◌, map, reverse, length, Option, Some, None, option_map, IfSome, Result, IfOk, slice_get, refl, sym, ap, ◌∙◌, subst}
+use Rattle.std.proofs.Common.{◌≡◌, ◌+◌, ℕ, Bool, true, false, List, [], ◌∷◌, ◌++◌, map, reverse, length, Option, Some, None, option_map, IfSome, IfOk, slice_get, refl, sym, ap, ◌∙◌, subst}
 use Rattle.cov_base.specs.Lists.{Everywhere}
 use Rattle.cov_base.specs.declared.position.Pos.{Pos}
 use Rattle.ada_syntax.specs.Tree as source
@@ -15,14 +15,14 @@ use Rattle.ada_syntax.specs.declared.unit.PackageSpecification.{PackageSpecifica
 use Rattle.ada_syntax.specs.declared.unit.SubprogramBody.{SubprogramBody}
 use Rattle.ada_syntax.specs.declared.unit.Unit.{Unit as LibraryUnit}
 use Rattle.ada_meaning.specs.Collected.{labels_of}
-use Rattle.ada_meaning.specs.Objects.{AreDistinct, objects_of}
+use Rattle.ada_meaning.specs.Objects.{AreDistinct, objects_of, IsDeclaredOnce}
 use Rattle.ada_meaning.specs.Obligations.{numbers}
 use Rattle.ada_meaning.specs.Program.{Program}
 use Rattle.ada_meaning.specs.Types.{static_formal}
-use Rattle.ada_rules.specs.Plan.{Plan, ◌>>=◌, rule}
+use Rattle.ada_rules.specs.Plan.{◌>>=◌, rule}
 use Rattle.ada_rules.specs.Types.{type_in, range_in, fits}
-use Rattle.ada_rules.specs.Entities.{key, Entity, hidden, mark, literal, object, formal_object, routine, raisable, component, test_io, unit, Region, redefined, Actual, object_actual, subtype_seen}
-use Rattle.ada_rules.specs.Environment.{Step, typing, typed_rule, World, State, beginning_state, Given, given, Env, with_local, new_identity, one_type_more, hide}
+use Rattle.ada_rules.specs.Entities.{key, Entity, hidden, formal_object, unit, Region, redefined, Actual, object_actual, subtype_seen}
+use Rattle.ada_rules.specs.Environment.{typing, typed_rule, World, State, beginning_state, given, Env, with_local, new_identity, one_type_more, hide}
 use Rattle.ada_rules.specs.Denoted.{nowhere}
 use Rattle.ada_rules.specs.Expressions.{itself, denoted, judged, static_part, scalar_mark}
 use Rattle.ada_rules.specs.Declarations.{in_range}
@@ -30,15 +30,15 @@ use Rattle.ada_rules.specs.Subprograms.{specified, declared_only, closed_by}
 use Rattle.ada_rules.specs.Instances.{formal_mark, formal_routine, formal_type_declared, formal_declared, formals_declared, generic_named, formals_of, actual_for_name, any_actual, actual_plan, any_plan, actuals_judged}
 use Rattle.ada_rules.specs.Library.{Library, instance_number}
 use Rattle.ada_rules.specs.Units.{env_of, package_items, Walked, at_unit, formals_in, in_specification, with_package, package_judged, with_instance, instance_judged, with_subprogram, library_routine, library_subprogram, seen_in, interface_judged, interface_at, all_interfaces, all_bodies_judged, world_before}
-use Rattle.legal_laws.proofs.KeptStatics.{Behind, static_keeps, expression_keeps, name_keeps, scalar_mark_keeps}
+use Rattle.legal_laws.proofs.KeptStatics.{static_keeps, expression_keeps, name_keeps, scalar_mark_keeps}
 use Rattle.legal_laws.proofs.KnownBodies.{every_reversed, mapped_length}
 use Rattle.legal_laws.proofs.NumberedObjects.{numbers_length}
 use Rattle.legal_laws.proofs.Passing.{IfPassed, answered, part_so, typed_either, any_answer}
 use Rattle.legal_programs.specs.Made.{AreMadeInTurn}
 use Rattle.legal_programs.specs.Walked.{IsLegal}
-use Rattle.legal_programs.proofs.Counted.{AreStates, states_of}
+use Rattle.legal_programs.proofs.Counted.{states_of, library_distinct, exceptions_distinct}
 use Rattle.legal_programs.proofs.Passed.{of_ok}
-use Rattle.legal_programs.proofs.MadeUnits.{Keep, statics_keep, mapped_any, specified_keeps, items_quiet, Quiet, all_bodies_in_turn}
+use Rattle.legal_programs.proofs.MadeUnits.{Keep, statics_keep, specified_keeps, items_quiet, Quiet, all_bodies_in_turn}
 
 -- formals
 formal_type_keeps : (env : Env) (s : State) (i : Identifier) (k : ℕ) (integral : Bool) → IfPassed (formal_type_declared env s i k integral).outcome (Keep s)
@@ -214,7 +214,14 @@ labels_numbered l main p is =
     counted_so : (xs : List ℕ) (n k : ℕ) → length xs ≡ k → xs ≡ numbers 0 n → xs ≡ numbers 0 k
     counted_so xs n k e h = h ∙ ap (numbers 0) (sym (numbers_length 0 n) ∙ (sym (ap length h) ∙ e))
 
-pub locals_distinct : (l : Library) (main : List ℕ) (p : Program) → IsLegal l main p → Everywhere (λ m. AreDistinct (objects_of m)) p.subprograms
+locals_distinct : (l : Library) (main : List ℕ) (p : Program) → IsLegal l main p → Everywhere (λ m. AreDistinct (objects_of m)) p.subprograms
 locals_distinct l main p is =
     subst (λ q. Everywhere (λ m. AreDistinct (objects_of m)) q.subprograms) (sym is.made)
     (every_reversed (λ m. AreDistinct (objects_of m)) is.walked.next.subprograms (all_in_turn l main p is).distinct)
+
+pub declared_once : (l : Library) (main : List ℕ) (p : Program) → IsLegal l main p → IsDeclaredOnce p
+declared_once l main p is = record {
+  locals = locals_distinct l main p is;
+  library = library_distinct l main p is;
+  exceptions = exceptions_distinct l main p is;
+}

@@ -1,23 +1,23 @@
 -- What the final state of a walk serves, it serves in each state before.
-use Rattle.std.proofs.Common.{◌≡◌, ◌+◌, ◌<◌, ℕ, zero, suc, nat_eq, Bool, true, false, if◌then◌else◌, List, [], ◌∷◌, ◌++◌, map, reverse, length, Option, Some, None, refl, sym, ap, ◌∙◌, subst, arith, inl, inr}
+use Rattle.std.proofs.Common.{◌≡◌, ◌+◌, ◌<◌, ℕ, zero, suc, nat_eq, Bool, true, false, if◌then◌else◌, List, [], ◌∷◌, ◌++◌, map, reverse, length, Option, Some, None, refl, sym, ◌∙◌, subst, arith, inl, inr}
 use Rattle.std.specs.Prelude.{◌&&◌, ◌⊎◌}
 use mathlib.Core.List.{reverse-cons}
 use Rattle.std.proofs.lemmas.Bool.{eq-eqb, false≢true}
-use Rattle.cov_base.specs.Lists.{Everywhere, Somewhere}
+use Rattle.cov_base.specs.Lists.{Somewhere}
 use Rattle.ada_meaning.specs.Bodies.{StandsIn, instances_of, instances_from}
-use Rattle.ada_meaning.specs.Obligations.{inserted, in_order, ListedException, listed_once, listed_in, listed_for, listed_by, listed, is_listed_before, ordered_exceptions}
+use Rattle.ada_meaning.specs.Obligations.{inserted, in_order, ListedException, listed_in, listed_for, listed_by, listed, is_listed_before, ordered_exceptions}
 use Rattle.ada_meaning.specs.Program.{GenericConstant, ExceptionDeclaration, Raisable, Instance, Program}
 use Rattle.ada_meaning.specs.Resolved.{rank_of}
 use Rattle.ada_meaning.specs.Shape.{Shape}
 use Rattle.ada_meaning.specs.Tree.{Object}
 use Rattle.ada_meaning.proofs.BodyLaws.{instances_listed}
-use Rattle.ada_rules.specs.Environment.{State, Declares}
+use Rattle.ada_rules.specs.Environment.{State}
 use Rattle.ada_rules.specs.Limits.{first_declared, most_words_of_type}
-use Rattle.ada_rules.specs.Statics.{Demand, Asked, Facts, holds, first_unmet}
-use Rattle.legal_laws.specs.Demanded.{IsDemanded, IsLookedIn, AreMet}
-use Rattle.legal_laws.specs.Served.{HaveValues, HaveOwnValues, AreLimited, Serves, AreListed}
+use Rattle.ada_rules.specs.Statics.{Facts, first_unmet}
+use Rattle.legal_laws.specs.Demanded.{IsDemanded, IsLookedIn}
+use Rattle.legal_laws.specs.Served.{HaveOwnValues, AreLimited, Serves, AreListed}
 use Rattle.legal_laws.proofs.Demands.{are_met_behind, demanded_behind}
-use Rattle.legal_programs.specs.Growing.{IsLonger, Extends}
+use Rattle.legal_programs.specs.Growing.{Extends}
 use Rattle.legal_programs.specs.Looked.{IsLookedAt}
 use Rattle.legal_programs.proofs.Lists.{of_shorter}
 use Rattle.legal_programs.proofs.Limited.{are_limited}

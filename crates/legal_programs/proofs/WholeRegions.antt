@@ -1,8 +1,6 @@
 -- Declarations declare whole objects.
-use Rattle.std.proofs.Common.{◌≡◌, ◌+◌, ℕ, nat_eq, Bool, true, false, if◌then◌else◌, List, [], ◌∷◌, ◌++◌, map, length, Option, Some, None, option_map, IfSome, IfOk, refl}
-use Rattle.cov_base.specs.Lists.{Everywhere}
+use Rattle.std.proofs.Common.{◌+◌, ℕ, Bool, true, false, if◌then◌else◌, List, [], ◌∷◌, ◌++◌, Option, Some, None, option_map, IfSome, IfOk, refl}
 use Rattle.cov_base.specs.declared.position.Pos.{Pos}
-use Rattle.ada_syntax.specs.declared.declaration.Component.{Component}
 use Rattle.ada_syntax.specs.declared.declaration.Constancy.{Constancy}
 use Rattle.ada_syntax.specs.declared.declaration.Declaration.{Declaration}
 use Rattle.ada_syntax.specs.declared.declaration.DeclarationKind.{DeclarationKind}
@@ -14,10 +12,10 @@ use Rattle.ada_syntax.specs.declared.name.Identifier.{Identifier}
 use Rattle.ada_meaning.specs.Tree as tree
 use Rattle.ada_meaning.specs.Types.{Static}
 use Rattle.ada_rules.specs.Plan.{Plan, ◌>>=◌, rule}
-use Rattle.ada_rules.specs.Types.{Identity, AdaType, integer_type, enumeration, array_type, record_type, AdaSubtype, of_type, base, is_integral}
-use Rattle.ada_rules.specs.Entities.{key, same_name, Entity, hidden, mark, literal, raisable, Region, is_new, redefined}
+use Rattle.ada_rules.specs.Types.{Identity, AdaType, integer_type, array_type, record_type, AdaSubtype, of_type, base, is_integral}
+use Rattle.ada_rules.specs.Entities.{key, same_name, Entity, hidden, raisable, Region, is_new, redefined}
 use Rattle.ada_rules.specs.Environment.{typed_rule, State, Given, given, Env, with_local, opened, in_loop, in_handler, owner_of, new_identity, one_type_more, with_name, hide, hide_all}
-use Rattle.ada_rules.specs.Declarations.{bounded, index_of, indicated, fields_of, Defined, literals, enumerated, unchanged, defined, new_value, library_value, LibraryValue, Declared, may_be_bare, one_name, known_constant, lying_in, object_entity, local_objects, local_bare, local_set, library_entities, library_declared, no_library_value, objects_declared, exception_declared, exceptions_from, type_declared, subtype_declared, kind_declared, declared, all_declared}
+use Rattle.ada_rules.specs.Declarations.{bounded, index_of, indicated, fields_of, Defined, literals, enumerated, unchanged, defined, new_value, library_value, Declared, may_be_bare, one_name, object_entity, local_objects, local_bare, local_set, library_entities, library_declared, no_library_value, objects_declared, exception_declared, exceptions_from, type_declared, subtype_declared, kind_declared, declared}
 use Rattle.legal_laws.proofs.Passing.{IfPassed, if_test, answered, ruled_so, part_so, typed_either, any_answer, every_end}
 use Rattle.legal_programs.specs.Deciding.{IsWhole, IsWholeRegion, IsWholeEnv}
 

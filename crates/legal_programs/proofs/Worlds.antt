@@ -1,5 +1,5 @@
 -- What is there before any unit is looked at stays there: the predefined names, the names of units, and the bodies.
-use Rattle.std.proofs.Common.{◌≡◌, ◌+◌, ℕ, List, [], ◌∷◌, length, reverse, Option, Some, None, IfOk, Ok, slice_get, refl, sym, ap, ◌∙◌, subst, arith}
+use Rattle.std.proofs.Common.{◌≡◌, ◌+◌, ℕ, List, [], ◌∷◌, length, reverse, Option, Some, None, IfOk, slice_get, refl, sym, ap, ◌∙◌, arith}
 use Rattle.std.specs.Prelude.{unwrap_or}
 use Rattle.cov_base.specs.declared.position.Pos.{Pos}
 use Rattle.ada_syntax.specs.declared.unit.Instance.{Instance}
@@ -10,20 +10,19 @@ use Rattle.ada_syntax.specs.declared.unit.SubprogramBody.{SubprogramBody}
 use Rattle.ada_syntax.specs.declared.unit.Unit.{Unit as LibraryUnit}
 use Rattle.ada_meaning.specs.Program.{Program}
 use Rattle.ada_rules.specs.Denoted.{nowhere}
-use Rattle.ada_rules.specs.Entities.{Standard, key, hidden, unit, Region}
-use Rattle.ada_rules.specs.Environment.{Step, typing, World, State, beginning_state, Given, Env}
+use Rattle.ada_rules.specs.Entities.{key, hidden, unit}
+use Rattle.ada_rules.specs.Environment.{Step, typing, World, State, beginning_state, Env}
 use Rattle.ada_rules.specs.Instances.{formals_declared, generic_named, formals_of, actuals_judged}
-use Rattle.ada_rules.specs.Legal.{program_of}
-use Rattle.ada_rules.specs.Library.{Library, instance_number, all_bodies}
-use Rattle.ada_rules.specs.Plan.{Plan, ◌>>=◌, rule}
+use Rattle.ada_rules.specs.Library.{Library, instance_number}
+use Rattle.ada_rules.specs.Plan.{◌>>=◌, rule}
 use Rattle.ada_rules.specs.Subprograms.{specified, declared_only, closed_by, place_among, body_number}
 use Rattle.ada_rules.specs.Units.{env_of, package_items, Walked, at_unit, formals_in, in_specification, with_package, package_judged, with_instance, instance_judged, with_subprogram, library_routine, library_subprogram, seen_in, interface_judged, interface_at, all_interfaces, all_bodies_judged, world_before}
 use Rattle.legal_laws.proofs.Passing.{answered, part_so, any_answer}
 use Rattle.legal_programs.specs.Main.{HasMain}
 use Rattle.legal_programs.specs.Walked.{IsLegal}
-use Rattle.legal_programs.proofs.Counted.{AreStates, states_of}
+use Rattle.legal_programs.proofs.Counted.{states_of}
 use Rattle.legal_programs.proofs.Headings.{are_headed}
-use Rattle.legal_programs.proofs.MainUnit.{HasSub, IsHome, home_of, MainAt, main_at}
+use Rattle.legal_programs.proofs.MainUnit.{IsHome, home_of, MainAt, main_at}
 use Rattle.legal_programs.proofs.Passed.{of_ok}
 
 pub record IsSameWorld (w v : World) : Type 0 where

@@ -5,9 +5,9 @@ use Rattle.ada_meaning.specs.Collected.{Decision, in_expr, in_parts, in_actuals,
 use Rattle.ada_meaning.specs.Obligations.{numbers}
 use Rattle.ada_meaning.specs.Tree as tree
 use Rattle.ada_meaning.specs.WellFormed.{most_conditions}
-use Rattle.ada_rules.specs.Entities.{Variable, Entity, hidden, mark, literal, object, formal_object, routine, raisable, component, test_io, unit, Region}
+use Rattle.ada_rules.specs.Entities.{Variable, Entity, object, Region}
 use Rattle.ada_rules.specs.Environment.{State, Given, Env, regions_of, interface_of}
-use Rattle.ada_rules.specs.Denoted.{Form, plain, test_form, Judged, Denoted, a_mark, a_value, a_variable, a_routine, a_call, an_exception, a_unit, the_test_io, a_thing}
+use Rattle.ada_rules.specs.Denoted.{Form, plain, test_form, Judged, Denoted, a_value, a_variable, a_call}
 use Rattle.ada_rules.specs.Expressions.{Role, itself, operand, part_of_interface}
 
 abbrev pub IsNarrow : Decision → Type 0

@@ -1,5 +1,5 @@
 -- Statement obligations are numbered in the order in which they are met.
-use Rattle.std.specs.Prelude.{◌≡◌, ◌+◌, ℕ, List, map, length}
+use Rattle.std.specs.Prelude.{◌≡◌, ◌+◌, List, map, length}
 use Rattle.ada_meaning.specs.Obligations.{numbers}
 use Rattle.ada_meaning.specs.Tree.{Label}
 use Rattle.ada_rules.specs.Environment.{State}

@@ -1,6 +1,6 @@
 -- What a body makes: one subprogram, whose statement obligations are numbered in turn, and whose objects have numbers of
 -- their own.
-use Rattle.std.specs.Prelude.{◌≡◌, ℕ, false, List, ◌∷◌, Option, None, map, reverse}
+use Rattle.std.specs.Prelude.{◌≡◌, ℕ, false, ◌∷◌, Option, None, map, reverse}
 use Rattle.cov_base.specs.Lists.{Everywhere}
 use Rattle.ada_meaning.specs.Collected.{block_labels, labels_of}
 use Rattle.ada_meaning.specs.Declared.{is_function}

@@ -1,5 +1,5 @@
 -- The main procedure of a program.
-use Rattle.std.specs.Prelude.{◌≡◌, ℕ, List, Some, reverse, slice_get}
+use Rattle.std.specs.Prelude.{◌≡◌, Some, slice_get}
 use Rattle.ada_meaning.specs.Program.{Subprogram, Program}
 use Rattle.ada_meaning.specs.WellFormed.{IsMain}
 

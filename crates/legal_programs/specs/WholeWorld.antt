@@ -1,9 +1,9 @@
 -- What units declare for others: whole objects.
-use Rattle.std.specs.Prelude.{◌≡◌, ℕ, List, [], map, reverse}
+use Rattle.std.specs.Prelude.{reverse}
 use Rattle.cov_base.specs.Lists.{Everywhere}
 use Rattle.ada_meaning.specs.Collected.{decisions_of}
 use Rattle.ada_rules.specs.Entities.{Standard}
-use Rattle.ada_rules.specs.Environment.{Interface, no_interface, package_interface, generic_interface, instance_interface, subprogram_interface, World, State, beginning_state}
+use Rattle.ada_rules.specs.Environment.{Interface, package_interface, generic_interface, World, State, beginning_state}
 use Rattle.legal_programs.specs.Deciding.{Decides, IsWholeRegion}
 
 abbrev pub IsWholeInterface : Interface → Type 0

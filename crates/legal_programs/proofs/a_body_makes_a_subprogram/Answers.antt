@@ -1,7 +1,5 @@
-use Rattle.std.proofs.Common.{IfOk, Result, Ok, Err}
-use Rattle.cov_base.specs.declared.position.Pos.{Pos}
-use Rattle.ada_rules.specs.Environment.{Given}
-use Rattle.ada_rules.specs.Subprograms.{Profile, fresh, specified, body_judged}
+use Rattle.std.proofs.Common.{IfOk}
+use Rattle.ada_rules.specs.Subprograms.{fresh, specified, body_judged}
 use Rattle.legal_laws.proofs.Passing.{both_ok, weaker_ok}
 use Rattle.legal_programs.specs.Made.{Makes}
 use Rattle.legal_programs.proofs.Adding.{Add}

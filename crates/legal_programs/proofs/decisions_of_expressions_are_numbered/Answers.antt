@@ -1,6 +1,4 @@
 use Rattle.legal_programs.proofs.DecidedExpressions.{judged_decides}
-use Rattle.legal_programs.proofs.DecidedParts.{defined_calm}
-use Rattle.legal_programs.proofs.WholeRegions.{declared_whole}
 use Rattle.legal_programs.proofs.decisions_of_expressions_are_numbered.Goals as goal
 
 pub returns : goal.returns
