@@ -133,7 +133,7 @@ actuals_calm env step whole s p n before (f ∷ fs) (x ∷ xs) =
     (actuals_calm env step whole a.next p n (before ++ a.value ∷ []) fs xs) (λ rest k. calm_both s a.next rest.next h k)))
 
 -- what units see of each other
-every_at : {X : Type 0} (P : X → Type 0) (xs : List X) (n : ℕ) → Everywhere P xs → IfSome (slice_get xs n) P
+pub every_at : {X : Type 0} (P : X → Type 0) (xs : List X) (n : ℕ) → Everywhere P xs → IfSome (slice_get xs n) P
 every_at P [] zero h = tt
 every_at P [] (suc n) h = tt
 every_at P (x ∷ xs) zero h = h.0

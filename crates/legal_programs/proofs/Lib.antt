@@ -23,3 +23,5 @@ mod DecidedStatements
 mod DecidedBodies
 mod DecidedUnits
 mod DecidedPrograms
+mod ClosedEntities
+mod WithoutInstances

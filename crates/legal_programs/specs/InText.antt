@@ -19,4 +19,5 @@ pub record IsInTextOrder (p : Program) : Type 0 where
 pub record IsFormedInInstances (p : Program) : Type 0 where
   pub resolved : IsResolved p
   pub library : Everywhere (IsLibraryObject p) p.objects
-  pub bodies : Everywhere (λ (b : Body). IfSome (slice_get p.subprograms b.subprogram) (IsSubprogram p b.instance)) (bodies_of p)
+  pub bodies : Everywhere
+      (λ (b : Body). IfSome (slice_get p.subprograms b.subprogram) (IsSubprogram p b.instance)) (bodies_of p)

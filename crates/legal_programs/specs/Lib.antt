@@ -9,3 +9,4 @@ pub mod Main
 pub mod Deciding
 pub mod WholeWorld
 pub mod InText
+pub mod Closed

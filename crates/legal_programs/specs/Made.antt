@@ -1,5 +1,5 @@
--- What a body makes: one subprogram, whose statement obligations are numbered in turn, and whose objects have numbers of
--- their own.
+-- What a body makes: one subprogram, whose statement obligations are numbered in turn, and whose objects have numbers
+-- of their own.
 use Rattle.std.specs.Prelude.{◌≡◌, ℕ, false, ◌∷◌, Option, None, map, reverse}
 use Rattle.cov_base.specs.Lists.{Everywhere}
 use Rattle.ada_meaning.specs.Collected.{block_labels, labels_of}
@@ -20,8 +20,8 @@ pub record Makes (generic : Option ℕ) (q : Profile) (before t : State) : Type 
   pub parameters : made.parameters ≡ typed_parameters 0 q.parameters
   pub procedure : q.result ≡ None → is_function made ≡ false
 
--- the subprograms that were made so far: their statement obligations are numbered in turn from 0, and their objects have
--- numbers of their own
+-- the subprograms that were made so far: their statement obligations are numbered in turn from 0, and their objects
+-- have numbers of their own
 pub record AreMadeInTurn (s : State) : Type 0 where
   pub labels : map (λ l. l.number) (labels_of (reverse s.subprograms)) ≡ numbers 0 s.statements
   pub distinct : Everywhere (λ m. AreDistinct (objects_of m)) s.subprograms

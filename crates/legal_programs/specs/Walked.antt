@@ -12,7 +12,8 @@ use Rattle.ada_rules.specs.Units.{Walked, all_headings, all_interfaces, all_bodi
 pub record IsWalked (step : Step) (l : Library) (main : List ℕ) (x : Walked) : Type 0 where
   pub headings : (all_headings l 0 l.units).answer ≡ Ok tt
   pub seen : Walked
-  pub interfaces : (all_interfaces step l (record { world = world_before l; next = beginning_state }) l.order).answer ≡ Ok seen
+  pub interfaces :
+      (all_interfaces step l (record { world = world_before l; next = beginning_state }) l.order).answer ≡ Ok seen
   pub bodies : (all_bodies_judged step l seen.world seen.next 0 l.units).answer ≡ Ok x.next
   pub main_unit : has_main main l.units ≡ true
   pub world : x.world ≡ resolved seen.world x.next

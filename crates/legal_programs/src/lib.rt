@@ -11,7 +11,7 @@
 //! The functions here do nothing: each carries a law of the definitions as its contract.
 #![tactic(auto)]
 
-ghost use Rattle.std.specs.Prelude.{IfOk, List, Option, length, map, ℕ, ◌≡◌};
+ghost use Rattle.std.specs.Prelude.{IfOk, List, None, Option, [], false, length, map, ℕ, ◌≡◌};
 ghost use Rattle.cov_base.specs.Lists.{Everywhere};
 ghost use Rattle.cov_base.specs.declared.position.Pos.{Pos};
 ghost use Rattle.ada_syntax.specs.StatementTree.{Statements};
@@ -23,19 +23,24 @@ ghost use Rattle.ada_syntax.specs.declared.unit.SubprogramBody.{SubprogramBody};
 ghost use Rattle.ada_meaning.specs.Bodies.{StandsIn};
 ghost use Rattle.ada_meaning.specs.Collected.{all_labels, decisions_of, in_stmts, labels_of};
 ghost use Rattle.ada_meaning.specs.Objects.{IsDeclaredOnce};
-ghost use Rattle.ada_meaning.specs.Obligations.{numbers};
+ghost use Rattle.ada_meaning.specs.Obligations.{numbers, IsResolved};
 ghost use Rattle.ada_meaning.specs.Program.{Program};
 ghost use Rattle.ada_meaning.specs.WellFormed.{IsWellFormed};
-ghost use Rattle.ada_rules.specs.Entities.{Region, whole_standard};
+ghost use Rattle.ada_rules.specs.Types.{AdaType};
+ghost use Rattle.ada_meaning.specs.Shape.{Shape};
+ghost use Rattle.ada_meaning.specs.Tree.{Object};
+ghost use Rattle.legal_laws.specs.Known.{IsEntity, IsOneOf};
+ghost use Rattle.legal_programs.specs.Closed.{IsClosedEntity, IsClosedObject, IsOfLibrary};
+ghost use Rattle.ada_rules.specs.Entities.{Actual, Entity, Region, seen, whole_standard};
 ghost use Rattle.ada_rules.specs.Environment.{Env, State, Step, World, typing};
 ghost use Rattle.ada_rules.specs.Expressions.{Role, is_circuit, judged};
 ghost use Rattle.ada_rules.specs.Legal.{checked_in, checked_with, legal};
-ghost use Rattle.ada_rules.specs.Library.{Library, all_bodies, body_names};
+ghost use Rattle.ada_rules.specs.Library.{Library, is_instance, all_bodies, body_names};
 ghost use Rattle.ada_rules.specs.Statements.{all_stated, stmts_of};
 ghost use Rattle.ada_rules.specs.Subprograms.{body_judged, specified};
 ghost use Rattle.ada_rules.specs.Units.{Walked, all_bodies_judged, all_interfaces, body_items};
 ghost use Rattle.legal_laws.specs.Served.{HaveOwnValues};
-ghost use Rattle.legal_programs.specs.Deciding.{Decides, IsNarrow, IsWholeEnv, JudgesFrom};
+ghost use Rattle.legal_programs.specs.Deciding.{Decides, IsNarrow, IsWhole, IsWholeEnv, JudgesFrom};
 ghost use Rattle.legal_programs.specs.Final.{IsServed};
 ghost use Rattle.legal_programs.specs.Growing.{Adds, AddsBodies, AddsInterfaces, Extends};
 ghost use Rattle.legal_programs.specs.Homes.{HasHome, instances_at};
@@ -47,8 +52,9 @@ ghost use Rattle.legal_programs.specs.Main.{HasMain};
 ghost use Rattle.legal_programs.specs.Walked.{IsLegal};
 ghost use Rattle.legal_programs.specs.WholeWorld.{IsWholeStandard};
 
-/// Statements, with the declarations and the expressions in them, only add to the state, in both steps: what was demanded,
-/// declared and raised before stays, and objects of the library level and exceptions are numbered in turn.
+/// Statements, with the declarations and the expressions in them, only add to the state, in both steps:
+/// what was demanded, declared and raised before stays, and objects of the library level and exceptions
+/// are numbered in turn.
 pub fn statements_only_add()
     ensures { (env : Env) (s : State) (q : Pos) (ss : Statements)
         → IfOk (all_stated env s q ss).answer (λ g. Adds s g.next) }
@@ -83,6 +89,16 @@ pub fn legal_programs_serve_each_state()
         → IsLookedAt is.walked.world.instances is.walked.next.demands o inst → StandsIn p o inst
         → HaveOwnValues is.walked.world.instances inst o is.walked.next.constants_declared
         → (s : State) → Extends s is.walked.next → IsServed is.walked.world.instances p o inst s }
+{}
+
+/// A legal program without instances has nothing to resolve, and serves each state of its walk over text that stands
+/// in no generic.
+pub fn programs_without_instances_serve_each_state()
+    ensures resolved { (l : Library) (main : List ℕ) (p : Program) → IsLegal l main p
+        → Everywhere (λ u. is_instance u.item ≡ false) l.units → (p.instances ≡ []) × IsResolved p }
+    ensures served { (l : Library) (main : List ℕ) (p : Program) → (is : IsLegal l main p)
+        → Everywhere (λ u. is_instance u.item ≡ false) l.units
+        → (s : State) → Extends s is.walked.next → IsServed is.walked.world.instances p None 0 s }
 {}
 
 /// Statement obligations are numbered in the order in which they stand in the typed program, which is
@@ -140,6 +156,17 @@ pub fn legal_programs_declare_once()
 /// parameters, and stands in no generic.
 pub fn main_procedures_are_there()
     ensures { (l : Library) (main : List ℕ) (p : Program) → IsLegal l main p → HasMain p }
+{}
+
+/// What is known of text in no generic in one instance is known in every one, if the same objects are
+/// visible there; and what is seen through an instance hangs on no other.
+pub fn closed_entities_are_known_anywhere()
+    ensures anywhere { (p : Program) (i j : ℕ) (types : List AdaType) (shape_there shape_of : Object → Shape)
+        (there sees : List Object) → ((o : Object) → IsClosedObject o → IsOneOf there o → IsOneOf sees o)
+        → ((o : Object) → IsClosedObject o → IsOneOf there o → shape_there o ≡ shape_of o)
+        → (x : Entity) → IsWhole x → IsClosedEntity x → IsEntity p i (IsOneOf types) shape_there (IsOneOf there) x
+        → IsEntity p j (IsOneOf types) shape_of (IsOneOf sees) x }
+    ensures through { (k : ℕ) (actuals : List Actual) (x : Entity) → IsOfLibrary x → IsClosedEntity (seen k actuals x) }
 {}
 
 /// A program that the rules of the whole language accept is well-formed, where its obligations stand in the
