@@ -66,7 +66,7 @@ exceptions_statements env s region [] = refl
 exceptions_statements env s region (i ∷ is) =
     exceptions_statements env (exception_declared env i s) (redefined (key i) (raisable (tree.declared (owner_of env) s.exceptions)) region) is
 
-bare_labels : (t : AdaSubtype) (n : ℕ) (is : List Identifier) → declaration_labels (bare_declarations t n is) ≡ []
+pub bare_labels : (t : AdaSubtype) (n : ℕ) (is : List Identifier) → declaration_labels (bare_declarations t n is) ≡ []
 bare_labels t n [] = refl
 bare_labels t n (i ∷ is) = bare_labels t (n + 1) is
 
@@ -128,7 +128,7 @@ module _ (env : Env) (step : env.step ≡ typing) (inside : env.is_library ≡ f
   declaration_labelled : (s : State) (d : Declaration) → IfOk (declared env s d).answer (Declares s)
   declaration_labelled s d = answered (Declares s) d.pos (kind_declared env s d.pos d.kind).outcome (kind_labelled s d.pos d.kind)
 
-labels_of_both : (ds es : List tree.Declaration) → declaration_labels (ds ++ es) ≡ (declaration_labels ds ++ declaration_labels es)
+pub labels_of_both : (ds es : List tree.Declaration) → declaration_labels (ds ++ es) ≡ (declaration_labels ds ++ declaration_labels es)
 labels_of_both [] es = refl
 labels_of_both (tree.initialized l d v ∷ ds) es = ap (λ xs. l ∷ xs) (labels_of_both ds es)
 labels_of_both (tree.without_value d t ∷ ds) es = labels_of_both ds es
@@ -147,26 +147,26 @@ declarations_labelled env s q (d ∷ ds) step inside =
     (λ xs k. labels_as s xs.next _ _ (sym (labels_of_both x.made xs.made)) (labels_joined s x.next xs.next _ _ h k))))
 
 -- statements
-joined_labels : (xs ys : List tree.Stmt) → all_labels (stmts_of (xs ++ ys)) ≡ (all_labels (stmts_of xs) ++ all_labels (stmts_of ys))
+pub joined_labels : (xs ys : List tree.Stmt) → all_labels (stmts_of (xs ++ ys)) ≡ (all_labels (stmts_of xs) ++ all_labels (stmts_of ys))
 joined_labels [] ys = refl
 joined_labels (x ∷ xs) ys =
     ap (λ zs. labels x ++ zs) (joined_labels xs ys) ∙ sym (append_assoc (labels x) (all_labels (stmts_of xs)) (all_labels (stmts_of ys)))
 
-abbrev chosen_labels : List Chosen → List tree.Label
+abbrev pub chosen_labels : List Chosen → List tree.Label
 chosen_labels [] = []
 chosen_labels (c ∷ cs) = all_labels (stmts_of c.statements) ++ chosen_labels cs
 
-branches_labels : (cs : List Chosen) (other : List tree.Stmt) → branch_labels (branches_of cs other) ≡ (chosen_labels cs ++ all_labels (stmts_of other))
+pub branches_labels : (cs : List Chosen) (other : List tree.Stmt) → branch_labels (branches_of cs other) ≡ (chosen_labels cs ++ all_labels (stmts_of other))
 branches_labels [] other = refl
 branches_labels (c ∷ cs) other =
     ap (λ zs. all_labels (stmts_of c.statements) ++ zs) (branches_labels cs other)
     ∙ sym (append_assoc (all_labels (stmts_of c.statements)) (chosen_labels cs) (all_labels (stmts_of other)))
 
-abbrev arm_labels : List Arm → List tree.Label
+abbrev pub arm_labels : List Arm → List tree.Label
 arm_labels [] = []
 arm_labels (a ∷ rest) = all_labels (stmts_of a.statements) ++ arm_labels rest
 
-alternatives_labels : (arms : List Arm) → alternative_labels (alternatives_of arms) ≡ arm_labels arms
+pub alternatives_labels : (arms : List Arm) → alternative_labels (alternatives_of arms) ≡ arm_labels arms
 alternatives_labels [] = refl
 alternatives_labels (a ∷ rest) = ap (λ zs. all_labels (stmts_of a.statements) ++ zs) (alternatives_labels rest)
 
@@ -191,7 +191,7 @@ one_labelled : (s t : State) (x : tree.Stmt) → Labels s (labels x) t → Label
 one_labelled s t x h = labels_as s t (labels x) (labels x ++ []) (sym (append-nil (labels x))) h
 
 -- a statement that is one obligation
-abbrev IsPlain : tree.Label → tree.Stmt → Type 0
+abbrev pub IsPlain : tree.Label → tree.Stmt → Type 0
 IsPlain l x = labels x ≡ (l ∷ [])
 
 plain_labelled : (s t : State) (q : Pos) (x : tree.Stmt) → IsPlain (statement_label s q) x → t.statements ≡ (started s).statements
@@ -205,7 +205,7 @@ stmt_plain env s t q x e h =
     (plain_labelled s t q (tree.null_statement (statement_label s q)) refl e)
     (if_map (IsPlain (statement_label s q)) (As s) (λ y. one y t) x h (λ y k. plain_labelled s t q y k e))
 
-call_plain : (l : tree.Label) (d : Denoted) → IfSome (call_of l d) (IsPlain l)
+pub call_plain : (l : tree.Label) (d : Denoted) → IfSome (call_of l d) (IsPlain l)
 call_plain l (a_mark i t) = tt
 call_plain l (a_value x) = tt
 call_plain l (a_variable v) = tt
@@ -226,18 +226,18 @@ call_plain l (a_unit n) = tt
 call_plain l the_test_io = tt
 call_plain l a_thing = tt
 
-allowed_plain : (l : tree.Label) (b : Bool) (x : tree.Stmt) → IsPlain l x → IfSome (where_allowed b x) (IsPlain l)
+pub allowed_plain : (l : tree.Label) (b : Bool) (x : tree.Stmt) → IsPlain l x → IfSome (where_allowed b x) (IsPlain l)
 allowed_plain l b x h = if_test (IsPlain l) b (Some x) (λ e. h)
 
-returned_plain : (l : tree.Label) (r : Returning) → IfSome (returned l r) (IsPlain l)
+pub returned_plain : (l : tree.Label) (r : Returning) → IfSome (returned l r) (IsPlain l)
 returned_plain l no_result = refl
 returned_plain l (result_of t) = tt
 
-value_plain : (l : tree.Label) (x : Judged) (r : Returning) → IfSome (returned_value l x r) (IsPlain l)
+pub value_plain : (l : tree.Label) (x : Judged) (r : Returning) → IfSome (returned_value l x r) (IsPlain l)
 value_plain l x no_result = tt
 value_plain l x (result_of t) = if_test (IsPlain l) (fits (type_in t) x.kind) _ (λ e. refl)
 
-raised_plain : (l : tree.Label) (o : Option tree.ExceptionName) → IfSome (option_map (tree.raise_statement l) o) (IsPlain l)
+pub raised_plain : (l : tree.Label) (o : Option tree.ExceptionName) → IfSome (option_map (tree.raise_statement l) o) (IsPlain l)
 raised_plain l None = tt
 raised_plain l (Some e) = refl
 

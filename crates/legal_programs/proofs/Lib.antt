@@ -25,3 +25,5 @@ mod DecidedUnits
 mod DecidedPrograms
 mod ClosedEntities
 mod WithoutInstances
+mod PlacedStatements
+mod PlacedUnits

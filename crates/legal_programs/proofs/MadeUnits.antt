@@ -170,7 +170,7 @@ labels_of_joined [] ts = refl
 labels_of_joined (s ∷ ss) ts =
     ap (λ ls. block_labels s.body ++ ls) (labels_of_joined ss ts) ∙ sym (append_assoc (block_labels s.body) (labels_of ss) (labels_of ts))
 
-labels_of_last : (s : Subprogram) (ss : List Subprogram) → labels_of (reverse (s ∷ ss)) ≡ (labels_of (reverse ss) ++ block_labels s.body)
+pub labels_of_last : (s : Subprogram) (ss : List Subprogram) → labels_of (reverse (s ∷ ss)) ≡ (labels_of (reverse ss) ++ block_labels s.body)
 labels_of_last s ss =
     ap labels_of (reverse-cons s ss) ∙ (labels_of_joined (reverse ss) (s ∷ []) ∙ ap (λ ls. labels_of (reverse ss) ++ ls) (append-nil (block_labels s.body)))
 

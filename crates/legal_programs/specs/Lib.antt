@@ -10,3 +10,4 @@ pub mod Deciding
 pub mod WholeWorld
 pub mod InText
 pub mod Closed
+pub mod TextPlaces

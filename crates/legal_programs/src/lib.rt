@@ -49,6 +49,7 @@ ghost use Rattle.legal_programs.specs.Labelled.{Labels};
 ghost use Rattle.legal_programs.specs.Looked.{IsLookedAt};
 ghost use Rattle.legal_programs.specs.Made.{AreMadeInTurn, Makes};
 ghost use Rattle.legal_programs.specs.Main.{HasMain};
+ghost use Rattle.legal_programs.specs.TextPlaces.{all_places, units_places};
 ghost use Rattle.legal_programs.specs.Walked.{IsLegal};
 ghost use Rattle.legal_programs.specs.WholeWorld.{IsWholeStandard};
 
@@ -106,6 +107,19 @@ pub fn programs_without_instances_serve_each_state()
 pub fn statements_are_numbered()
     ensures { (env : Env) (s : State) (q : Pos) (ss : Statements) → env.step ≡ typing
         → IfOk (all_stated env s q ss).answer (λ g. Labels s (all_labels (stmts_of g.value)) g.next) }
+{}
+
+/// They stand where the statements stand in the text, and the declarations with an initial value.
+pub fn statements_stand_in_the_text()
+    ensures { (env : Env) (s : State) (q : Pos) (ss : Statements) → env.step ≡ typing
+        → IfOk (all_stated env s q ss).answer (λ g. map (λ l. l.place) (all_labels (stmts_of g.value)) ≡ all_places ss) }
+{}
+
+/// The statement obligations of a legal program stand where the statements of its units stand, in the order
+/// of the text.
+pub fn obligations_stand_in_the_text()
+    ensures { (l : Library) (main : List ℕ) (p : Program) → IsLegal l main p
+        → map (λ x. x.place) (labels_of p.subprograms) ≡ units_places l.units }
 {}
 
 /// A body makes one subprogram, with the parameters of its specification: its statement obligations are
