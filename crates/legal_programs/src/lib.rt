@@ -183,10 +183,11 @@ pub fn closed_entities_are_known_anywhere()
     ensures through { (k : ℕ) (actuals : List Actual) (x : Entity) → IsOfLibrary x → IsClosedEntity (seen k actuals x) }
 {}
 
-/// A program that the rules of the whole language accept is well-formed, where its obligations stand in the
-/// order of the text, and where its instances have their values, and its objects of the library level and its
-/// bodies are well-formed in each instance.
+/// A program that the rules of the whole language accept is well-formed, where the statements of its units
+/// stand in the order of the text, and so do its decisions, and where its instances have their values, and
+/// its objects of the library level and its bodies are well-formed in each instance.
 pub fn legal_programs_are_well_formed_but_for_instances()
     ensures { (units : List LibraryUnit) (main : List ℕ) (p : Program)
-        → checked_with whole_standard units main ≡ legal p → IsInTextOrder p → IsFormedInInstances p → IsWellFormed p }
+        → checked_with whole_standard units main ≡ legal p → IsInTextOrder units p → IsFormedInInstances p
+        → IsWellFormed p }
 {}
