@@ -139,7 +139,7 @@ every_at P [] (suc n) h = tt
 every_at P (x ∷ xs) zero h = h.0
 every_at P (x ∷ xs) (suc n) h = every_at P xs n h.1
 
-every_set : {X : Type 0} (P : X → Type 0) (xs : List X) (n : ℕ) (x : X) → Everywhere P xs → P x → Everywhere P (set xs n x)
+pub every_set : {X : Type 0} (P : X → Type 0) (xs : List X) (n : ℕ) (x : X) → Everywhere P xs → P x → Everywhere P (set xs n x)
 every_set P [] zero x h k = tt
 every_set P [] (suc n) x h k = tt
 every_set P (y ∷ xs) zero x h k = (k, h.1)

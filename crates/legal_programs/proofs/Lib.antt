@@ -27,3 +27,4 @@ mod ClosedEntities
 mod WithoutInstances
 mod PlacedStatements
 mod PlacedUnits
+mod FactsInBase

@@ -49,6 +49,7 @@ ghost use Rattle.legal_programs.specs.Labelled.{Labels};
 ghost use Rattle.legal_programs.specs.Looked.{IsLookedAt};
 ghost use Rattle.legal_programs.specs.Made.{AreMadeInTurn, Makes};
 ghost use Rattle.legal_programs.specs.Main.{HasMain};
+ghost use Rattle.legal_laws.specs.Valued.{AreFactsInBase};
 ghost use Rattle.legal_programs.specs.TextPlaces.{all_places, units_places};
 ghost use Rattle.legal_programs.specs.Walked.{IsLegal};
 ghost use Rattle.legal_programs.specs.WholeWorld.{IsWholeStandard};
@@ -100,6 +101,15 @@ pub fn programs_without_instances_serve_each_state()
     ensures served { (l : Library) (main : List ℕ) (p : Program) → (is : IsLegal l main p)
         → Everywhere (λ u. is_instance u.item ≡ false) l.units
         → (s : State) → Extends s is.walked.next → IsServed is.walked.world.instances p None 0 s }
+{}
+
+/// What instances have for formals and constants lies in the base range, behind what units see of each other and at the
+/// end of the walk.
+pub fn facts_lie_in_the_base_range()
+    ensures seen { (l : Library) (main : List ℕ) (p : Program) → (is : IsLegal l main p)
+        → Everywhere AreFactsInBase is.walk.seen.world.instances }
+    ensures behind { (l : Library) (main : List ℕ) (p : Program) → (is : IsLegal l main p)
+        → Everywhere AreFactsInBase is.walked.world.instances }
 {}
 
 /// Statement obligations are numbered in the order in which they stand in the typed program, which is
