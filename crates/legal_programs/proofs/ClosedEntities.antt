@@ -1,23 +1,23 @@
 -- What is known of text in no generic, or through an instance, is known in every instance.
-use Rattle.std.proofs.Common.{◌≡◌, ◌≤◌, ◌+◌, length, pos, ℕ, Bool, true, false, List, [], ◌∷◌, map, Option, None, Some, option_map, IfSome, slice_get, refl, sym, ap, ◌∙◌, subst}
+use Rattle.std.proofs.Common.{◌≡◌, ◌≤◌, ◌+◌, length, pos, ℕ, List, [], ◌∷◌, map, Option, None, Some, option_map, IfSome, slice_get, refl, sym, ap, ◌∙◌, subst}
 use Rattle.std.specs.Option.{option_and_then}
 use Rattle.cov_base.specs.Lists.{Everywhere}
 use Rattle.ada_meaning.specs.Arithmetic.{count_between, sign_of}
 use Rattle.ada_meaning.specs.Program.{Target, Program}
 use Rattle.ada_meaning.specs.Resolved.{number_in, bounds_in, ResolvedParameter, shape_in, shapes_in, target_in, parameters_of, exception_in}
-use Rattle.ada_meaning.specs.Shape.{Shape, word, row, group, Shapes, and_shape}
+use Rattle.ada_meaning.specs.Shape.{Shape, word, row, group, and_shape}
 use Rattle.ada_meaning.specs.Statics.{InstanceValues, in_base, computed, bounds_between, static_value, static_bounds, values_of}
 use Rattle.ada_meaning.specs.Tree as tree
 use Rattle.ada_meaning.specs.Types.{of_instance, here, Static, static_number, static_formal, static_constant, static_first, static_last, static_length, static_sign, static_operation, static_of, Range, between, formal_range, range_of}
 use Rattle.ada_meaning.specs.WellFormed.{HasNumber, part_shape, AreParts}
 use Rattle.ada_meaning.specs.Arithmetic.{exact}
 use Rattle.ada_meaning.specs.Seen.{range_seen}
-use Rattle.ada_rules.specs.Entities.{Variable, Parameter, Routine, Entity, hidden, mark, literal, object, formal_object, routine, raisable, component, test_io, unit, Actual, object_actual, type_actual, routine_actual, given_type, static_seen, callee_seen, exception_seen, object_seen, type_seen, subtype_seen, fields_seen, parameter_seen, routine_seen, variable_seen, seen}
-use Rattle.ada_rules.specs.Types.{AdaType, integer_type, enumeration, formal_type, array_type, record_type, AdaSubtype, of_type, Fields, no_field, and_field, type_in, range_in, is_scalar, subtype_in_tree, type_in_tree, fields_in_tree}
-use Rattle.legal_laws.specs.Known.{IsOrdered, IsKnownType, IsKnownSubtype, AreKnownFields, IsOfType, AreParameters, IsResult, IsRoutine, IsVariable, IsEntity}
+use Rattle.ada_rules.specs.Entities.{Variable, Parameter, Routine, Entity, hidden, mark, literal, object, formal_object, routine, raisable, component, test_io, unit, Actual, object_actual, type_actual, routine_actual, given_type, static_seen, callee_seen, exception_seen, object_seen, type_seen, subtype_seen, fields_seen, parameter_seen, seen}
+use Rattle.ada_rules.specs.Types.{AdaType, integer_type, enumeration, formal_type, array_type, record_type, AdaSubtype, of_type, Fields, no_field, and_field, range_in, subtype_in_tree, type_in_tree, fields_in_tree}
+use Rattle.legal_laws.specs.Known.{IsKnownType, IsKnownSubtype, AreKnownFields, IsOfType, AreParameters, IsResult, IsRoutine, IsVariable, IsEntity}
 use Rattle.legal_laws.specs.Valued.{AreOrdered}
 use Rattle.legal_programs.specs.Deciding.{IsWhole}
-use Rattle.legal_programs.specs.Closed.{IsLibraryObject, IsNoFormal, IsOfLibrary, IsClosed, IsClosedRange, IsClosedType, IsClosedSubtype, AreClosedFields, IsOwned, IsClosedObject, IsClosedCallee, IsClosedException, IsClosedRoutine, IsClosedEntity}
+use Rattle.legal_programs.specs.Closed.{IsLibraryObject, IsNoFormal, IsOfLibrary, IsClosed, IsClosedRange, IsClosedType, IsClosedSubtype, AreClosedFields, IsClosedObject, IsClosedCallee, IsClosedException, IsClosedRoutine, IsClosedEntity}
 
 -- values and bounds
 module _ (v : InstanceValues) (i j : ℕ) where

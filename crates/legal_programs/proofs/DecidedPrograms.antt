@@ -77,11 +77,11 @@ module _ (l : Library) (main : List ℕ) (p : Program) (is : IsLegal l main p) (
       let decisions_in_order : ordered_decisions p ≡ decisions_of p.subprograms =
       rise_stays (λ h. h.label.place) (decisions_of p.subprograms) order.decisions in
       record {
-    statements = subst (λ ls. map (λ x. x.number) ls ≡ numbers 0 (length ls)) (sym labels_in_order) (labels_numbered l main p is);
-    decisions = subst (λ ds. map (λ h. h.label.number) ds ≡ numbers 0 (length ds)) (sym decisions_in_order) decisions_numbered;
-    instances = subst (λ q. in_order (λ a b. precedes a.place b.place) q.instances ≡ q.instances) (sym is.made) (instances_in_order is.walked.world is.walked.next main);
-    exceptions = subst (λ q. q.exceptions ≡ map (λ x. x.entry) (ordered_exceptions q)) (sym is.made) refl;
-  }
+        statements = subst (λ ls. map (λ x. x.number) ls ≡ numbers 0 (length ls)) (sym labels_in_order) (labels_numbered l main p is);
+        decisions = subst (λ ds. map (λ h. h.label.number) ds ≡ numbers 0 (length ds)) (sym decisions_in_order) decisions_numbered;
+        instances = subst (λ q. in_order (λ a b. precedes a.place b.place) q.instances ≡ q.instances) (sym is.made) (instances_in_order is.walked.world is.walked.next main);
+        exceptions = subst (λ q. q.exceptions ≡ map (λ x. x.entry) (ordered_exceptions q)) (sym is.made) refl;
+      }
 
   pub well_formed : IsInTextOrder l.units p → IsFormedInInstances p → IsWellFormed p
   well_formed order formed =

@@ -1,5 +1,5 @@
 -- What instances have lies in the base range, all along the walk and at its end.
-use Rattle.std.proofs.Common.{◌≡◌, ◌+◌, ℕ, pred, Bool, true, false, if◌then◌else◌, List, [], ◌∷◌, reverse, length, Option, Some, None, IfOk, Ok, set, slice_get, refl, sym, ap, subst}
+use Rattle.std.proofs.Common.{◌+◌, ℕ, pred, Bool, true, false, if◌then◌else◌, List, [], ◌∷◌, reverse, length, Option, Some, None, IfOk, set, slice_get, sym, subst}
 use Rattle.cov_base.specs.Lists.{Everywhere}
 use Rattle.cov_base.specs.declared.position.Pos.{Pos}
 use Rattle.ada_syntax.specs.declared.unit.Instance.{Instance}
@@ -14,10 +14,10 @@ use Rattle.ada_rules.specs.Entities.{key, hidden, unit, Actual}
 use Rattle.ada_rules.specs.Environment.{Step, typing, World, State, beginning_state, Env}
 use Rattle.ada_rules.specs.Instances.{formals_declared, generic_named, formals_of, actuals_judged, facts_made}
 use Rattle.ada_rules.specs.Library.{Library, is_instance, instance_number}
-use Rattle.ada_rules.specs.Plan.{Plan, ◌>>=◌, rule}
+use Rattle.ada_rules.specs.Plan.{◌>>=◌, rule}
 use Rattle.ada_rules.specs.Statics.{Facts, with_constants}
 use Rattle.ada_rules.specs.Subprograms.{specified, declared_only, closed_by}
-use Rattle.ada_rules.specs.Units.{env_of, package_items, Walked, at_unit, formals_in, in_specification, with_package, package_judged, facts_set, with_instance, instance_judged, with_subprogram, library_routine, library_subprogram, seen_in, interface_judged, interface_at, all_interfaces, no_facts, facts_before, world_before, all_with_constants, resolved}
+use Rattle.ada_rules.specs.Units.{env_of, package_items, Walked, at_unit, formals_in, in_specification, with_package, package_judged, facts_set, with_instance, instance_judged, with_subprogram, library_routine, library_subprogram, seen_in, interface_judged, interface_at, all_interfaces, facts_before, world_before, all_with_constants}
 use Rattle.legal_laws.specs.Valued.{AreFactsInBase}
 use Rattle.legal_laws.proofs.Passing.{answered, part_so, any_answer}
 use Rattle.legal_laws.proofs.Values.{actuals_in_base, with_constants_in_base}

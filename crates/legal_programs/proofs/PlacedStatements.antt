@@ -1,6 +1,6 @@
 -- Statement obligations stand where their statements stand in the text.
-use Rattle.std.proofs.Common.{◌≡◌, ◌+◌, ℕ, nat_eq, Bool, true, false, if◌then◌else◌, List, [], ◌∷◌, ◌++◌, map, length, Option, Some, None, option_map, IfSome, IfOk, refl, sym, ap, ◌∙◌, subst, arith, append-nil, append_assoc, length-append}
-use Rattle.std.specs.Prelude.{◌&&◌, is_none}
+use Rattle.std.proofs.Common.{◌≡◌, nat_eq, false, List, [], ◌∷◌, ◌++◌, map, length, Option, Some, None, option_map, IfSome, IfOk, refl, sym, ap, ◌∙◌, subst, append-nil, append_assoc}
+use Rattle.std.specs.Prelude.{◌&&◌}
 use Rattle.cov_base.specs.declared.position.Pos.{Pos}
 use Rattle.ada_syntax.specs.StatementTree as text
 use Rattle.ada_syntax.specs.declared.declaration.Constancy.{Constancy}
@@ -11,18 +11,15 @@ use Rattle.ada_syntax.specs.declared.declaration.Initial.{Initial}
 use Rattle.ada_syntax.specs.declared.name.Identifier.{Identifier}
 use Rattle.ada_syntax.specs.declared.statement.LoopScheme.TheVariants as scheme
 use Rattle.ada_meaning.specs.Collected.{declaration_labels, labels, all_labels, branch_labels, alternative_labels, handler_labels, block_labels}
-use Rattle.ada_meaning.specs.Obligations.{numbers}
 use Rattle.ada_meaning.specs.Tree as tree
 use Rattle.ada_rules.specs.Plan.{◌>>=◌, rule}
-use Rattle.ada_rules.specs.Types.{AdaSubtype, type_in, fits}
-use Rattle.ada_rules.specs.Entities.{key, Parameter, raisable, Region, redefined}
-use Rattle.ada_rules.specs.Environment.{typing, Returning, no_result, result_of, typed_rule, State, Given, given, Env, owner_of, with_local, opened, in_loop, in_handler, new_identity, one_type_more, hide, hide_all, statement_label, started}
-use Rattle.ada_rules.specs.Denoted.{Judged, Denoted, a_mark, a_value, a_variable, a_routine, a_call, an_exception, a_unit, the_test_io, a_thing}
+use Rattle.ada_rules.specs.Types.{AdaSubtype}
+use Rattle.ada_rules.specs.Entities.{key, Region}
+use Rattle.ada_rules.specs.Environment.{typing, typed_rule, State, Given, given, Env, with_local, opened, in_loop, in_handler, new_identity, one_type_more, hide, hide_all, statement_label, started}
 use Rattle.ada_rules.specs.Expressions.{itself, denoted, judged, decision}
-use Rattle.ada_rules.specs.Declarations.{indicated, defined, NewValue, new_value, Declared, may_be_bare, one_name, known_constant, lying_in, with_objects, bare_declarations, local_bare, local_set, objects_declared, exception_declared, exceptions_from, type_declared, subtype_declared, kind_declared, declared, all_declared}
+use Rattle.ada_rules.specs.Declarations.{indicated, defined, new_value, Declared, may_be_bare, one_name, local_bare, local_set, objects_declared, exceptions_from, type_declared, subtype_declared, kind_declared, declared, all_declared}
 use Rattle.ada_rules.specs.Statements.{stmts_of, one, target, call_of, Chosen, branches_of, Selector, selector, all_chosen, Arm, alternatives_of, ends_with_others, case_of, turned, loop_parameter, one_object_more, is_reverse, returned, returned_value, exception_of, where_allowed, all_caught, is_last, declarations_in, Frame, block_of, typed_stmt, stated, all_stated, branched, all_arms, all_handlers, all_handled}
 use Rattle.legal_laws.proofs.Passing.{IfPassed, if_map, if_test, answered, part_so, typed_so, typed_either, any_answer}
-use Rattle.legal_laws.proofs.KnownObjects.{of_one}
 use Rattle.legal_laws.proofs.NumberedObjects.{exceptions_made, inside_only, mapped_any}
 use Rattle.legal_programs.specs.TextPlaces.{place_if, kind_places, declared_places, places, all_places, branch_places, alternative_places, handler_places, handled_places}
 use Rattle.legal_programs.proofs.Lists.{map_joined}

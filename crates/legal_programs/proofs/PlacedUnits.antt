@@ -1,6 +1,5 @@
 -- The statement obligations of a legal program stand where the statements of its units stand, in the order of the text.
-use Rattle.std.proofs.Common.{◌≡◌, ◌+◌, ℕ, Bool, false, if◌then◌else◌, List, [], ◌∷◌, ◌++◌, map, reverse, length, Option, Some, None, IfOk, Ok, slice_get, refl, sym, ap, ◌∙◌, subst, append-nil, append_assoc}
-use mathlib.Core.List.{reverse-cons}
+use Rattle.std.proofs.Common.{◌≡◌, ◌+◌, ℕ, false, if◌then◌else◌, List, [], ◌∷◌, ◌++◌, map, reverse, Option, Some, None, IfOk, refl, sym, ap, ◌∙◌, subst, append-nil, append_assoc}
 use Rattle.cov_base.specs.Lists.{Everywhere}
 use Rattle.cov_base.specs.declared.position.Pos.{Pos}
 use Rattle.ada_syntax.specs.declared.unit.BodyItem.{BodyItem}
@@ -14,9 +13,9 @@ use Rattle.ada_syntax.specs.declared.unit.SubprogramBody.{SubprogramBody}
 use Rattle.ada_syntax.specs.declared.unit.Unit.{Unit as LibraryUnit}
 use Rattle.ada_meaning.specs.Collected.{block_labels, labels_of}
 use Rattle.ada_meaning.specs.Program.{Subprogram, Program}
-use Rattle.ada_rules.specs.Plan.{Plan, Outcome, refused_in, broken, passed, ◌>>=◌, rule}
+use Rattle.ada_rules.specs.Plan.{Plan, ◌>>=◌, rule}
 use Rattle.ada_rules.specs.Denoted.{nowhere}
-use Rattle.ada_rules.specs.Entities.{key, unit, Region}
+use Rattle.ada_rules.specs.Entities.{key, Region}
 use Rattle.ada_rules.specs.Environment.{typing, typed_rule, World, interface_of, State, Given, given, Env, with_local}
 use Rattle.ada_rules.specs.Declarations.{Declared, declared, all_declared}
 use Rattle.ada_rules.specs.Library.{Library, unit_named}
@@ -29,7 +28,7 @@ use Rattle.legal_programs.specs.TextPlaces.{declared_places, handled_places, bod
 use Rattle.legal_programs.specs.Walked.{IsLegal}
 use Rattle.legal_programs.proofs.Adding.{adds_both, Add, AddsOn, declaration_adds, declarations_add}
 use Rattle.legal_programs.proofs.AddingStatements.{handled_add}
-use Rattle.legal_programs.proofs.Counted.{AreStates, states_of}
+use Rattle.legal_programs.proofs.Counted.{states_of}
 use Rattle.legal_programs.proofs.Extending.{specified_adds, subprogram_adds}
 use Rattle.legal_programs.proofs.ExtendingUnits.{adds_at_unit}
 use Rattle.legal_programs.proofs.Headings.{are_headed, have_homes}

@@ -1,9 +1,9 @@
 -- Programs without instances: there is nothing to resolve, and the final program serves each state of its walk.
-use Rattle.std.proofs.Common.{◌≡◌, ◌+◌, ℕ, zero, suc, false, if◌then◌else◌, List, [], ◌∷◌, length, reverse, Option, Some, None, IfSome, slice_get, refl, sym, ap, ◌∙◌, subst, arith, inl}
+use Rattle.std.proofs.Common.{◌≡◌, ℕ, false, if◌then◌else◌, List, [], ◌∷◌, length, reverse, Option, Some, None, IfSome, slice_get, refl, sym, ap, ◌∙◌, subst, arith, inl}
 use Rattle.cov_base.specs.Lists.{Everywhere}
 use Rattle.ada_syntax.specs.declared.unit.Unit.{Unit as LibraryUnit}
 use Rattle.ada_meaning.specs.Obligations.{in_order, AreResolved, IsResolved}
-use Rattle.ada_meaning.specs.Program.{Instance, Program}
+use Rattle.ada_meaning.specs.Program.{Program}
 use Rattle.cov_base.specs.TextOrder.{precedes}
 use Rattle.ada_rules.specs.Environment.{State}
 use Rattle.ada_rules.specs.Legal.{with_values}
@@ -12,7 +12,7 @@ use Rattle.legal_programs.specs.Final.{IsServed}
 use Rattle.legal_programs.specs.Growing.{Extends}
 use Rattle.legal_programs.specs.Homes.{instances_in, instances_at}
 use Rattle.legal_programs.specs.Walked.{IsLegal}
-use Rattle.legal_programs.proofs.Counted.{AreStates, states_of}
+use Rattle.legal_programs.proofs.Counted.{states_of}
 use Rattle.legal_programs.proofs.DecidedUnits.{every_at}
 use Rattle.legal_programs.proofs.Finals.{final_served}
 
