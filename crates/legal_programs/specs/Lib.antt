@@ -11,3 +11,4 @@ pub mod WholeWorld
 pub mod InText
 pub mod Closed
 pub mod TextPlaces
+pub mod Worked

@@ -11,7 +11,7 @@
 //! The functions here do nothing: each carries a law of the definitions as its contract.
 #![tactic(auto)]
 
-ghost use Rattle.std.specs.Prelude.{IfOk, List, None, Option, [], false, length, map, ℕ, ◌≡◌};
+ghost use Rattle.std.specs.Prelude.{codes, IfOk, List, None, Option, [], false, length, map, ℕ, ◌≡◌};
 ghost use Rattle.cov_base.specs.Lists.{Everywhere};
 ghost use Rattle.cov_base.specs.declared.position.Pos.{Pos};
 ghost use Rattle.ada_syntax.specs.StatementTree.{Statements};
@@ -49,6 +49,7 @@ ghost use Rattle.legal_programs.specs.Labelled.{Labels};
 ghost use Rattle.legal_programs.specs.Looked.{IsLookedAt};
 ghost use Rattle.legal_programs.specs.Made.{AreMadeInTurn, Makes};
 ghost use Rattle.legal_programs.specs.Main.{HasMain};
+ghost use Rattle.legal_programs.specs.Worked.{worked_program, worked_units};
 ghost use Rattle.legal_laws.specs.Valued.{AreFactsInBase};
 ghost use Rattle.legal_programs.specs.TextPlaces.{all_places, units_places};
 ghost use Rattle.legal_programs.specs.Walked.{IsLegal};
@@ -200,4 +201,11 @@ pub fn legal_programs_are_well_formed_but_for_instances()
     ensures { (units : List LibraryUnit) (main : List ℕ) (p : Program)
         → checked_with whole_standard units main ≡ legal p → IsInTextOrder units p → IsFormedInInstances p
         → IsWellFormed p }
+{}
+
+/// A worked program meets these premises.
+pub fn a_worked_program_meets_the_premises()
+    ensures is_legal { checked_with whole_standard worked_units (codes "main") ≡ legal worked_program }
+    ensures in_text { IsInTextOrder worked_units worked_program }
+    ensures formed { IsFormedInInstances worked_program }
 {}
