@@ -24,6 +24,7 @@ mod DecidedBodies
 mod DecidedUnits
 mod DecidedPrograms
 mod ClosedEntities
+mod FactsCounted
 mod WithoutInstances
 mod PlacedStatements
 mod PlacedUnits

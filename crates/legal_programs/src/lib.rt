@@ -50,7 +50,7 @@ ghost use Rattle.legal_programs.specs.Looked.{IsLookedAt};
 ghost use Rattle.legal_programs.specs.Made.{AreMadeInTurn, Makes};
 ghost use Rattle.legal_programs.specs.Main.{HasMain};
 ghost use Rattle.legal_programs.specs.Worked.{worked_program, worked_units};
-ghost use Rattle.legal_laws.specs.Valued.{AreFactsInBase};
+ghost use Rattle.legal_laws.specs.Valued.{AreFactsOf, AreFactsInBase};
 ghost use Rattle.legal_programs.specs.TextPlaces.{all_places, units_places};
 ghost use Rattle.legal_programs.specs.Walked.{IsLegal};
 ghost use Rattle.legal_programs.specs.WholeWorld.{IsWholeStandard};
@@ -94,14 +94,17 @@ pub fn legal_programs_serve_each_state()
         → (s : State) → Extends s is.walked.next → IsServed is.walked.world.instances p o inst s }
 {}
 
-/// A legal program without instances has nothing to resolve, and serves each state of its walk over text that stands
-/// in no generic.
-pub fn programs_without_instances_serve_each_state()
-    ensures resolved { (l : Library) (main : List ℕ) (p : Program) → IsLegal l main p
-        → Everywhere (λ u. is_instance u.item ≡ false) l.units → (p.instances ≡ []) × IsResolved p }
-    ensures served { (l : Library) (main : List ℕ) (p : Program) → (is : IsLegal l main p)
-        → Everywhere (λ u. is_instance u.item ≡ false) l.units
+/// So does it once over text that stands in no generic.
+pub fn text_in_no_generic_is_served_once()
+    ensures { (l : Library) (main : List ℕ) (p : Program) → (is : IsLegal l main p)
         → (s : State) → Extends s is.walked.next → IsServed is.walked.world.instances p None 0 s }
+{}
+
+/// A legal program without instances has nothing to resolve, and there are no facts of instances.
+pub fn programs_without_instances_are_resolved()
+    ensures { (l : Library) (main : List ℕ) (p : Program) → (is : IsLegal l main p)
+        → Everywhere (λ u. is_instance u.item ≡ false) l.units
+        → (p.instances ≡ []) × (IsResolved p × AreFactsOf p is.walked.world.instances) }
 {}
 
 /// What instances have for formals and constants lies in the base range, behind what units see of each other and at the
