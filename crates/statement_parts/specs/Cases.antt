@@ -28,24 +28,26 @@ abbrev pub arms_in : Tables → List Alternative → List rules.Arm
 arms_in k arms = map (arm_in k) arms
 
 -- a case statement whose number was taken in this state
-abbrev pub case_there : Tables → Env → (before : State) → Label → Selector → List Alternative → State → Option (Given (List tree.Stmt))
+abbrev pub case_there : Tables → Env → (before : State) → Label → Selector → List Alternative → State
+    → Option (Given (List tree.Stmt))
 case_there k env before l x arms s = case_of env before l.place (selector_in k x) (given (arms_in k arms) s)
 
-abbrev pub case_plan : Tables → Env → (before : State) → Label → Selector → List Alternative → State → Outcome (Given (List tree.Stmt))
+abbrev pub case_plan : Tables → Env → (before : State) → Label → Selector → List Alternative → State
+    → Outcome (Given (List tree.Stmt))
 case_plan k env before l x arms s =
     (typed_rule env.step (one (tree.null_statement (label_of l)) s) (case_there k env before l x arms s)).outcome
 
 -- behind its alternatives, in the step of types
-abbrev pub IsCaseOf : Place → (old new : Statics) → Label → Selector → List Alternative → Result tree.Stmt (Failure Refusal)
-    → Type 0
+abbrev pub IsCaseOf : Place → (old new : Statics) → Label → Selector → List Alternative
+    → Result tree.Stmt (Failure Refusal) → Type 0
 IsCaseOf place old new l x arms result =
     (k : Tables) (env : Env) (before s : State) → env.generic ≡ place.generic → before.statements ≡ l.number
     → Answers (λ y. given (in_program k y) (noted k new s))
     (answer_at l.place (ruled (case_there k env before l x arms (noted k old s)))) result
 
 -- and in both
-abbrev pub IsCase : Place → (old new : Statics) → Label → Selector → List Alternative → Result tree.Stmt (Failure Refusal)
-    → Type 0
+abbrev pub IsCase : Place → (old new : Statics) → Label → Selector → List Alternative
+    → Result tree.Stmt (Failure Refusal) → Type 0
 IsCase place old new l x arms result =
     (k : Tables) (env : Env) (before s : State) → env.step ≡ step_of place.site.step → env.generic ≡ place.generic
     → before.statements ≡ l.number

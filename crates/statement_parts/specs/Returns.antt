@@ -53,8 +53,8 @@ giving l env s e = do
   x ← judged env itself s e
   typed_stmt env l x.next (returned_value l x.value env.returning)
 
-abbrev pub IsReturnOfValue : Site → (old new : Decisions) → Label → Option Subtype → Expr → Result tree.Stmt (Failure Refusal)
-    → Type 0
+abbrev pub IsReturnOfValue : Site → (old new : Decisions) → Label → Option Subtype → Expr
+    → Result tree.Stmt (Failure Refusal) → Type 0
 IsReturnOfValue site old new l t e result =
     (k : Tables) (env : Env) (s : State) → StandsAt site k env → env.returning ≡ returning_of k.types t
     → Answers (λ x. given (in_program k x) (counted new s))

@@ -26,7 +26,8 @@ use Rattle.symbol_table.specs.Sites.{StandsAt}
 use Rattle.statement_parts.specs.declared.turns.Turns.{Turns}
 
 abbrev pub turns_in : Tables → Turns → rules.Turns
-turns_in k t = record { over = view.turns_of t.over; subtype = subtype_of k.types t.subtype; values = values_of k t.values }
+turns_in k t =
+    record { over = view.turns_of t.over; subtype = subtype_of k.types t.subtype; values = values_of k t.values }
 
 -- tables that begin with a longer list of values begin with a shorter one
 abbrev pub Lengthens : (old new : List ListedSpans) → Type 0
@@ -47,7 +48,8 @@ AreTurnsBetween table low high o =
 
 -- The range of a loop parameter, from these decisions to those, comes to what the rules say, whatever tables begin with
 -- what is listed then.
-abbrev pub IsTurned : Site → (old new : Decisions) → List ListedSpans → DiscreteRange → Result Turns (Failure Refusal) → Type 0
+abbrev pub IsTurned : Site → (old new : Decisions) → List ListedSpans → DiscreteRange
+    → Result Turns (Failure Refusal) → Type 0
 IsTurned site old new table r result =
     (k : Tables) (env : Env) (s : State) → StandsAt site k env → Begins table k
     → Answers (λ t. given (turns_in k t) (counted new s)) (rules.turned env (counted old s) r).answer result

@@ -19,7 +19,8 @@ use symbol_table::Site;
 
 /// `return;`, where the subprogram has no result.
 fn returned(label: Label, given: Option<Subtype>) -> Option<Statement>
-    ensures { (k : Tables) → option_map (in_tree k) result ≡ rules.returned (label_of label) (returning_of k.types given) }
+    ensures { (k : Tables) → option_map (in_tree k) result
+        ≡ rules.returned (label_of label) (returning_of k.types given) }
 {
     match given {
         Some(_) => None,

@@ -40,7 +40,8 @@ fn any_variable(alloc: Global) -> Variable
 
 /// An object, where it may be assigned (RM 3.3).
 fn assignable(variable: Variable) -> Option<Variable>
-    ensures { (k : Tables) → option_map (variable_of k) result ≡ rules.writable (denotes k (denoted.Variable variable)) }
+    ensures { (k : Tables) → option_map (variable_of k) result
+        ≡ rules.writable (denotes k (denoted.Variable variable)) }
 {
     match variable.access {
         Access::Variable => Some(variable),
@@ -80,7 +81,8 @@ pub fn target(
 
 /// An assignment of a value to an object or to a part of one.
 fn assigned(label: Label, target: Variable, value: NewValue) -> Statement
-    ensures { result ≡ tree.assignment (label_of label) (object_of target.object) (parts_of target.parts.items) (value_of value) }
+    ensures { result
+        ≡ tree.assignment (label_of label) (object_of target.object) (parts_of target.parts.items) (value_of value) }
 {
     if target.parts.is_empty() {
         return Statement {
@@ -102,7 +104,8 @@ pub fn assignment(
     name: &Name,
     initial: &Initial,
 ) -> Result<Statement, Failure<Refusal>>
-    ensures { States site.now decisions.old decisions.new label (λ l env s. assigning l env s name.now initial.now) result }
+    ensures { States site.now decisions.old decisions.new label
+        (λ l env s. assigning l env s name.now initial.now) result }
 {
     let target = target(alloc, site, decisions, name)?;
     let set = new_value(alloc, site, decisions, target.subtype, initial)?;

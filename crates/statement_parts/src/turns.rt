@@ -105,7 +105,8 @@ fn turned_between(
     spans: &mut SpanTable,
     bounds: &Bounds,
 ) -> Result<Turns, Failure<Refusal>>
-    ensures turned { IsTurned site.now decisions.old decisions.new (listed spans.new) (discrete.Bounds bounds.now) result }
+    ensures turned { IsTurned site.now decisions.old decisions.new
+        (listed spans.new) (discrete.Bounds bounds.now) result }
     ensures continues { UnlessMemory (Lengthens (listed spans.old) (listed spans.new)) result }
 {
     let low = site.judged(alloc, Role::Itself, decisions, &bounds.low)?;
