@@ -1,6 +1,6 @@
 //! What other units see of a unit (Ada RM 2012, 4.1.3, 7.1, 12.3).
 
-ghost use Rattle.std.specs.Prelude.{◌≡◌, option_map, replicate, set, slice_get, IfOk};
+ghost use Rattle.std.specs.Prelude.{◌≡◌, length, option_map, replicate, set, slice_get, IfOk};
 ghost use Rattle.std.specs.Option.{option_copied};
 ghost use Rattle.ada_rules.specs.Entities as rules;
 ghost use Rattle.ada_entities.specs.declared.units.Interface.TheVariants as interface;
@@ -134,6 +134,13 @@ impl Units {
         ensures { option_copied result ≡ slice_get self.now unit }
     {
         self.interfaces.get(unit as usize)
+    }
+
+    /// How many units there are.
+    pub fn len(&self) -> usize
+        ensures { result ≡ length self.now }
+    {
+        self.interfaces.as_slice().len()
     }
 
     /// What a unit of the library is named as by others: a subprogram, or a package, a generic or an
