@@ -29,3 +29,4 @@ mod WithoutInstances
 mod PlacedStatements
 mod PlacedUnits
 mod FactsInBase
+mod SubprogramPlaces

@@ -11,7 +11,7 @@
 //! The functions here do nothing: each carries a law of the definitions as its contract.
 #![tactic(auto)]
 
-ghost use Rattle.std.specs.Prelude.{codes, IfOk, List, None, Option, [], false, length, map, ℕ, ◌≡◌};
+ghost use Rattle.std.specs.Prelude.{Some, slice_get, codes, IfOk, List, None, Option, [], false, length, map, ℕ, ◌≡◌};
 ghost use Rattle.cov_base.specs.Lists.{Everywhere};
 ghost use Rattle.cov_base.specs.declared.position.Pos.{Pos};
 ghost use Rattle.ada_syntax.specs.StatementTree.{Statements};
@@ -37,7 +37,7 @@ ghost use Rattle.ada_rules.specs.Expressions.{Role, is_circuit, judged};
 ghost use Rattle.ada_rules.specs.Legal.{checked_in, checked_with, legal};
 ghost use Rattle.ada_rules.specs.Library.{Library, is_instance, all_bodies, body_names};
 ghost use Rattle.ada_rules.specs.Statements.{all_stated, stmts_of};
-ghost use Rattle.ada_rules.specs.Subprograms.{body_judged, specified};
+ghost use Rattle.ada_rules.specs.Subprograms.{Profile, body_judged, specified};
 ghost use Rattle.ada_rules.specs.Units.{Walked, all_bodies_judged, all_interfaces, body_items};
 ghost use Rattle.legal_laws.specs.Served.{HaveOwnValues};
 ghost use Rattle.legal_programs.specs.Deciding.{Decides, IsNarrow, IsWhole, IsWholeEnv, JudgesFrom};
@@ -148,6 +148,16 @@ pub fn a_body_makes_a_subprogram()
 pub fn units_make_subprograms_in_turn()
     ensures { (l : Library) (w : World) (s : State) (n : ℕ) (us : List LibraryUnit)
         → IfOk (all_bodies_judged typing l w s n us).answer (λ t. AreMadeInTurn s → AreMadeInTurn t) }
+{}
+
+/// A legal program has a subprogram for each body of its units, and the subprogram that a body made stands at the
+/// number of those that were made before it.
+pub fn subprograms_stand_at_their_numbers()
+    ensures count { (l : Library) (main : List ℕ) (p : Program) → IsLegal l main p
+        → length p.subprograms ≡ length (all_bodies l.units) }
+    ensures places { (l : Library) (main : List ℕ) (p : Program) → (is : IsLegal l main p)
+        → (generic : Option ℕ) (q : Profile) (before t : State) (h : Makes generic q before t) → Extends t is.walked.next
+        → slice_get p.subprograms (length before.subprograms) ≡ Some h.made }
 {}
 
 /// Names and expressions number their decisions in the order in which they stand in the typed program,
