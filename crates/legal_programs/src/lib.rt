@@ -107,8 +107,8 @@ pub fn programs_without_instances_are_resolved()
         → (p.instances ≡ []) × (IsResolved p × AreFactsOf p is.walked.world.instances) }
 {}
 
-/// What instances have for formals and constants lies in the base range, behind what units see of each other and at the
-/// end of the walk.
+/// What instances have for formals and constants lies in the base range, behind what units see of each
+/// other and at the end of the walk.
 pub fn facts_lie_in_the_base_range()
     ensures seen { (l : Library) (main : List ℕ) (p : Program) → (is : IsLegal l main p)
         → Everywhere AreFactsInBase is.walk.seen.world.instances }
@@ -126,7 +126,8 @@ pub fn statements_are_numbered()
 /// They stand where the statements stand in the text, and the declarations with an initial value.
 pub fn statements_stand_in_the_text()
     ensures { (env : Env) (s : State) (q : Pos) (ss : Statements) → env.step ≡ typing
-        → IfOk (all_stated env s q ss).answer (λ g. map (λ l. l.place) (all_labels (stmts_of g.value)) ≡ all_places ss) }
+        → IfOk (all_stated env s q ss).answer (λ g.
+        map (λ l. l.place) (all_labels (stmts_of g.value)) ≡ all_places ss) }
 {}
 
 /// The statement obligations of a legal program stand where the statements of its units stand, in the order
@@ -150,13 +151,14 @@ pub fn units_make_subprograms_in_turn()
         → IfOk (all_bodies_judged typing l w s n us).answer (λ t. AreMadeInTurn s → AreMadeInTurn t) }
 {}
 
-/// A legal program has a subprogram for each body of its units, and the subprogram that a body made stands at the
-/// number of those that were made before it.
+/// A legal program has a subprogram for each body of its units, and the subprogram that a body made stands
+/// at the number of those that were made before it.
 pub fn subprograms_stand_at_their_numbers()
     ensures count { (l : Library) (main : List ℕ) (p : Program) → IsLegal l main p
         → length p.subprograms ≡ length (all_bodies l.units) }
     ensures places { (l : Library) (main : List ℕ) (p : Program) → (is : IsLegal l main p)
-        → (generic : Option ℕ) (q : Profile) (before t : State) (h : Makes generic q before t) → Extends t is.walked.next
+        → (generic : Option ℕ) (q : Profile) (before t : State) (h : Makes generic q before t)
+        → Extends t is.walked.next
         → slice_get p.subprograms (length before.subprograms) ≡ Some h.made }
 {}
 
