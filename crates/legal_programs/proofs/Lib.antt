@@ -30,3 +30,4 @@ mod PlacedStatements
 mod PlacedUnits
 mod FactsInBase
 mod SubprogramPlaces
+mod KeptNames

@@ -31,7 +31,7 @@ ghost use Rattle.ada_meaning.specs.Shape.{Shape};
 ghost use Rattle.ada_meaning.specs.Tree.{Object};
 ghost use Rattle.legal_laws.specs.Known.{IsEntity, IsOneOf};
 ghost use Rattle.legal_programs.specs.Closed.{IsClosedEntity, IsClosedObject, IsOfLibrary};
-ghost use Rattle.ada_rules.specs.Entities.{Actual, Entity, Region, seen, whole_standard};
+ghost use Rattle.ada_rules.specs.Entities.{entity_of, Actual, Entity, Region, seen, whole_standard};
 ghost use Rattle.ada_rules.specs.Environment.{Env, State, Step, World, typing};
 ghost use Rattle.ada_rules.specs.Expressions.{Role, is_circuit, judged};
 ghost use Rattle.ada_rules.specs.Legal.{checked_in, checked_with, legal};
@@ -49,6 +49,8 @@ ghost use Rattle.legal_programs.specs.Labelled.{Labels};
 ghost use Rattle.legal_programs.specs.Looked.{IsLookedAt};
 ghost use Rattle.legal_programs.specs.Made.{AreMadeInTurn, Makes};
 ghost use Rattle.legal_programs.specs.Main.{HasMain};
+ghost use Rattle.ada_rules.specs.Declarations.{declared};
+ghost use Rattle.ada_syntax.specs.declared.declaration.Declaration.{Declaration};
 ghost use Rattle.legal_programs.specs.Worked.{worked_program, worked_units};
 ghost use Rattle.legal_laws.specs.Valued.{AreFactsOf, AreFactsInBase};
 ghost use Rattle.legal_programs.specs.TextPlaces.{all_places, units_places};
@@ -160,6 +162,12 @@ pub fn subprograms_stand_at_their_numbers()
         → (generic : Option ℕ) (q : Profile) (before t : State) (h : Makes generic q before t)
         → Extends t is.walked.next
         → slice_get p.subprograms (length before.subprograms) ≡ Some h.made }
+{}
+
+/// What a name denotes in a region it denotes behind each declaration, which declares other names.
+pub fn declarations_keep_names()
+    ensures { (name : List ℕ) (x : Entity) (env : Env) (s : State) (d : Declaration)
+        → entity_of name env.local ≡ Some x → IfOk (declared env s d).answer (λ y. entity_of name y.region ≡ Some x) }
 {}
 
 /// Names and expressions number their decisions in the order in which they stand in the typed program,
