@@ -16,11 +16,11 @@ use Rattle.ada_meaning.specs.Tree as tree
 use Rattle.ada_meaning.specs.Types.{Static}
 use Rattle.ada_rules.specs.Plan.{Plan, ◌>>=◌, rule}
 use Rattle.ada_rules.specs.Types.{Identity, AdaType, integer_type, array_type, record_type, AdaSubtype, of_type, base, is_integral}
-use Rattle.ada_rules.specs.Entities.{key, same_name, Entity, hidden, mark, literal, raisable, Region, entity_of, is_new, redefined}
-use Rattle.ada_rules.specs.Environment.{typed_rule, State, Given, given, Env, with_local, opened, in_loop, in_handler, owner_of, new_identity, one_type_more, with_name, hide, hide_all}
+use Rattle.ada_rules.specs.Entities.{key, same_name, Entity, hidden, raisable, Region, entity_of, is_new, redefined}
+use Rattle.ada_rules.specs.Environment.{typed_rule, State, Given, given, Env, with_local, opened, owner_of, new_identity, one_type_more, with_name, hide, hide_all}
 use Rattle.ada_rules.specs.Declarations.{bounded, index_of, indicated, fields_of, Defined, literals, enumerated, unchanged, defined, new_value, library_value, Declared, may_be_bare, one_name, object_entity, local_objects, local_bare, local_set, library_entities, library_declared, no_library_value, objects_declared, exception_declared, exceptions_from, type_declared, subtype_declared, kind_declared, declared}
 use Rattle.legal_laws.proofs.Passing.{IfPassed, if_test, answered, ruled_so, part_so, typed_either, any_answer}
-use Rattle.legal_programs.proofs.MainUnit.{name_is, name_same}
+use Rattle.legal_programs.proofs.MainUnit.{name_is}
 
 module _ (m : List ℕ) (kept : Entity) where
   -- a name denotes this here, and others are not its own
@@ -34,14 +34,14 @@ module _ (m : List ℕ) (kept : Entity) where
   in_front_if true y o r rest h = h
   in_front_if false y o r rest h = rest h
 
-  in_front : (region es : Region) → Has region → Has (region ++ es)
+  pub in_front : (region es : Region) → Has region → Has (region ++ es)
   in_front [] es h = absurd (none_is_some h)
     where
       none_is_some : None ≡ Some kept → ⊥
       none_is_some e = cc
   in_front (e ∷ region) es h = in_front_if (same_name m e.0) e.1 (entity_of m region) (entity_of m (region ++ es)) (in_front region es) h
 
-  not_same : (b : Bool) → (b ≡ true → ⊥) → b ≡ false
+  pub not_same : (b : Bool) → (b ≡ true → ⊥) → b ≡ false
   not_same true h = absurd (h refl)
   not_same false h = refl
 
@@ -50,7 +50,7 @@ module _ (m : List ℕ) (kept : Entity) where
       not_same (same_name m (key i))
       (λ e. false≢true (sym (ap is_none (ap (λ n. entity_of n region) (sym (name_is m (key i) e)) ∙ h)) ∙ new))
 
-  hidden_has : (region : Region) (i : Identifier) → Has region → IfOk (hide region i).answer (λ r. Has r × Apart i)
+  pub hidden_has : (region : Region) (i : Identifier) → Has region → IfOk (hide region i).answer (λ r. Has r × Apart i)
   hidden_has region i h =
       answered (λ r. Has r × Apart i) i.pos (rule (with_name region i hidden)).outcome
       (ruled_so (λ r. Has r × Apart i) (with_name region i hidden)
@@ -72,7 +72,7 @@ module _ (m : List ℕ) (kept : Entity) where
       ap (λ d. if d then Some y else entity_of m es) f ∙ (sym (ap (λ d. if d then Some e.1 else entity_of m es) f) ∙ h)
   redefined_if false c e y es more f g h rest = in_front_if (same_name m e.0) e.1 (entity_of m es) (entity_of m more) rest h
 
-  redefined_has : (i : Identifier) (y : Entity) (region : Region) → Apart i → Has region → Has (redefined (key i) y region)
+  pub redefined_has : (i : Identifier) (y : Entity) (region : Region) → Apart i → Has region → Has (redefined (key i) y region)
   redefined_has i y [] apart h = h
   redefined_has i y (e ∷ es) apart h =
       redefined_if (same_name (key i) e.0) (same_name m e.0) e y es (redefined (key i) y es) refl

@@ -31,3 +31,4 @@ mod PlacedUnits
 mod FactsInBase
 mod SubprogramPlaces
 mod KeptNames
+mod NamedBodies

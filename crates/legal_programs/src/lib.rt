@@ -43,7 +43,7 @@ ghost use Rattle.legal_laws.specs.Served.{HaveOwnValues};
 ghost use Rattle.legal_programs.specs.Deciding.{Decides, IsNarrow, IsWhole, IsWholeEnv, JudgesFrom};
 ghost use Rattle.legal_programs.specs.Final.{IsServed};
 ghost use Rattle.legal_programs.specs.Growing.{Adds, AddsBodies, AddsInterfaces, Extends};
-ghost use Rattle.legal_programs.specs.Homes.{HasHome, instances_at};
+ghost use Rattle.legal_programs.specs.Homes.{AreNamedApart, HasHome, instances_at};
 ghost use Rattle.legal_programs.specs.InText.{IsFormedInInstances, IsInTextOrder};
 ghost use Rattle.legal_programs.specs.Labelled.{Labels};
 ghost use Rattle.legal_programs.specs.Looked.{IsLookedAt};
@@ -168,6 +168,12 @@ pub fn subprograms_stand_at_their_numbers()
 pub fn declarations_keep_names()
     ensures { (name : List ℕ) (x : Entity) (env : Env) (s : State) (d : Declaration)
         → entity_of name env.local ≡ Some x → IfOk (declared env s d).answer (λ y. entity_of name y.region ≡ Some x) }
+{}
+
+/// The bodies of a package have names of their own.
+pub fn bodies_of_packages_are_named_apart()
+    ensures { (name : List ℕ) (env : Env) (s : State) (p : Pos) (is : List BodyItem)
+        → IfOk (body_items env s p is).answer (λ g. AreNamedApart (body_names name is)) }
 {}
 
 /// Names and expressions number their decisions in the order in which they stand in the typed program,
