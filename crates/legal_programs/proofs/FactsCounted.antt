@@ -1,6 +1,5 @@
 -- There are as many facts as instances in the text, all along the walk and at its end.
-use Rattle.std.proofs.Common.{◌≡◌, ◌+◌, ℕ, zero, suc, pred, Bool, true, false, if◌then◌else◌, List, [], ◌∷◌, reverse, length, Option, Some, None, IfOk, Ok, set, slice_get, refl, ap, ◌∙◌, arith}
-use Rattle.cov_base.specs.Lists.{Everywhere}
+use Rattle.std.proofs.Common.{◌≡◌, ◌+◌, ℕ, zero, suc, pred, Bool, true, false, if◌then◌else◌, List, [], ◌∷◌, reverse, length, Option, Some, None, IfOk, set, slice_get, refl, ap, ◌∙◌, arith}
 use Rattle.cov_base.specs.declared.position.Pos.{Pos}
 use Rattle.ada_syntax.specs.declared.unit.Instance.{Instance}
 use Rattle.ada_syntax.specs.declared.unit.LibraryItem.{LibraryItem}
@@ -10,7 +9,7 @@ use Rattle.ada_syntax.specs.declared.unit.SubprogramBody.{SubprogramBody}
 use Rattle.ada_syntax.specs.declared.unit.Unit.{Unit as LibraryUnit}
 use Rattle.ada_meaning.specs.Program.{GenericConstant, Program}
 use Rattle.ada_rules.specs.Denoted.{nowhere}
-use Rattle.ada_rules.specs.Entities.{key, hidden, unit, Actual}
+use Rattle.ada_rules.specs.Entities.{key, hidden, unit}
 use Rattle.ada_rules.specs.Environment.{Step, typing, World, State, beginning_state, Env}
 use Rattle.ada_rules.specs.Instances.{formals_declared, generic_named, formals_of, actuals_judged, facts_made}
 use Rattle.ada_rules.specs.Library.{Library, is_instance, count_instances, instance_number}

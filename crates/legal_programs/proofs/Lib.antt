@@ -29,3 +29,6 @@ mod WithoutInstances
 mod PlacedStatements
 mod PlacedUnits
 mod FactsInBase
+mod SubprogramPlaces
+mod KeptNames
+mod NamedBodies

@@ -1,9 +1,11 @@
 -- Bodies of packages whose package is there, and how many instances units make.
-use Rattle.std.specs.Prelude.{◌≡◌, ℕ, ◌+◌, true, List, [], ◌∷◌, Option, None, Some, Ok, slice_get, if◌then◌else◌}
+use Rattle.std.specs.Prelude.{◌≡◌, ℕ, ◌+◌, true, false, List, [], ◌∷◌, Option, None, Some, Ok, slice_get, if◌then◌else◌}
+use Rattle.cov_base.specs.Lists.{Everywhere}
 use Rattle.ada_syntax.specs.declared.unit.LibraryItem.{LibraryItem}
 use Rattle.ada_syntax.specs.declared.unit.LibraryItem.TheVariants as library
 use Rattle.ada_syntax.specs.declared.unit.Unit.{Unit as LibraryUnit}
-use Rattle.ada_rules.specs.Entities.{key}
+use Rattle.ada_rules.specs.Entities.{key, same_name}
+use Rattle.ada_rules.specs.Environment.{BodyName}
 use Rattle.ada_rules.specs.Library.{Library, is_instance, unit_named, is_declared_well, all_named_in_with, clause_names}
 
 abbrev pub IsThere : {X : Type 0} → Option X → Type 0
@@ -29,3 +31,11 @@ AreHeaded l n [] = Unit {0}
 AreHeaded l n (u ∷ us) =
     ((is_declared_well l n u.item ≡ true) × ((all_named_in_with l n u (clause_names u.withs)).answer ≡ Ok tt))
     × AreHeaded l (n + 1) us
+
+-- bodies with names of their own
+abbrev pub IsOtherName : List ℕ → BodyName → Type 0
+IsOtherName name b = same_name name b.name ≡ false
+
+abbrev pub AreNamedApart : List BodyName → Type 0
+AreNamedApart [] = Unit {0}
+AreNamedApart (b ∷ bs) = Everywhere (IsOtherName b.name) bs × AreNamedApart bs

@@ -1,5 +1,5 @@
--- Where statement obligations stand in the text: at statements, but for blocks and pragmas, and at declarations of objects
--- with an initial value in subprograms and blocks.
+-- Where statement obligations stand in the text: at statements, but for blocks and pragmas, and at declarations of
+-- objects with an initial value in subprograms and blocks.
 use Rattle.std.specs.Prelude.{List, [], ◌∷◌, ◌++◌, Option, None, Some}
 use Rattle.cov_base.specs.declared.position.Pos.{Pos}
 use Rattle.ada_syntax.specs.StatementTree as text

@@ -11,7 +11,7 @@
 //! The functions here do nothing: each carries a law of the definitions as its contract.
 #![tactic(auto)]
 
-ghost use Rattle.std.specs.Prelude.{codes, IfOk, List, None, Option, [], false, length, map, ℕ, ◌≡◌};
+ghost use Rattle.std.specs.Prelude.{Some, slice_get, codes, IfOk, List, None, Option, [], false, length, map, ℕ, ◌≡◌};
 ghost use Rattle.cov_base.specs.Lists.{Everywhere};
 ghost use Rattle.cov_base.specs.declared.position.Pos.{Pos};
 ghost use Rattle.ada_syntax.specs.StatementTree.{Statements};
@@ -31,24 +31,26 @@ ghost use Rattle.ada_meaning.specs.Shape.{Shape};
 ghost use Rattle.ada_meaning.specs.Tree.{Object};
 ghost use Rattle.legal_laws.specs.Known.{IsEntity, IsOneOf};
 ghost use Rattle.legal_programs.specs.Closed.{IsClosedEntity, IsClosedObject, IsOfLibrary};
-ghost use Rattle.ada_rules.specs.Entities.{Actual, Entity, Region, seen, whole_standard};
+ghost use Rattle.ada_rules.specs.Entities.{entity_of, Actual, Entity, Region, seen, whole_standard};
 ghost use Rattle.ada_rules.specs.Environment.{Env, State, Step, World, typing};
 ghost use Rattle.ada_rules.specs.Expressions.{Role, is_circuit, judged};
 ghost use Rattle.ada_rules.specs.Legal.{checked_in, checked_with, legal};
 ghost use Rattle.ada_rules.specs.Library.{Library, is_instance, all_bodies, body_names};
 ghost use Rattle.ada_rules.specs.Statements.{all_stated, stmts_of};
-ghost use Rattle.ada_rules.specs.Subprograms.{body_judged, specified};
+ghost use Rattle.ada_rules.specs.Subprograms.{Profile, body_judged, specified};
 ghost use Rattle.ada_rules.specs.Units.{Walked, all_bodies_judged, all_interfaces, body_items};
 ghost use Rattle.legal_laws.specs.Served.{HaveOwnValues};
 ghost use Rattle.legal_programs.specs.Deciding.{Decides, IsNarrow, IsWhole, IsWholeEnv, JudgesFrom};
 ghost use Rattle.legal_programs.specs.Final.{IsServed};
 ghost use Rattle.legal_programs.specs.Growing.{Adds, AddsBodies, AddsInterfaces, Extends};
-ghost use Rattle.legal_programs.specs.Homes.{HasHome, instances_at};
+ghost use Rattle.legal_programs.specs.Homes.{AreNamedApart, HasHome, instances_at};
 ghost use Rattle.legal_programs.specs.InText.{IsFormedInInstances, IsInTextOrder};
 ghost use Rattle.legal_programs.specs.Labelled.{Labels};
 ghost use Rattle.legal_programs.specs.Looked.{IsLookedAt};
 ghost use Rattle.legal_programs.specs.Made.{AreMadeInTurn, Makes};
 ghost use Rattle.legal_programs.specs.Main.{HasMain};
+ghost use Rattle.ada_rules.specs.Declarations.{declared};
+ghost use Rattle.ada_syntax.specs.declared.declaration.Declaration.{Declaration};
 ghost use Rattle.legal_programs.specs.Worked.{worked_program, worked_units};
 ghost use Rattle.legal_laws.specs.Valued.{AreFactsOf, AreFactsInBase};
 ghost use Rattle.legal_programs.specs.TextPlaces.{all_places, units_places};
@@ -107,8 +109,8 @@ pub fn programs_without_instances_are_resolved()
         → (p.instances ≡ []) × (IsResolved p × AreFactsOf p is.walked.world.instances) }
 {}
 
-/// What instances have for formals and constants lies in the base range, behind what units see of each other and at the
-/// end of the walk.
+/// What instances have for formals and constants lies in the base range, behind what units see of each
+/// other and at the end of the walk.
 pub fn facts_lie_in_the_base_range()
     ensures seen { (l : Library) (main : List ℕ) (p : Program) → (is : IsLegal l main p)
         → Everywhere AreFactsInBase is.walk.seen.world.instances }
@@ -126,7 +128,8 @@ pub fn statements_are_numbered()
 /// They stand where the statements stand in the text, and the declarations with an initial value.
 pub fn statements_stand_in_the_text()
     ensures { (env : Env) (s : State) (q : Pos) (ss : Statements) → env.step ≡ typing
-        → IfOk (all_stated env s q ss).answer (λ g. map (λ l. l.place) (all_labels (stmts_of g.value)) ≡ all_places ss) }
+        → IfOk (all_stated env s q ss).answer (λ g.
+        map (λ l. l.place) (all_labels (stmts_of g.value)) ≡ all_places ss) }
 {}
 
 /// The statement obligations of a legal program stand where the statements of its units stand, in the order
@@ -148,6 +151,29 @@ pub fn a_body_makes_a_subprogram()
 pub fn units_make_subprograms_in_turn()
     ensures { (l : Library) (w : World) (s : State) (n : ℕ) (us : List LibraryUnit)
         → IfOk (all_bodies_judged typing l w s n us).answer (λ t. AreMadeInTurn s → AreMadeInTurn t) }
+{}
+
+/// A legal program has a subprogram for each body of its units, and the subprogram that a body made stands
+/// at the number of those that were made before it.
+pub fn subprograms_stand_at_their_numbers()
+    ensures count { (l : Library) (main : List ℕ) (p : Program) → IsLegal l main p
+        → length p.subprograms ≡ length (all_bodies l.units) }
+    ensures places { (l : Library) (main : List ℕ) (p : Program) → (is : IsLegal l main p)
+        → (generic : Option ℕ) (q : Profile) (before t : State) (h : Makes generic q before t)
+        → Extends t is.walked.next
+        → slice_get p.subprograms (length before.subprograms) ≡ Some h.made }
+{}
+
+/// What a name denotes in a region it denotes behind each declaration, which declares other names.
+pub fn declarations_keep_names()
+    ensures { (name : List ℕ) (x : Entity) (env : Env) (s : State) (d : Declaration)
+        → entity_of name env.local ≡ Some x → IfOk (declared env s d).answer (λ y. entity_of name y.region ≡ Some x) }
+{}
+
+/// The bodies of a package have names of their own.
+pub fn bodies_of_packages_are_named_apart()
+    ensures { (name : List ℕ) (env : Env) (s : State) (p : Pos) (is : List BodyItem)
+        → IfOk (body_items env s p is).answer (λ g. AreNamedApart (body_names name is)) }
 {}
 
 /// Names and expressions number their decisions in the order in which they stand in the typed program,
