@@ -92,6 +92,13 @@ impl GenericConstants {
         Ok(number)
     }
 
+    /// All constants, in order.
+    pub fn into_declared(self) -> Vec<GenericConstant>
+        ensures { result.items ≡ self }
+    {
+        self.declared
+    }
+
     /// The constants of a generic, in order.
     pub(crate) fn of(&self, generic: u32) -> &[GenericConstant]
         ensures { map constant_of result.now ≡ constants_of generic (map constant_of self.now) }

@@ -2,6 +2,7 @@ pub mod SeenLaws
 pub mod Agreement
 pub mod TableLaws
 pub mod LookupLaws
+pub mod Copies
 pub mod RoutineLaws
 pub mod RegionLaws
 pub mod NestingLaws

@@ -25,6 +25,7 @@ pub use fault::{Refusal, refused};
 pub use region::{Region, key};
 pub use regions::Regions;
 pub use routines::{Parameter, ResultMark, Routine, Routines};
+pub use seen::range_seen;
 pub use standard::{predefined, test_io};
 pub use types::{AdaType, Composite, FormalKind, Identity, ScalarType, Subtype, TypeName};
 pub use units::{Interface, Units, shown};

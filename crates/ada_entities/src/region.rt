@@ -1,6 +1,6 @@
 //! Regions of declarations (Ada RM 2012, 8.1, 8.3).
 
-ghost use Rattle.std.specs.Prelude.{◌≡◌, [], option_map, IfOk, IfErr, OnOk};
+ghost use Rattle.std.specs.Prelude.{◌≡◌, [], length, option_map, slice_get, IfOk, IfErr, OnOk};
 ghost use Rattle.ada_rules.specs.Entities as rules;
 ghost use Rattle.ada_entities.specs.EntityViews.{Tables, entity_of, region_of};
 ghost use Rattle.ada_entities.specs.RegionCode.{with_entry, Sees, Declares, RefusesName, Redefines};
@@ -46,11 +46,37 @@ impl Region {
         }
     }
 
+    /// The same declarations once more.
+    pub fn copied(&self) -> Result<Region, AllocError>
+        ensures { IfOk result (λ r. r ≡ self.now) }
+    {
+        Ok(Region {
+            table: self.table.clone()?,
+        })
+    }
+
     /// What a name, in lower case, denotes in the region.
     pub fn find(&self, name: &[u8]) -> Option<Entity>
         ensures { (k : Tables) → option_map (entity_of k) result ≡ rules.entity_of name.now (region_of k self.now) }
     {
         self.table.get(name).copied()
+    }
+
+    /// How many names it declares.
+    pub fn len(&self) -> usize
+        ensures { result ≡ length self.now }
+    {
+        self.table.len()
+    }
+
+    /// What the declaration at this place declares; none where there are not as many.
+    pub fn at(&self, place: usize) -> Option<Entity>
+        ensures { result ≡ option_map (λ e. e.1) (slice_get self.now place) }
+    {
+        match self.table.get_index(place) {
+            Some((_, entity)) => Some(*entity),
+            None => None,
+        }
     }
 
     /// Lets a name, in lower case, denote this: at its place where it is there, and else behind the

@@ -82,6 +82,16 @@ impl Regions {
         }
     }
 
+    /// What a name, in lower case, denotes in the innermost region.
+    pub fn find_inside(&self, name: &[u8]) -> Option<Entity>
+        ensures { (k : Tables) → option_map (entity_of k) result ≡ rules.entity_of name.now (region_of k (innermost self.now)) }
+    {
+        match self.regions.last() {
+            Some(region) => region.find(name),
+            None => None,
+        }
+    }
+
     /// What a name, in lower case, denotes where these regions stand inside the predefined one.
     pub fn visible(&self, name: &[u8]) -> Option<Entity>
         ensures { (k : Tables) → option_map (entity_of k) result ≡ rules.visible name.now (in_standard k self.now) }

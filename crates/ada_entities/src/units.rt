@@ -1,6 +1,7 @@
 //! What other units see of a unit (Ada RM 2012, 4.1.3, 7.1, 12.3).
 
-ghost use Rattle.std.specs.Prelude.{◌≡◌, option_map, replicate, set, IfOk};
+ghost use Rattle.std.specs.Prelude.{◌≡◌, length, option_map, replicate, set, slice_get, IfOk};
+ghost use Rattle.std.specs.Option.{option_copied};
 ghost use Rattle.ada_rules.specs.Entities as rules;
 ghost use Rattle.ada_entities.specs.declared.units.Interface.TheVariants as interface;
 ghost use Rattle.ada_entities.specs.TypeTable.{tables};
@@ -126,6 +127,20 @@ impl Units {
         if let Some(seen) = self.interfaces.get_mut(unit as usize) {
             *seen = interface;
         }
+    }
+
+    /// What other units see of the unit with this number; none where there are fewer.
+    pub fn get(&self, unit: u32) -> Option<&Interface>
+        ensures { option_copied result ≡ slice_get self.now unit }
+    {
+        self.interfaces.get(unit as usize)
+    }
+
+    /// How many units there are.
+    pub fn len(&self) -> usize
+        ensures { result ≡ length self.now }
+    {
+        self.interfaces.as_slice().len()
     }
 
     /// What a unit of the library is named as by others: a subprogram, or a package, a generic or an

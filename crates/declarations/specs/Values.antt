@@ -79,7 +79,8 @@ abbrev pub SetsLibraryObjects : {A : Type 0} → Context → (old new : Walk) �
 SetsLibraryObjects context old new p c t is i result =
     (k : Tables) (env : Env) → StandsAt context old k (with_local env (region_in k old)) → Begins new k
     → Answers (λ u. declared_in k new [])
-    (answer_at p (setting_library env p c (subtype_of k.types t) (region_in k old) is i (state_of k old)).outcome) result
+    (answer_at p (setting_library env p c (subtype_of k.types t) (region_in k old) is i (state_of k old)).outcome)
+    result
 
 abbrev pub SetsLocals : {A : Type 0} → Context → (old new : Walk) → (before after : List Declaration) → Pos → Constancy
     → Subtype → List Identifier → Initial → Result A (Failure Refusal) → Type 0

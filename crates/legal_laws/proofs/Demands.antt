@@ -156,7 +156,7 @@ demanded_in_front d (asked e ∷ xs) ys (inl h) = inl h
 demanded_in_front d (asked e ∷ xs) ys (inr h) = inr (demanded_in_front d xs ys h)
 demanded_in_front d (instantiated g i ∷ xs) ys h = demanded_in_front d xs ys h
 
-demanded_behind : (d : Demand) (xs ys : List Asked) → IsDemanded d ys → IsDemanded d (xs ++ ys)
+pub demanded_behind : (d : Demand) (xs ys : List Asked) → IsDemanded d ys → IsDemanded d (xs ++ ys)
 demanded_behind d [] ys h = h
 demanded_behind d (asked e ∷ xs) ys h = inr (demanded_behind d xs ys h)
 demanded_behind d (instantiated g i ∷ xs) ys h = demanded_behind d xs ys h

@@ -12,7 +12,7 @@ all_above : (m n k : ℕ) → m < n → Everywhere (λ y. m ≡ y → ⊥) (numb
 all_above m n zero less = tt
 all_above m n (suc k) less = (not_itself m n less, all_above m (suc n) k (omega (arith, less)))
 
-numbers_distinct : (n k : ℕ) → AreDistinct (numbers n k)
+pub numbers_distinct : (n k : ℕ) → AreDistinct (numbers n k)
 numbers_distinct n zero = tt
 numbers_distinct n (suc k) = (all_above n (suc n) k (omega (arith)), numbers_distinct (suc n) k)
 

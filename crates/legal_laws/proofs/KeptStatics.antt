@@ -176,7 +176,7 @@ module _ (env : Env) where
       (expression_keeps s i.value)
       (λ x h. typed_either (Behind s) env.step _ _ h (mapped_keeps s x.next (λ v. record { value = v; known = known_of i.others x.value }) (value_for t i.others x.value) h)))
 
-  library_value_keeps : (s : State) (t : AdaSubtype) (i : Initial) → IfOk (library_value env s t i).answer (Behind s)
+  pub library_value_keeps : (s : State) (t : AdaSubtype) (i : Initial) → IfOk (library_value env s t i).answer (Behind s)
   library_value_keeps s t i =
       answered (Behind s) (initial_pos i) _
       (part_so (Behind s) (Behind s) (static_part env s (λ k. true) (in_range (range_in (innermost t i.others))) i.value).answer

@@ -41,18 +41,18 @@ abbrev pub head_or : {X : Type 0} → X → List X → X
 head_or x [] = x
 head_or x (y ∷ ys) = y
 
-reversed_length : {X : Type 0} (xs : List X) → length (reverse xs) ≡ length xs
+pub reversed_length : {X : Type 0} (xs : List X) → length (reverse xs) ≡ length xs
 reversed_length [] = refl
 reversed_length (x ∷ xs) =
     let rest = reversed_length xs in
     let ends = length-append (reverse xs) (x ∷ []) in
     ap length (reverse-cons x xs) ∙ (ends ∙ omega (arith, rest))
 
-mapped_length : {X Y : Type 0} (f : X → Y) (xs : List X) → length (map f xs) ≡ length xs
+pub mapped_length : {X Y : Type 0} (f : X → Y) (xs : List X) → length (map f xs) ≡ length xs
 mapped_length f [] = refl
 mapped_length f (x ∷ xs) = ap suc (mapped_length f xs)
 
-every_reversed : {X : Type 0} (P : X → Type 0) (xs : List X) → Everywhere P xs → Everywhere P (reverse xs)
+pub every_reversed : {X : Type 0} (P : X → Type 0) (xs : List X) → Everywhere P xs → Everywhere P (reverse xs)
 every_reversed P [] h = tt
 every_reversed P (x ∷ xs) h =
     subst (Everywhere P) (sym (reverse-cons x xs)) (every_both P (reverse xs) (x ∷ []) (every_reversed P xs h.1) (h.0, tt))

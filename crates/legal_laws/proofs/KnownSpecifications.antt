@@ -37,13 +37,13 @@ use Rattle.legal_laws.proofs.KnownTypes.{subtype_is_type}
 use Rattle.legal_laws.proofs.Leading.{Leads, leads_same, leads_both, leads_decides, leads_objects}
 use Rattle.legal_laws.proofs.TypedObjects.{AreTyped, Typed, counted_typed}
 
-limited_decides : (n : ℕ) (is : List Identifier) (s : State) → OnlyDecides s (limited n is s)
+pub limited_decides : (n : ℕ) (is : List Identifier) (s : State) → OnlyDecides s (limited n is s)
 limited_decides n [] s = refl
 limited_decides n (i ∷ is) s =
     only_both s (exceeded (nat_eq n most_parameters) i.pos s) (limited (n + 1) is (exceeded (nat_eq n most_parameters) i.pos s)) (only_exceeded s (nat_eq n most_parameters) i.pos)
     (limited_decides (n + 1) is (exceeded (nat_eq n most_parameters) i.pos s))
 
-named_count : (m : Mode) (t : Marked) (is : List Identifier) → length (parameters_for m t is) ≡ length is
+pub named_count : (m : Mode) (t : Marked) (is : List Identifier) → length (parameters_for m t is) ≡ length is
 named_count m t [] = refl
 named_count m t (i ∷ is) = ap suc (named_count m t is)
 

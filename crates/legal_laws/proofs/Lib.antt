@@ -1,38 +1,38 @@
-mod Passing
-mod Demands
-mod Values
-mod KnownTypes
+pub mod Passing
+pub mod Demands
+pub mod Values
+pub mod KnownTypes
 mod KnownNames
-mod KnownExpressions
-mod KeptExpressions
-mod KeptStatics
-mod Constants
-mod KnownStatics
+pub mod KnownExpressions
+pub mod KeptExpressions
+pub mod KeptStatics
+pub mod Constants
+pub mod KnownStatics
 mod KnownValues
-mod Wider
-mod Lengths
-mod KnownRegions
-mod Identities
-mod DefinedTypes
-mod KnownObjects
-mod KnownDeclarations
-mod Leading
-mod LeadingStatements
+pub mod Wider
+pub mod Lengths
+pub mod KnownRegions
+pub mod Identities
+pub mod DefinedTypes
+pub mod KnownObjects
+pub mod KnownDeclarations
+pub mod Leading
+pub mod LeadingStatements
 mod KnownCalls
 mod KnownStatements
-mod Giving
-mod NumberedObjects
+pub mod Giving
+pub mod NumberedObjects
 mod TypedObjects
-mod KnownBodies
-mod KnownSpecifications
-mod SpecifiedBodies
-mod SeenEntities
-mod OwnRoutines
-mod UnitBodies
+pub mod KnownBodies
+pub mod KnownSpecifications
+pub mod SpecifiedBodies
+pub mod SeenEntities
+pub mod OwnRoutines
+pub mod UnitBodies
 mod Laws
-mod Predefined
-mod ScopedValues
-mod LibraryDeclarations
-mod ListedPrograms
+pub mod Predefined
+pub mod ScopedValues
+pub mod LibraryDeclarations
+pub mod ListedPrograms
 mod TooManyLiterals
-mod DistinctObjects
+pub mod DistinctObjects

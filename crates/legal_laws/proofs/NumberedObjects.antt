@@ -74,7 +74,7 @@ bare_numbers t n (i ∷ is) =
     let next : n + 1 ≡ suc n = omega (arith) in
     ap (λ xs. n ∷ xs) (bare_numbers t (n + 1) is ∙ ap (λ m. numbers m (length is)) next)
 
-numbers_length : (n k : ℕ) → length (numbers n k) ≡ k
+pub numbers_length : (n k : ℕ) → length (numbers n k) ≡ k
 numbers_length n zero = refl
 numbers_length n (suc k) = let rest = numbers_length (suc n) k in omega (arith, rest)
 

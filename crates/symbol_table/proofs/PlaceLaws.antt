@@ -25,7 +25,7 @@ use Rattle.symbol_table.specs.declared.extent.Extent.{Extent}
 use Rattle.symbol_table.specs.Alike.{AreAllAlike, IsKnownRegion}
 use Rattle.symbol_table.specs.SymbolViews.{Begins, IsKnown}
 use Rattle.symbol_table.specs.Sites.{IsAtDepth, StandsInText, HoldsUnits, Holds}
-use Rattle.symbol_table.specs.Changes.{Becomes, Grows, ChangesInside, Opens}
+use Rattle.symbol_table.specs.Changes.{Becomes, Grows, ChangesInside, Opens, Reopens}
 use Rattle.symbol_table.proofs.Fronts.{front_get}
 use Rattle.symbol_table.proofs.RegionChanges.{first, rest}
 
@@ -286,3 +286,14 @@ module _ (now : Step) (own : Option ℕ) (old new : Symbols) (k : Tables) (env :
         text = subst (λ rs. StandsInText own rs k (with_local env (region_of k r))) (sym g.regions)
             (local_text own r old.regions k env h.inside h.text);
       }
+
+  -- a region inside that has declarations already
+  pub holds_reopened : (r : List (List ℕ × Entity)) → Reopens old new r → Holds now own new k (with_local (opened env) (region_of k r))
+  holds_reopened r g = record {
+    units = units_stay old new (r ∷ old.regions) k env.world g begins h.units;
+    step = h.step;
+    inside = subst (λ rs. 0 < length rs) (sym g.regions) (omega arith);
+    regions = ap (λ rs. region_of k r ∷ rs) h.regions ∙ ap (in_standard k) (sym g.regions);
+    text = subst (λ rs. StandsInText own rs k (with_local (opened env) (region_of k r))) (sym g.regions)
+        (local_text own r ([] ∷ old.regions) k (opened env) (omega arith) (opened_text own old.regions k env h.text));
+  }

@@ -1,7 +1,8 @@
 -- How a symbol table changes: what comes behind, and what opens, closes and changes inside.
-use Rattle.std.specs.Prelude.{◌≡◌, ℕ, ◌<◌, List, [], ◌∷◌, length, map, replicate, set, Some, Option, option_map, slice_get, IfSome, Ok}
+use Rattle.std.specs.Prelude.{◌≡◌, ℕ, ◌<◌, List, [], ◌∷◌, length, map, replicate, set, Some, Option, option_map, slice_get, IfSome, Result, Ok, Err}
 use Rattle.std.specs.Borrow.{Bor}
 use Rattle.cov_base.specs.declared.failure.Failure.{Failure}
+use Rattle.cov_base.specs.declared.failure.Failure.TheVariants.{Fault, WantOfMemory}
 use Rattle.cov_base.specs.declared.position.Pos.{Pos}
 use Rattle.ada_syntax.specs.declared.name.Identifier.{Identifier}
 use Rattle.ada_rules.specs.Environment.{hide_all}
@@ -34,6 +35,16 @@ pub record Becomes (old new : Symbols) (open_now : List (List (List ℕ × Entit
   pub regions : new.regions ≡ open_now
   pub units : new.units ≡ seen_now
 
+-- what holds behind an answer, of whatever kind but want of memory
+abbrev pub UnlessMemory : {A : Type 0} → Type 0 → Result A (Failure Refusal) → Type 0
+UnlessMemory P (Ok x) = P
+UnlessMemory P (Err (Fault f)) = P
+UnlessMemory P (Err WantOfMemory) = Unit {0}
+
+-- tables that begin with what there is now began with what there was
+abbrev pub Continues : (old new : Symbols) → Type 0
+Continues old new = (k : Tables) → Begins new k → Begins old k
+
 -- more types or subprograms
 abbrev pub Grows : (old new : Symbols) → Type 0
 Grows old new = Becomes old new old.regions old.units
@@ -62,9 +73,12 @@ abbrev pub RefusesNames : Symbols → List Identifier → Failure Refusal → Ty
 RefusesNames symbols is f =
     (k : Tables) (p : Pos) → Refuses (hide_all p (region_of k (innermost symbols.regions)) is).answer f
 
--- a region that opens inside the others, and the innermost one that closes
+-- a region that opens inside the others, also one that has declarations already, and the innermost one that closes
+abbrev pub Reopens : (old new : Symbols) → List (List ℕ × Entity) → Type 0
+Reopens old new r = Becomes old new (r ∷ old.regions) old.units
+
 abbrev pub Opens : (old new : Symbols) → Type 0
-Opens old new = Becomes old new ([] ∷ old.regions) old.units
+Opens old new = Reopens old new []
 
 abbrev pub Closes : (old new : Symbols) → Type 0
 Closes old new = Becomes old new (enclosing old.regions) old.units

@@ -7,3 +7,4 @@ pub mod Changes
 pub mod Leading
 pub mod Marks
 pub mod Composites
+pub mod Generics

@@ -1,10 +1,12 @@
 //! Changes of the symbol table (Ada RM 2012, 3.1, 6.1, 8.1, 8.3).
 
-ghost use Rattle.std.specs.Prelude.{◌≡◌, IfOk, IfErr, OnOk};
+ghost use Rattle.std.specs.Prelude.{◌≡◌, slice_get, IfOk, IfErr, OnOk};
+ghost use Rattle.std.specs.Option.{option_copied};
 ghost use Rattle.ada_rules.specs.Entities.{key};
 ghost use Rattle.ada_entities.specs.RegionCode.{RefusesName, innermost};
+ghost use Rattle.symbol_table.specs.Alike.{IsKnownRegion};
 ghost use Rattle.symbol_table.specs.Leading.{IsUnitEntity};
-ghost use Rattle.symbol_table.specs.Changes.{Grows, ChangesInside, DeclaresInside, RedefinesInside, IsOpen, HidesAll, RefusesNames, Opens, Closes, ShowsUnit, IsFresh, IsTypeOf, IsInstance, IsSubprogram, IsInOwnText, IsNumbered, ShowsKnown};
+ghost use Rattle.symbol_table.specs.Changes.{Grows, ChangesInside, DeclaresInside, RedefinesInside, IsOpen, HidesAll, RefusesNames, Opens, Reopens, Closes, Continues, ShowsUnit, IsFresh, IsTypeOf, IsInstance, IsSubprogram, IsInOwnText, IsNumbered, ShowsKnown};
 
 use crate::extent::Extent;
 use crate::symbols::Symbols;
@@ -47,6 +49,13 @@ impl Symbols {
         self.regions.open(Region::new(alloc))
     }
 
+    /// Opens a region inside the others that has declarations already.
+    pub fn reopen(&mut self, region: Region) -> Result<(), AllocError>
+        ensures { OnOk result (IsKnownRegion self.old.extent region → Reopens self.old self.new region) }
+    {
+        self.regions.open(region)
+    }
+
     /// Closes the innermost region, and takes it out.
     pub fn close(&mut self, alloc: Global) -> Region
         ensures region { result ≡ innermost self.old.regions }
@@ -67,6 +76,7 @@ impl Symbols {
         ensures declared { OnOk result (DeclaresInside self.old self.new name.now entity) }
         ensures inside { OnOk result (ChangesInside self.old self.new) }
         ensures refused { IfErr result (RefusesName (innermost self.old.regions) name.now entity) }
+        ensures continues { Continues self.old self.new }
     {
         if !self.extent.knows_entity(entity) {
             return Err(Failure::WantOfMemory);
@@ -83,6 +93,7 @@ impl Symbols {
         ensures hidden { OnOk result (HidesAll self.old self.new names.now) }
         ensures inside { OnOk result (IsOpen self.old → ChangesInside self.old self.new) }
         ensures refused { IfErr result (RefusesNames self.old names.now) }
+        ensures continues { Continues self.old self.new }
     {
         for name in names {
             self.declare(alloc, name, Entity::Hidden)?;
@@ -163,6 +174,20 @@ impl Symbols {
         }
         self.units.set(unit, interface);
         Ok(())
+    }
+
+    /// What other units see of the unit with this number; none where there are fewer.
+    pub fn interface(&self, unit: u32) -> Option<&Interface>
+        ensures { option_copied result ≡ slice_get self.now.units unit }
+    {
+        self.units.get(unit)
+    }
+
+    /// The composite types, and what instances have for formal types.
+    pub fn types(&self) -> &Types
+        ensures { result.now ≡ self.now.types }
+    {
+        &self.types
     }
 
     /// What the text of a package has declared so far under a name.

@@ -15,7 +15,7 @@ ghost use Rattle.symbol_table.specs.declared.symbols.Symbols.{Symbols};
 ghost use Rattle.symbol_table.specs.SymbolViews.{Begins};
 ghost use Rattle.symbol_table.specs.Exact.{exact};
 ghost use Rattle.symbol_table.specs.Sites.{HoldsUnits, Holds};
-ghost use Rattle.symbol_table.specs.Changes.{Grows, Opens, ChangesInside, ShowsUnit, IsFresh};
+ghost use Rattle.symbol_table.specs.Changes.{Grows, Opens, Reopens, ChangesInside, ShowsUnit, IsFresh};
 ghost use Rattle.symbol_table.specs.Leading.{Leads, Shows, ShowsInstance, StandsInUnit, StandsInPackage};
 
 /// A place follows the symbol table: where it grows, where a region opens, and where the innermost
@@ -23,6 +23,8 @@ ghost use Rattle.symbol_table.specs.Leading.{Leads, Shows, ShowsInstance, Stands
 pub fn places_follow()
     ensures grown { (old new : Symbols) → Grows old new → Leads old new (λ k env. env) }
     ensures opened { (old new : Symbols) → Opens old new → Leads old new (λ k env. opened env) }
+    ensures reopened { (old new : Symbols) (r : List (List ℕ × Entity)) → Reopens old new r
+        → Leads old new (λ k env. with_local (opened env) (region_of k r)) }
     ensures inside { (old new : Symbols) → ChangesInside old new
         → Leads old new (λ k env. with_local env (region_of k (innermost new.regions))) }
     ensures innermost { (now : Step) (own : Option ℕ) (symbols : Symbols) (k : Tables) (env : Env)

@@ -10,6 +10,7 @@
 mod changes;
 mod composite;
 mod extent;
+mod generics;
 mod laws;
 mod marks;
 mod site;

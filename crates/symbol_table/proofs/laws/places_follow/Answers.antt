@@ -1,4 +1,4 @@
-use Rattle.symbol_table.proofs.PlaceLaws.{holds_grown, holds_opened, holds_inside, local_is}
+use Rattle.symbol_table.proofs.PlaceLaws.{holds_grown, holds_opened, holds_inside, holds_reopened, local_is}
 use Rattle.symbol_table.proofs.laws.places_follow.Goals as goal
 
 pub returns-clause-grown : goal.returns-clause-grown
@@ -12,3 +12,6 @@ returns-clause-inside c old new g now own k env h begins = holds_inside now own 
 
 pub returns-clause-innermost : goal.returns-clause-innermost
 returns-clause-innermost c now own symbols k env h = local_is now own symbols symbols k env h h.units.begins
+
+pub returns-clause-reopened : goal.returns-clause-reopened
+returns-clause-reopened c old new r g now own k env h begins = holds_reopened now own old new k env h begins r g

@@ -21,4 +21,5 @@ loop-name-preserved c = record {
       (region_of k (innermost c.declare.new.self.regions)) _ (omega arith) c.name-item.is (c.in_ok-declare.ensures.declared k))
       ∙ c.loop-name.invariant.rest k p;
   inside = λ h. then_inside _ _ _ (c.loop-name.invariant.inside h) c.in_ok-declare.ensures.inside;
+  continues = λ k h. c.loop-name.invariant.continues k (c.declare.ensures.continues k h);
 }

@@ -4,7 +4,7 @@ use Rattle.cov_base.specs.declared.position.Pos.{Pos}
 use Rattle.ada_rules.specs.Environment.{hide_all}
 use Rattle.ada_entities.specs.EntityViews.{Tables, region_of}
 use Rattle.ada_entities.specs.RegionCode.{innermost}
-use Rattle.symbol_table.specs.Changes.{IsOpen, ChangesInside}
+use Rattle.symbol_table.specs.Changes.{IsOpen, ChangesInside, Continues}
 use Rattle.symbol_table.proofs.symbols.Symbols.hide_all.Given as goal
 
 abbrev pub invariant-loop-name : goal.invariant-loop-name
@@ -13,4 +13,5 @@ invariant-loop-name l = record {
       → (hide_all p (region_of k (innermost l.self.regions)) (drop l.name-index l.names)).answer
       ≡ (hide_all p (region_of k (innermost l.fn.self.regions)) l.names).answer;
   inside : IsOpen l.fn.self → ChangesInside l.fn.self l.self;
+  continues : Continues l.fn.self l.self;
 }

@@ -1,0 +1,14 @@
+pub mod Growing
+pub mod Homes
+pub mod Walked
+pub mod Looked
+pub mod Final
+pub mod Labelled
+pub mod Made
+pub mod Main
+pub mod Deciding
+pub mod WholeWorld
+pub mod InText
+pub mod Closed
+pub mod TextPlaces
+pub mod Worked

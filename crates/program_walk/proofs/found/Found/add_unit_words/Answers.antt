@@ -1,0 +1,9 @@
+use Rattle.std.proofs.Common.{ap, ◌∙◌, map, reverse}
+use Rattle.program_walk.specs.States.{unit_words_of, with_found}
+use Rattle.program_walk.proofs.Latest.{latest_first}
+use Rattle.program_walk.proofs.found.Found.add_unit_words.Goals as goal
+
+pub returns : goal.returns
+returns c k s =
+    ap (λ xs. record (with_found k c.args.self.now s) { unit_words = xs })
+    (ap (λ xs. reverse (map (unit_words_of k) xs)) c.in_ok-push.ensures.items ∙ latest_first (unit_words_of k) c.args.self.now.unit_words.items c.args.words)

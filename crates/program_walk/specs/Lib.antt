@@ -1,0 +1,4 @@
+pub mod States
+pub mod Counting
+pub mod Finding
+pub mod Walks

@@ -1,0 +1,11 @@
+pub mod Comparing
+pub mod Listing
+pub mod ConformanceLaws
+pub mod ProfileLaws
+pub mod CompletionLaws
+pub mod ActualLaws
+pub mod MatchLaws
+pub mod GenericLaws
+pub mod PassingLaws
+pub mod CountingLaws
+pub mod FactLaws

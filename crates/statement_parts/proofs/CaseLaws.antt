@@ -1,0 +1,71 @@
+-- Alternatives of case statements.
+use Rattle.std.proofs.Common.{◌≡◌, ℕ, ◌+◌, ◌<◌, nat_eq, true, false, not, ◌&&◌, ◌||◌, List, [], ◌∷◌, length, map, drop, get_or, Some, None, Ok, if◌then◌else◌, refl, sym, ap, ◌∙◌, inl, inr, eq-eqb, length-drop, arith}
+use Rattle.std.proofs.lemmas.Bool.{ne_eqb}
+use Rattle.std.proofs.lemmas.Bool.Decides.{eqb_tells}
+use Rattle.std.proofs.lemmas.List.{at_drop_more, length-map}
+use Rattle.cov_base.specs.declared.position.Pos.{Pos}
+use Rattle.ada_meaning.specs.Tree as tree
+use Rattle.ada_meaning.specs.Types as meaning
+use Rattle.ada_tree.specs.declared.statement.Alternative.{Alternative}
+use Rattle.ada_tree.specs.Programs.{unfolded_statement, unfolded_statements, unfolded_alternatives}
+use Rattle.ada_tree.specs.View as view
+use Rattle.ada_tree.specs.View.{choice_of}
+use Rattle.ada_rules.specs.Plan.{ruled, answer_at}
+use Rattle.ada_rules.specs.Statics.{covers}
+use Rattle.ada_rules.specs.Environment.{State, Given, given, Env, demanded, statement_label}
+use Rattle.ada_rules.specs.Statements.{one, stmts_of, Selector, Arm, alternatives_of, has_others, choices_in, ends_with_others, case_of}
+use Rattle.ada_entities.specs.Answers.{refusal, Refuses, refused_at}
+use Rattle.ada_entities.specs.EntityViews.{Tables}
+use Rattle.type_trees.specs.Trees.{shapes_in_tree}
+use Rattle.statement_parts.specs.Cases.{arm_in, arms_in}
+
+-- an alternative with `others`
+there : (a : Arm) (rest : List Arm) → has_others a.choices ≡ true
+    → ends_with_others (a ∷ rest) ≡ (nat_eq (length rest) 0 && nat_eq (length a.choices) 1)
+there a [] h = ap (λ b. not b || nat_eq (length a.choices) 1) h
+there a (c ∷ rest) h =
+    ap (λ b. not b && ends_with_others (c ∷ rest)) h
+    ∙ ap (λ b. b && nat_eq (length a.choices) 1) (sym (ne_eqb (length (c ∷ rest)) 0 (λ e. omega (arith, e))))
+
+is_behind : (n m l : ℕ) → n + m ≡ l → nat_eq m 0 ≡ nat_eq n l
+is_behind n m l h =
+    elim (eqb_tells m 0) [ inl w ↦ w.0 ∙ sym (eq-eqb n l (omega (arith, h, w.1))) | inr w ↦ w.0 ∙ sym (ne_eqb n l (λ e. w.1 (omega (arith, h, e)))) ]
+
+module _ (k : Tables) where
+  pub statements_in : (types : List meaning.Subtype) (xs : List tree.Stmt)
+      → unfolded_statements types (view.statements_of xs) ≡ stmts_of (map (unfolded_statement types) xs)
+  statements_in types [] = refl
+  statements_in types (x ∷ xs) = ap (tree.and_statement (unfolded_statement types x)) (statements_in types xs)
+
+  pub alternatives_in : (xs : List Alternative)
+      → unfolded_alternatives (shapes_in_tree k.types) (view.alternatives_of xs) ≡ alternatives_of (arms_in k xs)
+  alternatives_in [] = refl
+  alternatives_in (a ∷ xs) =
+      λ z. tree.alternative (map choice_of a.choices) (statements_in (shapes_in_tree k.types) a.statements.items z) (alternatives_in xs z)
+
+  module _ (arms : List Alternative) (i : ℕ) (a : Alternative) (h : i < length arms) (is : a ≡ get_or arms i a) where
+    turn : {B : Type 0} (f : List Arm → B) → f (arms_in k (drop i arms)) ≡ f (arm_in k a ∷ arms_in k (drop (i + 1) arms))
+    turn f = at_drop_more (λ ys. f (arms_in k ys)) arms i a h ∙ ap (λ y. f (arms_in k (y ∷ drop (i + 1) arms))) (sym is)
+
+    pub with_others : has_others (map choice_of a.choices) ≡ true
+        → ends_with_others (arms_in k (drop i arms)) ≡ (nat_eq (i + 1) (length arms) && nat_eq (length a.choices) 1)
+    with_others h1 =
+        turn ends_with_others
+        ∙ (there (arm_in k a) (arms_in k (drop (i + 1) arms)) h1
+        ∙ (λ z. is_behind (i + 1) (length (arms_in k (drop (i + 1) arms))) (length arms) behind z && nat_eq (length-map a.choices choice_of z) 1))
+      where
+        behind : i + 1 + length (arms_in k (drop (i + 1) arms)) ≡ length arms
+        behind = omega (arith, h, length-map (drop (i + 1) arms) (arm_in k), length-drop (i + 1) arms)
+
+-- a case statement behind its alternatives
+module _ (env : Env) (before s : State) (p : Pos) (x : Selector) (arms : List Arm) where
+  abbrev stated_case : Given (List tree.Stmt)
+  stated_case =
+      one (tree.case_statement (statement_label before p) x.expr (alternatives_of arms))
+      (demanded env p (covers x.values (has_others (choices_in arms)) (choices_in arms)) s)
+
+  pub case_refused : ends_with_others arms ≡ false → Refuses (answer_at p (ruled (case_of env before p x (given arms s)))) (refusal p)
+  case_refused h = refused_at (ap (λ b. answer_at p (ruled (if b then Some stated_case else None))) h)
+
+  pub case_passes : ends_with_others arms ≡ true → answer_at p (ruled (case_of env before p x (given arms s))) ≡ Ok stated_case
+  case_passes h = ap (λ b. answer_at p (ruled (if b then Some stated_case else None))) h

@@ -1,0 +1,9 @@
+pub mod Ends
+pub mod Walks
+pub mod Plans
+pub mod CallLaws
+pub mod ChoiceLaws
+pub mod HandlerLaws
+pub mod CaseLaws
+pub mod TurnLaws
+pub mod ReturnLaws

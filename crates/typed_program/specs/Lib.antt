@@ -1,0 +1,3 @@
+pub mod Exceptions
+pub mod Instances
+pub mod Assembled

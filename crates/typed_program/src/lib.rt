@@ -1,0 +1,12 @@
+//! The typed program that a walk over all units has found (Ada RM 2012, 10.1, 11.1, 12.3).
+//!
+//! The contract that the layers above use: [`program_of`] is the program of the rules: its subprograms,
+//! objects and constants in the order of the text, its instances in the order of their places, each with
+//! the values of its generic's constants, and its exceptions as obligations list them.
+#![tactic(auto)]
+
+mod exceptions;
+mod instances;
+mod program;
+
+pub use program::program_of;
