@@ -1,0 +1,6 @@
+//! Statements (Ada RM 2012, 5, 6.4, 6.5, 11.2, 11.3).
+#![tactic(auto)]
+
+mod simple;
+
+pub use simple::{assignment_at, call_at, null_at};
