@@ -3,4 +3,6 @@
 
 mod simple;
 
-pub use simple::{assignment_at, call_at, null_at};
+pub use simple::{
+    assignment_at, call_at, exit_at, null_at, raise_again_at, raise_at, return_at, return_value_at,
+};
