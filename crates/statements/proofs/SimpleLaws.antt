@@ -1,23 +1,18 @@
 -- Statements without others in them, behind the label that was taken for them.
 use Rattle.std.proofs.Common.{◌≡◌, List, refl, sym, ap}
 use Rattle.cov_base.specs.declared.position.Pos.{Pos}
-use Rattle.ada_syntax.specs.Tree.{Name}
-use Rattle.ada_syntax.specs.StatementTree as text
-use Rattle.ada_syntax.specs.declared.declaration.Initial.{Initial}
 use Rattle.ada_meaning.specs.Tree as tree
 use Rattle.ada_rules.specs.Plan.{Plan, answer_at}
 use Rattle.ada_rules.specs.Environment.{State, Given, Env, statement_label, started, beginning_state}
-use Rattle.ada_rules.specs.Statements.{stated}
 use Rattle.ada_entities.specs.Answers.{no_memory}
 use Rattle.ada_entities.specs.EntityViews.{Tables}
 use Rattle.symbol_table.specs.declared.symbols.Symbols.{Symbols}
 use Rattle.symbol_table.specs.Changes.{Grows}
-use Rattle.statement_parts.specs.Simple.{assigning, calling, raising}
 use Rattle.static_parts.specs.Places.{with_notes}
 use Rattle.program_walk.specs.declared.counts.Counts.{Counts}
 use Rattle.program_walk.specs.declared.walk.Walk.{Walk}
-use Rattle.program_walk.specs.Counting.{IsLabel, Starts}
-use Rattle.program_walk.specs.States.{with_counts, with_found, state_of}
+use Rattle.program_walk.specs.Counting.{Starts}
+use Rattle.program_walk.specs.States.{with_found, state_of}
 
 pub same_symbols : (x : Symbols) → Grows x x
 same_symbols x = record { known = λ h. h; stays = λ h k l a. a; begins = λ k b. b; regions = refl; units = refl }
