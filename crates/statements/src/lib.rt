@@ -1,0 +1,8 @@
+//! Statements (Ada RM 2012, 5, 6.4, 6.5, 11.2, 11.3).
+#![tactic(auto)]
+
+mod simple;
+
+pub use simple::{
+    assignment_at, call_at, exit_at, null_at, raise_again_at, raise_at, return_at, return_value_at,
+};
