@@ -1,5 +1,5 @@
 -- Declarations in order, as the walk goes on over them.
-use Rattle.std.proofs.Common.{◌≡◌, ℕ, ◌+◌, ◌<◌, ◌≤◌, List, [], ◌∷◌, ◌++◌, length, drop, get_or, Result, Ok, Err, refl, sym, ap, ◌∙◌}
+use Rattle.std.proofs.Common.{◌≡◌, ℕ, ◌+◌, ◌<◌, ◌≤◌, List, [], ◌∷◌, length, drop, get_or, Result, Ok, Err, refl, sym, ap, ◌∙◌}
 use Rattle.std.proofs.lemmas.List.{at_drop_all, at_drop_more, append-nil}
 use Rattle.cov_base.specs.declared.position.Pos.{Pos}
 use Rattle.cov_base.specs.declared.failure.Failure.{Failure}
@@ -7,7 +7,7 @@ use Rattle.ada_syntax.specs.declared.declaration.Declaration.{Declaration as Sou
 use Rattle.ada_tree.specs.declared.statement.Declaration.{Declaration}
 use Rattle.ada_rules.specs.Environment.{Env}
 use Rattle.ada_rules.specs.Declarations.{Declared, declared, all_declared}
-use Rattle.ada_entities.specs.Answers.{Refuses, refused_at, no_memory}
+use Rattle.ada_entities.specs.Answers.{Refuses}
 use Rattle.ada_entities.specs.declared.fault.Refusal.{Refusal}
 use Rattle.ada_entities.specs.EntityViews.{Tables}
 use Rattle.ada_phrases.proofs.Parts.{refused_as}
@@ -15,7 +15,7 @@ use Rattle.program_walk.specs.declared.context.Context.{Context}
 use Rattle.program_walk.specs.declared.walk.Walk.{Walk}
 use Rattle.program_walk.specs.States.{state_of}
 use Rattle.program_walk.specs.Walks.{Begins, StandsAt, with_innermost}
-use Rattle.declarations.specs.Going.{region_in, GoesInside}
+use Rattle.declarations.specs.Going.{GoesInside}
 use Rattle.declarations.specs.Locals.{made_of}
 use Rattle.declarations.specs.Made.{behind}
 use Rattle.declarations.specs.Values.{declared_in}

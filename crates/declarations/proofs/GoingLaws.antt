@@ -15,7 +15,7 @@ use Rattle.symbol_table.proofs.HideLaws.{then_inside}
 use Rattle.symbol_table.proofs.PlaceLaws.{local_is}
 use Rattle.program_walk.specs.declared.context.Context.{Context}
 use Rattle.program_walk.specs.declared.walk.Walk.{Walk}
-use Rattle.program_walk.specs.Walks.{Begins, Continues, StandsAt, with_innermost}
+use Rattle.program_walk.specs.Walks.{Begins, Continues, StandsAt}
 use Rattle.program_walk.proofs.Following.{changed_inside}
 use Rattle.declarations.proofs.InsideLaws.{grows_inside, grows_itself}
 use Rattle.declarations.specs.Contexts.{IsIn}

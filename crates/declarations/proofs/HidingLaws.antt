@@ -15,7 +15,6 @@ use Rattle.ada_entities.specs.RegionCode.{innermost, declaration, RefusesName}
 use Rattle.ada_demands.specs.SpanViews as spans
 use Rattle.ada_demands.specs.SpanViews.{listed}
 use Rattle.symbol_table.specs.declared.symbols.Symbols.{Symbols}
-use Rattle.symbol_table.specs.SymbolViews as symbols
 use Rattle.symbol_table.specs.Changes.{IsOpen, ChangesInside, DeclaresInside, HidesAll, RefusesNames}
 use Rattle.symbol_table.specs.Changes as changes
 use Rattle.static_parts.specs.declared.place.Place.{Place}

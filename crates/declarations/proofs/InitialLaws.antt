@@ -1,10 +1,9 @@
 -- Initial values of objects of the library level, in both steps.
-use Rattle.std.proofs.Common.{◌≡◌, true, option_map, Result, Ok, ap, ◌∙◌, subst}
-use Rattle.cov_base.specs.declared.position.Pos.{Pos}
+use Rattle.std.proofs.Common.{◌≡◌, true, option_map, Ok, ap, ◌∙◌, subst}
 use Rattle.cov_base.specs.declared.failure.Failure.{Failure}
 use Rattle.ada_meaning.specs.Types.{Range}
 use Rattle.ada_syntax.specs.declared.declaration.Initial.{Initial}
-use Rattle.ada_rules.specs.Plan.{Plan, ruled, answer_at}
+use Rattle.ada_rules.specs.Plan.{Plan, answer_at}
 use Rattle.ada_rules.specs.Types.{AdaSubtype, range_in}
 use Rattle.ada_rules.specs.Environment.{Step, typed_rule, State, Given, given, Env}
 use Rattle.ada_rules.specs.Expressions.{Valued, static_part}

@@ -1,5 +1,5 @@
 -- Declarations of each kind, of the rules' definitions.
-use Rattle.std.proofs.Common.{◌≡◌, List, [], ◌∷◌, ◌++◌, Option, Some, Result, Ok, Err, refl, sym, ap, ◌∙◌, subst}
+use Rattle.std.proofs.Common.{◌≡◌, List, [], ◌∷◌, ◌++◌, Option, Some, Result, Ok, Err, refl, sym, ap, ◌∙◌}
 use Rattle.std.proofs.lemmas.List.{append_assoc, append-nil}
 use Rattle.cov_base.specs.declared.position.Pos.{Pos}
 use Rattle.cov_base.specs.declared.failure.Failure.{Failure}
@@ -14,7 +14,7 @@ use Rattle.ada_syntax.specs.declared.name.Identifier.{Identifier}
 use Rattle.ada_rules.specs.Plan.{Plan, ◌>>=◌, rule, outcome_after, answer_at}
 use Rattle.ada_rules.specs.Types.{Identity, AdaSubtype}
 use Rattle.ada_rules.specs.Entities.{Region}
-use Rattle.ada_rules.specs.Environment.{State, Given, given, Env, with_local, new_identity, one_type_more, hide, hide_all}
+use Rattle.ada_rules.specs.Environment.{State, Given, Env, with_local, new_identity, one_type_more, hide, hide_all}
 use Rattle.ada_rules.specs.Declarations.{indicated, Defined, defined, Declared, objects_declared, exceptions_from, type_declared, subtype_declared, kind_declared, declared, all_declared}
 use Rattle.ada_entities.specs.declared.fault.Refusal.{Refusal}
 use Rattle.ada_entities.specs.Answers.{Refuses, refused_at, no_memory, Answers}

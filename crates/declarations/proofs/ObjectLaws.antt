@@ -1,5 +1,5 @@
 -- Objects and exceptions that are declared one by one, of the rules' definitions.
-use Rattle.std.proofs.Common.{◌≡◌, ℕ, ◌+◌, ◌<◌, ◌≤◌, List, [], ◌∷◌, length, drop, get_or, Option, refl, sym, ap, ◌∙◌, arith}
+use Rattle.std.proofs.Common.{◌≡◌, ℕ, ◌+◌, ◌<◌, ◌≤◌, List, [], ◌∷◌, length, drop, get_or, Option, sym, ap, ◌∙◌, arith}
 use Rattle.std.proofs.lemmas.List.{at_drop_all, at_drop_more}
 use Rattle.ada_syntax.specs.declared.declaration.Constancy.{Constancy}
 use Rattle.ada_syntax.specs.declared.name.Identifier.{Identifier}
@@ -9,7 +9,7 @@ use Rattle.ada_meaning.specs.Types.{Static}
 use Rattle.ada_rules.specs.Types.{AdaSubtype, subtype_in_tree}
 use Rattle.ada_rules.specs.Entities.{key, raisable, Region, redefined}
 use Rattle.ada_rules.specs.Environment.{State, Env, owner_of}
-use Rattle.ada_rules.specs.Declarations.{Declared, object_entity, word_of, local_objects, counted, with_objects, library_entities, library_objects, library_words, with_library_objects, exception_declared, exceptions_from}
+use Rattle.ada_rules.specs.Declarations.{object_entity, word_of, local_objects, counted, with_objects, library_entities, library_objects, library_words, with_library_objects, exception_declared, exceptions_from}
 use Rattle.declarations.specs.Objects.{one_object, one_library_object}
 
 module _ (is : List Identifier) (j : ℕ) (i : Identifier) (less : j < length is) (e : i ≡ get_or is j i) where

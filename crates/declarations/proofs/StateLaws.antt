@@ -1,23 +1,21 @@
 -- The state of the walk, where it counts and finds what is declared.
-use Rattle.std.proofs.Common.{◌≡◌, ℕ, ◌+◌, List, [], ◌∷◌, map, reverse, Option, refl, sym, ap, ◌∙◌}
+use Rattle.std.proofs.Common.{◌≡◌, ◌+◌, [], ◌∷◌, map, reverse, sym, ap, ◌∙◌}
 use Rattle.cov_base.specs.declared.position.Pos.{Pos}
 use Rattle.ada_syntax.specs.declared.name.Identifier.{Identifier}
-use Rattle.ada_meaning.specs.Program as program
 use Rattle.ada_tree.specs.declared.program.ExceptionDeclaration.{ExceptionDeclaration}
 use Rattle.ada_tree.specs.declared.program.LibraryObject.{LibraryObject}
 use Rattle.ada_tree.specs.declared.types.Subtype.{Subtype as TreeSubtype}
 use Rattle.ada_tree.specs.Programs.{initial_of, library_object_of, exception_declaration_of}
 use Rattle.ada_rules.specs.Types.{AdaSubtype, subtype_in_tree}
 use Rattle.ada_rules.specs.Environment.{State, Env, beginning_state}
-use Rattle.ada_rules.specs.Declarations.{exception_name, exception_of, exception_declared, type_counted}
+use Rattle.ada_rules.specs.Declarations.{exception_name, exception_declared, type_counted}
 use Rattle.ada_entities.specs.EntityViews.{Tables}
 use Rattle.static_parts.specs.declared.place.Notes.{Notes}
 use Rattle.static_parts.specs.Places.{with_notes}
 use Rattle.program_walk.specs.declared.counts.Counts.{Counts}
 use Rattle.program_walk.specs.declared.found.DeclaredType.{DeclaredType}
 use Rattle.program_walk.specs.declared.found.Found.{Found}
-use Rattle.program_walk.specs.declared.found.Word.{Word}
-use Rattle.program_walk.specs.States.{types_in, subtype_there, word_of, declared_type_of, with_counts, with_found, kept_state}
+use Rattle.program_walk.specs.States.{types_in, subtype_there, word_of, declared_type_of, with_counts, kept_state}
 use Rattle.program_walk.specs.Counting.{CountsObject, CountsLibraryObject, CountsException}
 use Rattle.program_walk.specs.Finding.{FindsType, FindsWord, FindsLibraryWord, FindsObject, FindsException}
 use Rattle.declarations.specs.Objects.{one_object, one_library_object}

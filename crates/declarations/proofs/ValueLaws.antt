@@ -1,5 +1,5 @@
 -- Objects with and without an initial value, of the rules' definitions.
-use Rattle.std.proofs.Common.{◌≡◌, Bool, true, false, if◌then◌else◌, List, Option, None, Some, option_map, Result, Ok, Err, refl, ap, ◌∙◌}
+use Rattle.std.proofs.Common.{◌≡◌, Bool, true, false, if◌then◌else◌, List, Option, None, Some, option_map, Result, Ok, ap, ◌∙◌}
 use Rattle.cov_base.specs.declared.position.Pos.{Pos}
 use Rattle.cov_base.specs.declared.failure.Failure.{Failure}
 use Rattle.ada_meaning.specs.Types.{Static}

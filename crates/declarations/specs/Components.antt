@@ -1,14 +1,14 @@
 -- Components of records, as the walk goes on.
-use Rattle.std.specs.Prelude.{◌≡◌, List, [], ◌∷◌, Result, Ok, Err}
+use Rattle.std.specs.Prelude.{◌≡◌, List, ◌∷◌, Result, Ok, Err}
 use Rattle.std.specs.declared.vec.Vec.{Vec}
 use Rattle.std.specs.declared.alloc.Global.{Global}
 use Rattle.cov_base.specs.declared.position.Pos.{Pos}
 use Rattle.cov_base.specs.declared.failure.Failure.{Failure}
 use Rattle.ada_syntax.specs.declared.declaration.Component.{Component}
 use Rattle.ada_syntax.specs.declared.name.Identifier.{Identifier}
-use Rattle.ada_rules.specs.Types.{Fields, and_field}
+use Rattle.ada_rules.specs.Types.{Fields}
 use Rattle.ada_rules.specs.Entities as rules
-use Rattle.ada_rules.specs.Environment.{Given, given, Env}
+use Rattle.ada_rules.specs.Environment.{Env}
 use Rattle.ada_rules.specs.Declarations.{with_fields, all_as, fields_of}
 use Rattle.ada_entities.specs.Answers.{Refuses}
 use Rattle.ada_entities.specs.declared.composite.Component.{Component as Field}

@@ -1,4 +1,4 @@
-use Rattle.std.proofs.Common.{refl, sym, ◌∙◌}
+use Rattle.std.proofs.Common.{sym, ◌∙◌}
 use Rattle.ada_entities.specs.Views.{subtype_of}
 use Rattle.declarations.proofs.FieldLaws.{turn_named, all_named}
 use Rattle.declarations.proofs.components.add_named.Goals as goal

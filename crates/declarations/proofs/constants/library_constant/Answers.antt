@@ -1,4 +1,4 @@
-use Rattle.std.proofs.Common.{Some, option_map, refl, ap, ◌∙◌}
+use Rattle.std.proofs.Common.{Some, option_map, refl, ◌∙◌}
 use Rattle.ada_tree.specs.View.{scalar_range_of, static_value_of}
 use Rattle.ada_rules.specs.Declarations.{known_constant}
 use Rattle.ada_entities.specs.Views.{subtype_of}

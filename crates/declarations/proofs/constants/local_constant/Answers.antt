@@ -1,4 +1,4 @@
-use Rattle.std.proofs.Common.{refl, ap, ◌∙◌}
+use Rattle.std.proofs.Common.{refl, ◌∙◌}
 use Rattle.ada_tree.specs.View.{scalar_range_of}
 use Rattle.ada_rules.specs.Declarations.{known_constant, lying_in}
 use Rattle.ada_entities.specs.Views.{subtype_of}

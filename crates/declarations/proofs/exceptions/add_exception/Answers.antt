@@ -1,4 +1,4 @@
-use Rattle.std.proofs.Common.{refl, sym, ap, ◌∙◌}
+use Rattle.std.proofs.Common.{refl, sym, ◌∙◌}
 use Rattle.ada_meaning.specs.Tree as tree
 use Rattle.ada_rules.specs.Entities.{key, raisable, redefined}
 use Rattle.declarations.specs.Going.{region_in}

@@ -1,4 +1,4 @@
-use Rattle.std.proofs.Common.{◌≡◌, Ok, option_map, sym, ap, ◌∙◌, subst, rules}
+use Rattle.std.proofs.Common.{Ok, option_map, sym, ap, ◌∙◌, subst, rules}
 use Rattle.ada_tree.specs.View.{scalar_range_of}
 use Rattle.ada_rules.specs.Types.{range_in}
 use Rattle.ada_rules.specs.Plan.{ruled, answer_at}

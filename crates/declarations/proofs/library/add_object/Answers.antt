@@ -1,7 +1,6 @@
-use Rattle.std.proofs.Common.{refl, sym, ap, ◌∙◌}
+use Rattle.std.proofs.Common.{refl, ap, ◌∙◌}
 use Rattle.ada_meaning.specs.Tree as tree
 use Rattle.ada_rules.specs.Entities.{key, redefined}
-use Rattle.ada_rules.specs.Environment.{owner_of}
 use Rattle.declarations.specs.Going.{region_in}
 use Rattle.declarations.specs.Locals.{subtype_in_form, entity_in_form}
 use Rattle.declarations.proofs.StateLaws.{object_state}

@@ -7,7 +7,6 @@ use Rattle.ada_entities.specs.Views.{identity_of}
 use Rattle.static_parts.specs.Subtypes.{subtype_in}
 use Rattle.program_walk.specs.States.{kept_state, state_of}
 use Rattle.declarations.proofs.GoingLaws.{region_is}
-use Rattle.declarations.proofs.InsideLaws.{grows_itself}
 use Rattle.declarations.proofs.HidingLaws.{symbols_stay}
 use Rattle.declarations.proofs.TypeLaws.{index_refused, component_refused, array_passes}
 use Rattle.declarations.proofs.types.array_type.Goals as goal

@@ -1,4 +1,3 @@
-use Rattle.std.proofs.Common.{ap}
 use Rattle.ada_rules.specs.Types.{of_type, range_in}
 use Rattle.ada_entities.specs.Views.{shaped, identity_of}
 use Rattle.declarations.proofs.types.composite.Goals as goal

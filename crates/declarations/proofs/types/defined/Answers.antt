@@ -1,4 +1,4 @@
-use Rattle.std.proofs.Common.{Some, sym, ap, ◌∙◌}
+use Rattle.std.proofs.Common.{sym, ◌∙◌}
 use Rattle.ada_rules.specs.Plan.{answer_at}
 use Rattle.ada_entities.specs.Views.{identity_of}
 use Rattle.ada_phrases.proofs.Parts.{answers_as}

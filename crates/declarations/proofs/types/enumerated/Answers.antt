@@ -1,4 +1,4 @@
-use Rattle.std.proofs.Common.{Some, Ok, refl, sym, ap, ◌∙◌}
+use Rattle.std.proofs.Common.{Some, Ok, sym, ap, ◌∙◌}
 use Rattle.std.proofs.lemmas.Result.{err_from_is_err_and}
 use Rattle.ada_rules.specs.Plan.{rule}
 use Rattle.ada_rules.specs.Types.{type_in}

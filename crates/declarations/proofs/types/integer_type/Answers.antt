@@ -1,8 +1,8 @@
-use Rattle.std.proofs.Common.{Ok, refl, sym, ap, ◌∙◌}
+use Rattle.std.proofs.Common.{Ok, refl, ap, ◌∙◌}
 use Rattle.std.proofs.lemmas.Result.{err_from_is_err_and}
 use Rattle.ada_rules.specs.Types.{integer_type as Integer, of_type, range_in}
 use Rattle.ada_rules.specs.Environment.{given}
-use Rattle.ada_entities.specs.Views.{identity_of, subtype_of}
+use Rattle.ada_entities.specs.Views.{identity_of}
 use Rattle.static_parts.specs.Subtypes.{range_of}
 use Rattle.program_walk.specs.States.{kept_state, state_of}
 use Rattle.declarations.proofs.GoingLaws.{region_is}

@@ -1,4 +1,4 @@
-use Rattle.std.proofs.Common.{Ok, ◌<◌, length, refl, sym, ap, ◌∙◌, subst, arith}
+use Rattle.std.proofs.Common.{Ok, ◌<◌, length, sym, ap, ◌∙◌, subst, arith}
 use Rattle.std.proofs.lemmas.Result.{err_from_is_err_and}
 use Rattle.ada_rules.specs.Types.{of_type, record_type, base}
 use Rattle.ada_rules.specs.Environment.{given, opened}

@@ -1,4 +1,4 @@
-use Rattle.std.proofs.Common.{◌≡◌, Ok, refl, sym, ap, ◌∙◌}
+use Rattle.std.proofs.Common.{Ok, refl, sym, ap, ◌∙◌}
 use Rattle.std.proofs.lemmas.Result.{err_from_is_err_and}
 use Rattle.ada_rules.specs.Environment.{given, with_local}
 use Rattle.ada_rules.specs.Declarations.{may_be_bare, local_bare, library_declared, no_library_value}
@@ -13,7 +13,7 @@ use Rattle.declarations.specs.Made.{behind, behind_made}
 use Rattle.declarations.proofs.HidingLaws.{stays_there}
 use Rattle.declarations.proofs.GoingLaws.{is_in, is_in_local}
 use Rattle.declarations.proofs.KindLaws.{behind_refused, made_alone}
-use Rattle.declarations.proofs.ValueLaws.{ruled_as, at_level, broken_at, bare_at_library, bare_inside}
+use Rattle.declarations.proofs.ValueLaws.{at_level, broken_at, bare_at_library, bare_inside}
 use Rattle.declarations.proofs.values.bare_objects.Goals as goal
 
 pub returns-in_err-may_be_bare-clause-comes : goal.returns-in_err-may_be_bare-clause-comes

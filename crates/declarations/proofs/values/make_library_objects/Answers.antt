@@ -1,5 +1,4 @@
-use Rattle.std.proofs.Common.{[], option_map, sym, ap, ◌∙◌}
-use Rattle.ada_tree.specs.Programs.{initial_of}
+use Rattle.std.proofs.Common.{[], option_map, sym, ◌∙◌}
 use Rattle.ada_entities.specs.EntityViews.{constant_of}
 use Rattle.ada_entities.specs.Views.{subtype_of}
 use Rattle.ada_phrases.specs.Answers.{counted}

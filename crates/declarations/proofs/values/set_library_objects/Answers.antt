@@ -1,7 +1,7 @@
-use Rattle.std.proofs.Common.{◌≡◌, Ok, refl, sym, ap, ◌∙◌}
+use Rattle.std.proofs.Common.{Ok, refl, ap, ◌∙◌}
 use Rattle.std.proofs.lemmas.Result.{err_from_is_err_and}
 use Rattle.ada_rules.specs.Environment.{given, with_local}
-use Rattle.ada_rules.specs.Declarations.{one_name, library_declared}
+use Rattle.ada_rules.specs.Declarations.{library_declared}
 use Rattle.ada_entities.specs.Views.{subtype_of}
 use Rattle.ada_phrases.specs.Scopes.{step_of}
 use Rattle.ada_phrases.proofs.Parts.{refused_as}
