@@ -1,0 +1,2 @@
+pub mod CapLaws
+pub mod RowLaws
