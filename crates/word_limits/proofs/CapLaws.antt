@@ -12,7 +12,7 @@ pub data Is (n : ℕ) : Type 0 where
   itself : capped n ≡ n → n ≤ word_cap → Is n
   past : capped n ≡ word_cap → word_cap < n → Is n
 
-is : (n : ℕ) → Is n
+pub is : (n : ℕ) → Is n
 is n = by_test (nat_lt word_cap n) refl where
   by_test : (b : Bool) → nat_lt word_cap n ≡ b → Is n
   by_test true e = past (ap (λ c. when c n) e) (grind (arith, nat_tests))

@@ -7,7 +7,13 @@
 #![tactic(auto)]
 
 mod capped;
+mod excess;
+mod first;
+mod limit;
 mod ranges;
 mod rows;
 mod table;
+mod units;
 mod words;
+
+pub use first::first_excess;
