@@ -27,9 +27,6 @@ at_cap n m a b = by_case n m (is n) (is m) a b where
   by_case n m (past e l) (itself f k) a b = omega (arith, e, l, f, k, a, b)
   by_case n m (past e l) (past f k) a b = e ∙ sym f
 
-cap_is_past : word_cap ≤ capped word_cap
-cap_is_past = omega arith
-
 -- a product of a number and one that is counted up to the cap
 pub cap_product : (a b : ℕ) → capped (a * capped b) ≡ capped (a * b)
 cap_product a b = by_case a (is b) where
@@ -43,28 +40,3 @@ cap_product a b = by_case a (is b) where
       let one : suc a * capped b ≡ a * capped b + capped b = suc-mul a (capped b) in
       let other : suc a * b ≡ a * b + b = suc-mul a b in
       at_cap (suc a * capped b) (suc a * b) (omega (arith, one, e)) (omega (arith, other, l))
-
--- a number behind one that is counted up to the cap
-pub cap_sum : (a b : ℕ) → capped (capped a + b) ≡ capped (a + b)
-cap_sum a b = by_case (is a) where
-  by_case : Is a → capped (capped a + b) ≡ capped (a + b)
-  by_case (itself e l) = ap (λ n. capped (n + b)) e
-  by_case (past e l) = at_cap (capped a + b) (a + b) (omega (arith, e)) (omega (arith, l))
-
-pub cap_sum_right : (a b : ℕ) → capped (a + capped b) ≡ capped (a + b)
-cap_sum_right a b =
-    let left : a + capped b ≡ capped b + a = omega arith in
-    let right : b + a ≡ a + b = omega arith in
-    ap capped left ∙ cap_sum b a ∙ ap capped right
-
-pub cap_twice : (a : ℕ) → capped (capped a) ≡ capped a
-cap_twice a = by_case (is a) where
-  by_case : Is a → capped (capped a) ≡ capped a
-  by_case (itself e l) = ap capped e
-  by_case (past e l) = at_cap (capped a) a (omega (arith, e)) (omega (arith, l))
-
--- words so far, one part more, and the rest
-pub joined : (so_far next part x rest : ℕ) → next ≡ capped (so_far + part) → part ≡ capped x → capped (next + rest) ≡ capped (so_far + (x + rest))
-joined so_far next part x rest e f =
-    let group : so_far + x + rest ≡ so_far + (x + rest) = omega arith in
-    ap (λ n. capped (n + rest)) (e ∙ ap (λ n. capped (so_far + n)) f ∙ cap_sum_right so_far x) ∙ cap_sum (so_far + x) rest ∙ ap capped group

@@ -88,7 +88,13 @@ pub(crate) fn first_type(
 {
     let mut first = None;
     for declared in types {
-        let own = beyond(alloc, table, Limit::Type, declared.generic, &[declared.word])?;
+        let own = beyond(
+            alloc,
+            table,
+            Limit::Type,
+            declared.generic,
+            &[declared.word],
+        )?;
         first = earlier(own, first);
     }
     Ok(first)

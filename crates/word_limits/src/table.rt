@@ -44,11 +44,7 @@ fn push_place(
 }
 
 /// The instances of a generic, in order.
-fn instances_of(
-    alloc: Global,
-    instances: &Instances,
-    generic: u32,
-) -> Result<Vec<u32>, AllocError>
+fn instances_of(alloc: Global, instances: &Instances, generic: u32) -> Result<Vec<u32>, AllocError>
     ensures { IfOk result (λ ps. ps.items ≡ rules.instances_from instances.now 1 generic instances.now) }
 {
     let mut places = Vec::new(alloc);

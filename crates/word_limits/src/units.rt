@@ -66,11 +66,7 @@ fn own_words(table: &WordTable<'_>, unit: &UnitWords) -> Result<u32, AllocError>
 }
 
 /// How many words the text of the unit with this number takes, if it is no generic.
-fn words_of_unit(
-    table: &WordTable<'_>,
-    number: u32,
-    units: &[UnitWords],
-) -> Result<u32, AllocError>
+fn words_of_unit(table: &WordTable<'_>, number: u32, units: &[UnitWords]) -> Result<u32, AllocError>
     ensures { IfOk result (λ w. w ≡ capped (rules.words_of_unit table.now.instances.now number
         (reverse (map (unit_by (types_of table.now.types.now)) units.now)))) }
 {
