@@ -25,9 +25,11 @@ pub record HasUnits (instances : List Facts) (units : List Interface) (w : World
   pub interfaces : w.interfaces ≡ map (interface_of k actuals) units
 
 -- the first unit at which the library level passes its limit, in each such world
-abbrev pub IsFirstUnit : List Facts → List type.Subtype → List Interface → List UnitWords → List LibraryUnit → Option Pos → Type 0
+abbrev pub IsFirstUnit : List Facts → List type.Subtype → List Interface → List UnitWords → List LibraryUnit
+    → Option Pos → Type 0
 IsFirstUnit instances types interfaces found units p =
-    (w : World) → HasUnits instances interfaces w → p ≡ rules.first_unit w (reverse (map (unit_by types) found)) 0 0 units
+    (w : World) → HasUnits instances interfaces w
+    → p ≡ rules.first_unit w (reverse (map (unit_by types) found)) 0 0 units
 
 -- the first of all, where the tables keep these composite types
 abbrev pub IsFirstExcess : List TypeDeclaration → List Facts → Walk → List LibraryUnit → Option Pos → Type 0

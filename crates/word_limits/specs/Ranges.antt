@@ -31,7 +31,8 @@ is_fixed (range.Formal o k) = is_instance o
 -- in this instance a range has the bounds that it has there
 abbrev pub IsSeenFrom : Scope → ScalarRange → Option ℕ → Type 0
 IsSeenFrom s r o =
-    IfSome o (λ n. (is : List Facts) (i : ℕ) → IsAt s i → bounds_in is n (scalar_range_of r) ≡ bounds_in is i (scalar_range_of r))
+    IfSome o (λ n. (is : List Facts) (i : ℕ) → IsAt s i
+    → bounds_in is n (scalar_range_of r) ≡ bounds_in is i (scalar_range_of r))
 
 -- a range has so many values there
 abbrev pub HasLength : List Facts → Scope → ScalarRange → Option ℕ → Type 0

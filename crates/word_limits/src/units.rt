@@ -126,8 +126,10 @@ fn words_at(
     number: u32,
     units: &[UnitWords],
 ) -> Result<u32, AllocError>
-    ensures { (k : Tables) (actuals : ℕ → List Actual) (w : World) → w.interfaces ≡ map (interface_of k actuals) symbols.now.units
-        → IfOk result (λ x. x ≡ capped (rules.words_by table.now.instances.now number (environment.interface_of w number)
+    ensures { (k : Tables) (actuals : ℕ → List Actual) (w : World)
+        → w.interfaces ≡ map (interface_of k actuals) symbols.now.units
+        → IfOk result (λ x. x
+        ≡ capped (rules.words_by table.now.instances.now number (environment.interface_of w number)
         (reverse (map (unit_by (types_of table.now.types.now)) units.now)))) }
 {
     match symbols.interface(number) {
@@ -150,7 +152,8 @@ pub(crate) fn first_unit(
     found: &[UnitWords],
     units: &[Unit],
 ) -> Result<Option<Pos>, AllocError>
-    ensures { IfOk result (IsFirstUnit table.now.instances.now (types_of table.now.types.now) symbols.now.units found.now units.now) }
+    ensures { IfOk result (IsFirstUnit table.now.instances.now (types_of table.now.types.now)
+        symbols.now.units found.now units.now) }
 {
     let mut before = 0;
     for (index, unit) in units.iter().enumerate() {

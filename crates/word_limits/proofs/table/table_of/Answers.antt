@@ -1,10 +1,6 @@
-use Rattle.std.proofs.Common.{◌≡◌, ◌+◌, List, [], ◌∷◌, drop, sym, subst, arith}
+use Rattle.std.proofs.Common.{◌+◌, ◌∷◌, drop, sym, subst, arith}
 use Rattle.std.proofs.lemmas.List.{at_drop_more, at_drop_all}
-use Rattle.ada_meaning.specs.Types as type
-use Rattle.ada_tree.specs.declared.types.TypeDeclaration.{TypeDeclaration}
-use Rattle.ada_tree.specs.Programs.{unfolded}
-use Rattle.ada_tree.specs.View.{composite_of}
-use Rattle.word_limits.specs.Rows.{AreRows, IsRow}
+use Rattle.word_limits.specs.Rows.{AreRows}
 use Rattle.word_limits.proofs.RowLaws.{SoFar, one_more, all_seen}
 use Rattle.word_limits.proofs.table.table_of.Goals as goal
 

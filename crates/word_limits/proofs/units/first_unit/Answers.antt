@@ -1,8 +1,8 @@
-use Rattle.std.proofs.Common.{◌≡◌, ◌+◌, Some, None, ◌∷◌, map, drop, sym, ap, ◌∙◌, arith}
+use Rattle.std.proofs.Common.{◌+◌, ◌∷◌, map, drop, sym, ap, ◌∙◌, arith}
 use Rattle.std.specs.Prelude.{reverse}
 use Rattle.std.proofs.lemmas.List.{at_drop_more}
 use Rattle.ada_rules.specs.Environment.{interface_of}
-use Rattle.ada_rules.specs.Limits.{first_unit, words_by, most_words_of_library}
+use Rattle.ada_rules.specs.Limits.{first_unit, words_by}
 use Rattle.ada_tree.specs.Programs.{types_of}
 use Rattle.word_limits.specs.Capped.{capped, counted_on}
 use Rattle.word_limits.specs.Counting.{unit_by}
