@@ -1,0 +1,3 @@
+pub mod CapLaws
+pub mod RowLaws
+pub mod UnitLaws
