@@ -1,0 +1,3 @@
+pub mod SeenLaws
+pub mod StandingLaws
+pub mod EnteringLaws
