@@ -1,3 +1,4 @@
 pub mod SeenLaws
 pub mod StandingLaws
 pub mod EnteringLaws
+pub mod InstantiatingLaws

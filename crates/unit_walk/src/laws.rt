@@ -2,7 +2,11 @@
 //! laws as its contract.
 
 ghost use Rattle.std.specs.Prelude.{◌≡◌, ℕ, List, [], Option};
+ghost use Rattle.cov_base.specs.declared.position.Pos.{Pos};
+ghost use Rattle.ada_syntax.specs.declared.unit.Instance.{Instance};
 ghost use Rattle.ada_syntax.specs.declared.unit.Unit.{Unit as LibraryUnit};
+ghost use Rattle.ada_rules.specs.Environment.{Env, State};
+ghost use Rattle.ada_rules.specs.Units.{at_unit, instance_judged};
 ghost use Rattle.ada_rules.specs.Library.{Library as RulesLibrary};
 ghost use Rattle.ada_rules.specs.Statics.{Facts};
 ghost use Rattle.ada_entities.specs.declared.entity.Entity.{Entity};
@@ -18,6 +22,7 @@ ghost use Rattle.symbol_table.specs.SymbolViews.{IsKnown};
 ghost use Rattle.program_walk.specs.declared.context.Context.{Context};
 ghost use Rattle.program_walk.specs.declared.walk.Walk.{Walk};
 ghost use Rattle.unit_walk.specs.Standing.{IsKnownEntity, Follows, FollowsShown};
+ghost use Rattle.unit_walk.specs.Instantiating.{instance_part, judged_from};
 ghost use Rattle.unit_walk.specs.Entering.{IsUnitContext, IsPackageContext, IsEntered, StandsInUnit, StandsInPackage};
 
 /// What a unit, and what the body of a package, sees of the library leads only to what is there.
@@ -49,4 +54,10 @@ pub fn units_are_entered()
         (g : Option ℕ) (own : ℕ) (old new : Walk) (seen text : List (List ℕ × Entity))
         → IsUnitContext step x instances n name c → IsPackageContext c g own d → IsEntered old seen text new
         → StandsInPackage old new d g own seen text }
+{}
+
+/// What the rules make of an instance follows from its generic and its actuals.
+pub fn instances_are_judged()
+    ensures { (env : Env) (s : State) (p : Pos) (n k : ℕ) (i : Instance) → (instance_judged env s p n k i).answer
+        ≡ judged_from env.world p n k i (instance_part env (at_unit s) p k i).answer }
 {}
