@@ -9,7 +9,7 @@ use Rattle.ada_rules.specs.Statics.{Facts}
 use Rattle.ada_rules.specs.Entities.{Actual}
 use Rattle.ada_rules.specs.Environment.{World, instance_interface, State, Given, given, Env}
 use Rattle.ada_rules.specs.Instances.{generic_named, formals_of, actuals_judged}
-use Rattle.ada_rules.specs.Units.{Walked, instantiated_by, with_instance}
+use Rattle.ada_rules.specs.Units.{Walked, instantiated_by, with_instance, with_interface}
 use Rattle.ada_entities.specs.declared.entity.Entity.{Entity}
 use Rattle.ada_entities.specs.EntityViews.{Tables}
 use Rattle.ada_demands.specs.declared.statics.Statics.{Statics}
@@ -18,6 +18,7 @@ use Rattle.ada_demands.specs.SpanViews.{listed}
 use Rattle.ada_demands.specs.StaticsViews.{noted}
 use Rattle.symbol_table.specs.declared.symbols.Symbols.{Symbols}
 use Rattle.symbol_table.specs.Sites.{HoldsUnits}
+use Rattle.symbol_table.specs.SymbolViews.{Begins}
 use Rattle.specifications.specs.Actuals.{actuals_in}
 use Rattle.specifications.specs.Passing.{formals_seen}
 use Rattle.program_walk.specs.declared.walk.Walk.{Walk}
@@ -69,3 +70,9 @@ Makes p number name y old before new after =
 pub record KeepsSymbols (old new : Walk) : Type 0 where
   pub symbols : new.symbols ≡ old.symbols
   pub spans : listed new.spans ≡ listed old.spans
+
+-- others see the instance with this number, whatever its actuals are besides the types that they give
+abbrev pub SeesInstance : (old new : Symbols) → (unit : ℕ) → Instantiated → ℕ → Type 0
+SeesInstance old new n y j =
+    (k : Tables) (w : World) → HoldsUnits old k w → Begins new k
+    → HoldsUnits new k (with_interface w n (instance_interface y.generic j (actuals_in k y.actuals)))

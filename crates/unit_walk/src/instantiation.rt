@@ -1,15 +1,16 @@
 //! Instances of generics (Ada RM 2012, 12.3).
 
-ghost use Rattle.std.specs.Prelude.{◌≡◌, OnOk};
+ghost use Rattle.std.specs.Prelude.{◌≡◌, IfOk, OnOk};
+ghost use Rattle.symbol_table.specs.Changes.{Continues};
 ghost use Rattle.static_parts.specs.Places.{ComesTo};
-ghost use Rattle.unit_walk.specs.Instantiating.{instantiated_of, instance_part, AreFormalsOf, NotesMade, Makes, KeepsSymbols};
+ghost use Rattle.unit_walk.specs.Instantiating.{instantiated_of, instance_part, AreFormalsOf, NotesMade, Makes, KeepsSymbols, SeesInstance};
 
 use ada_demands::{Instances, Made, Statics};
-use ada_entities::{Refusal, Region};
+use ada_entities::{Interface, Refusal, Region};
 use ada_syntax::{Identifier, Instance};
 use cov_base::{Failure, Pos};
 use program_walk::Walk;
-use specifications::{InstanceActual, InstanceWalk, Lookup, generic_named};
+use specifications::{InstanceActual, InstanceWalk, Lookup, generic_named, given_types};
 use static_parts::{Notes, Place};
 use std::alloc::{AllocError, Global};
 use symbol_table::Symbols;
@@ -87,4 +88,22 @@ pub fn make_instance(
     instances.make(alloc, &walk.notes.statics.constants, number, facts)?;
     walk.found.add_instance(instance)?;
     note_made(&mut walk.notes.statics, made.generic, number)
+}
+
+/// Lets other units see a made instance as the unit with this number, and answers the number that it has
+/// in the table of types: that of the next instance there.
+pub fn show_instance(
+    alloc: Global,
+    symbols: &mut Symbols,
+    unit: u32,
+    made: &Instantiated,
+) -> Result<u32, AllocError>
+    ensures number { IfOk result (λ j. j ≡ symbols.old.extent.instances) }
+    ensures shown { IfOk result (SeesInstance symbols.old symbols.new unit made.now) }
+    ensures added { OnOk result (Continues symbols.old symbols.new) }
+{
+    let types = given_types(alloc, made.actuals.as_slice())?;
+    let instance = symbols.add_instance(types)?;
+    symbols.set_unit(unit, Interface::Instance(made.generic, instance))?;
+    Ok(instance)
 }

@@ -4,7 +4,8 @@
 //! entered with what it sees of the library, in which its text stands: declarations are then looked at in
 //! a context whose environment is the rules' own ([`enter_unit`], [`unit_context`], [`package_context`]).
 //! An instance comes to what the rules make of its generic and its actuals ([`instance_actuals`],
-//! [`make_instance`]); that others see it stands in the layer above.
+//! [`make_instance`]), and others see it by the number that the table of types gives it
+//! ([`show_instance`]).
 #![tactic(auto)]
 
 mod contexts;
@@ -16,7 +17,7 @@ mod laws;
 pub use contexts::{package_context, unit_context};
 pub use entering::{enter_unit, leave_unit};
 pub use instances::instances_before;
-pub use instantiation::{Instantiated, instance_actuals, make_instance};
+pub use instantiation::{Instantiated, instance_actuals, make_instance, show_instance};
 pub use laws::{
     instances_are_judged, regions_seen_are_known, units_are_entered, walks_stand_before_units,
 };
