@@ -1,0 +1,4 @@
+pub mod Instances
+pub mod Standing
+pub mod Entering
+pub mod Instantiating
