@@ -1,0 +1,5 @@
+pub mod ObjectLaws
+pub mod ParameterLaws
+pub mod ParameterWalks
+pub mod ResultLaws
+pub mod SpecificationLaws

@@ -1,0 +1,4 @@
+pub mod Objects
+pub mod Parameters
+pub mod Results
+pub mod Entering
