@@ -2,12 +2,16 @@
 //! their subprogram, in a region of their own, and the result of a function.
 //!
 //! [`specified`] comes to what the rules say of a specification. Where it succeeds, the region of the
-//! parameters is the innermost one of the walk.
+//! parameters is the innermost one of the walk. [`subprogram_declared`] comes to what they say of a
+//! declaration in a package (7.2).
 #![tactic(auto)]
 
+mod alone;
 mod objects;
 mod parameters;
 mod results;
+mod routines;
 mod specification;
 
+pub use routines::{add_routine, body_number, subprogram_declared};
 pub use specification::specified;
