@@ -49,7 +49,7 @@ AddsParameters c old new before after q result =
 abbrev pub parameters_in : Walk → Tables → Vec Parameter Global → rules.Profile
 parameters_in w k v = record { parameters = parameters_of k here v.items; result = None; region = region_in k w }
 
-abbrev pub ComesToParameters : Context → (old new : Walk) → List Source → Result (Vec Parameter Global) (Failure Refusal)
-    → Type 0
+abbrev pub ComesToParameters : Context → (old new : Walk) → List Source
+    → Result (Vec Parameter Global) (Failure Refusal) → Type 0
 ComesToParameters c old new qs result =
     (p : Pos) → ComesTo (parameters_in new) c old new (λ k env s. (parameters_judged env s p qs).answer) result
