@@ -1,0 +1,6 @@
+pub mod Objects
+pub mod Parameters
+pub mod Results
+pub mod Entering
+pub mod Alone
+pub mod Routines
