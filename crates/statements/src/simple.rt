@@ -192,3 +192,24 @@ pub fn raise_again_at(
     let found = where_allowed(context.is_handling, StatementKind::RaiseAgain(label));
     typed(context.step, label.place, null_statement(label), found)
 }
+
+/// `exit when` at this place (RM 5.7).
+#[tactic(auto, using(crate::proofs::SimpleLaws::parts))]
+pub fn exit_when_at(
+    alloc: Global,
+    context: &Context<'_>,
+    walk: &mut Walk,
+    pos: Pos,
+    expr: &Expr,
+) -> Result<Statement, Failure<Refusal>>
+    ensures comes { ComesTo in_program context.now walk.old walk.new
+        (λ k env s. (rules.stated env s (text.exit pos (Some expr.now))).answer) result }
+    ensures continues { UnlessMemory (Continues walk.old walk.new) result }
+    ensures grown { OnOk result (Grows walk.old.symbols walk.new.symbols) }
+{
+    let label = walk.counts.statement(pos)?;
+    let site = context.place(&walk.symbols).site;
+    let decision = site.decision(alloc, &mut walk.notes.decisions, expr)?;
+    let found = where_allowed(context.is_looping, StatementKind::ExitWhen(label, decision));
+    typed(context.step, label.place, null_statement(label), found)
+}
