@@ -2,8 +2,11 @@
 use Rattle.std.proofs.Common.{◌≡◌, List, refl, sym, ap}
 use Rattle.cov_base.specs.declared.position.Pos.{Pos}
 use Rattle.ada_meaning.specs.Tree as tree
-use Rattle.ada_rules.specs.Plan.{Plan, answer_at}
+use Rattle.ada_syntax.specs.Tree.{Expr}
+use Rattle.ada_rules.specs.Plan.{Plan, ◌>>=◌, answer_at}
 use Rattle.ada_rules.specs.Environment.{State, Given, Env, statement_label, started, beginning_state}
+use Rattle.ada_rules.specs.Expressions.{decision}
+use Rattle.ada_rules.specs.Statements.{where_allowed, typed_stmt}
 use Rattle.ada_entities.specs.Answers.{no_memory}
 use Rattle.ada_entities.specs.EntityViews.{Tables}
 use Rattle.symbol_table.specs.declared.symbols.Symbols.{Symbols}
@@ -28,5 +31,12 @@ module _ (plan : tree.Label → Env → State → Plan Statements) (env : Env) (
   pub labelled : l ≡ statement_label s p → t ≡ started s
       → answer_at p (plan (statement_label s p) env (started s)).outcome ≡ answer_at l.place (plan l env t).outcome
   labelled e f = λ z. answer_at (sym e z).place (plan (sym e z) env (sym f z)).outcome
+
+-- `exit when` behind its label
+abbrev pub then_exit : tree.Label → Env → Given (tree.Label × tree.Test) → Plan Statements
+then_exit l env t = typed_stmt env l t.next (where_allowed env.is_looping (tree.exit_when l t.value.0 t.value.1))
+
+abbrev pub exiting : tree.Label → Env → State → Expr → Plan Statements
+exiting l env s e = decision env s e >>= then_exit l env
 
 pub ruleset parts = (no_memory, same_symbols)

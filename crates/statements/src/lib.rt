@@ -4,5 +4,6 @@
 mod simple;
 
 pub use simple::{
-    assignment_at, call_at, exit_at, null_at, raise_again_at, raise_at, return_at, return_value_at,
+    any_exit_at, any_raise_at, any_return_at, assignment_at, call_at, exit_at, exit_when_at,
+    null_at, raise_again_at, raise_at, return_at, return_value_at,
 };

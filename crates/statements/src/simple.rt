@@ -192,3 +192,84 @@ pub fn raise_again_at(
     let found = where_allowed(context.is_handling, StatementKind::RaiseAgain(label));
     typed(context.step, label.place, null_statement(label), found)
 }
+
+/// `exit when` at this place (RM 5.7).
+#[tactic(auto, using(crate::proofs::SimpleLaws::parts))]
+pub fn exit_when_at(
+    alloc: Global,
+    context: &Context<'_>,
+    walk: &mut Walk,
+    pos: Pos,
+    expr: &Expr,
+) -> Result<Statement, Failure<Refusal>>
+    ensures comes { ComesTo in_program context.now walk.old walk.new
+        (λ k env s. (rules.stated env s (text.exit pos (Some expr.now))).answer) result }
+    ensures continues { UnlessMemory (Continues walk.old walk.new) result }
+    ensures grown { OnOk result (Grows walk.old.symbols walk.new.symbols) }
+{
+    let label = walk.counts.statement(pos)?;
+    let site = context.place(&walk.symbols).site;
+    let decision = site.decision(alloc, &mut walk.notes.decisions, expr)?;
+    let found = where_allowed(context.is_looping, StatementKind::ExitWhen(label, decision));
+    typed(context.step, label.place, null_statement(label), found)
+}
+
+/// An exit statement at this place, with a condition or without one (RM 5.7).
+#[tactic(auto, using(crate::proofs::SimpleLaws::parts))]
+pub fn any_exit_at(
+    alloc: Global,
+    context: &Context<'_>,
+    walk: &mut Walk,
+    pos: Pos,
+    condition: &Option<Expr>,
+) -> Result<Statement, Failure<Refusal>>
+    ensures comes { ComesTo in_program context.now walk.old walk.new
+        (λ k env s. (rules.stated env s (text.exit pos condition.now)).answer) result }
+    ensures continues { UnlessMemory (Continues walk.old walk.new) result }
+    ensures grown { OnOk result (Grows walk.old.symbols walk.new.symbols) }
+{
+    match condition {
+        Some(expr) => exit_when_at(alloc, context, walk, pos, expr),
+        None => exit_at(context, walk, pos),
+    }
+}
+
+/// A return statement at this place, with a value or without one (RM 6.5).
+#[tactic(auto, using(crate::proofs::SimpleLaws::parts))]
+pub fn any_return_at(
+    alloc: Global,
+    context: &Context<'_>,
+    walk: &mut Walk,
+    pos: Pos,
+    value: &Option<Expr>,
+) -> Result<Statement, Failure<Refusal>>
+    ensures comes { ComesTo in_program context.now walk.old walk.new
+        (λ k env s. (rules.stated env s (text.returns pos value.now)).answer) result }
+    ensures continues { UnlessMemory (Continues walk.old walk.new) result }
+    ensures grown { OnOk result (Grows walk.old.symbols walk.new.symbols) }
+{
+    match value {
+        Some(expr) => return_value_at(alloc, context, walk, pos, expr),
+        None => return_at(context, walk, pos),
+    }
+}
+
+/// A raise statement at this place, with a name or without one (RM 11.3).
+#[tactic(auto, using(crate::proofs::SimpleLaws::parts))]
+pub fn any_raise_at(
+    alloc: Global,
+    context: &Context<'_>,
+    walk: &mut Walk,
+    pos: Pos,
+    exception: &Option<Name>,
+) -> Result<Statement, Failure<Refusal>>
+    ensures comes { ComesTo in_program context.now walk.old walk.new
+        (λ k env s. (rules.stated env s (text.raise pos exception.now)).answer) result }
+    ensures continues { UnlessMemory (Continues walk.old walk.new) result }
+    ensures grown { OnOk result (Grows walk.old.symbols walk.new.symbols) }
+{
+    match exception {
+        Some(name) => raise_at(alloc, context, walk, pos, name),
+        None => raise_again_at(context, walk, pos),
+    }
+}
