@@ -1,1 +1,2 @@
 pub mod SimpleLaws
+pub mod NestedLaws

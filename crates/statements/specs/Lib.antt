@@ -1,1 +1,4 @@
 pub mod Words
+pub mod Handling
+pub mod Loops
+pub mod Nested
