@@ -90,20 +90,20 @@ pub fn make_instance(
     note_made(&mut walk.notes.statics, made.generic, number)
 }
 
-/// Lets other units see a made instance as the unit with this number, and answers the number that it has
-/// in the table of types: that of the next instance there.
+/// Lets other units see a made instance, which has this number in the text, as the unit with that
+/// number. Instances are made in the order of dependence, each of them once.
 pub fn show_instance(
     alloc: Global,
     symbols: &mut Symbols,
     unit: u32,
+    number: u32,
     made: &Instantiated,
-) -> Result<u32, AllocError>
-    ensures number { IfOk result (λ j. j ≡ symbols.old.extent.instances) }
-    ensures shown { IfOk result (SeesInstance symbols.old symbols.new unit made.now) }
+) -> Result<(), AllocError>
+    ensures shown { OnOk result (SeesInstance symbols.old symbols.new unit made.now number) }
     ensures added { OnOk result (Continues symbols.old symbols.new) }
 {
     let types = given_types(alloc, made.actuals.as_slice())?;
-    let instance = symbols.add_instance(types)?;
-    symbols.set_unit(unit, Interface::Instance(made.generic, instance))?;
-    Ok(instance)
+    symbols.add_instance(number, types)?;
+    symbols.set_unit(unit, Interface::Instance(made.generic, number))?;
+    Ok(())
 }
