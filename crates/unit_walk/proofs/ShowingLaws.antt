@@ -13,7 +13,7 @@ use Rattle.unit_walk.specs.declared.instantiation.Instantiated.{Instantiated}
 use Rattle.unit_walk.specs.Instantiating.{SeesInstance}
 
 -- the table grows, and then the unit is seen: as one change
-shown_behind : (old middle new : Symbols) (n : ℕ) (g : Option ℕ) (j : ℕ) → Grows old middle
+pub shown_behind : (old middle new : Symbols) (n : ℕ) (g : Option ℕ) (j : ℕ) → Grows old middle
     → ShowsUnit middle new n (interface.Instance g j) → Becomes old new old.regions (set old.units n (interface.Instance g j))
 shown_behind old middle new n g j a b = record {
   known = λ h. b.known (a.known h);

@@ -1,7 +1,8 @@
 //! Instances of generics (Ada RM 2012, 12.3).
 
-ghost use Rattle.std.specs.Prelude.{◌≡◌, IfOk, OnOk};
-ghost use Rattle.symbol_table.specs.Changes.{Continues};
+ghost use Rattle.std.specs.Prelude.{IfOk, OnOk};
+ghost use Rattle.ada_entities.specs.declared.units.Interface.TheVariants as interface;
+ghost use Rattle.symbol_table.specs.Changes.{ShowsUnit};
 ghost use Rattle.static_parts.specs.Places.{ComesTo};
 ghost use Rattle.unit_walk.specs.Instantiating.{instantiated_of, instance_part, AreFormalsOf, NotesMade, Makes, KeepsSymbols, SeesInstance};
 
@@ -100,7 +101,7 @@ pub fn show_instance(
     made: &Instantiated,
 ) -> Result<(), AllocError>
     ensures shown { OnOk result (SeesInstance symbols.old symbols.new unit made.now number) }
-    ensures added { OnOk result (Continues symbols.old symbols.new) }
+    ensures added { OnOk result (ShowsUnit symbols.old symbols.new unit (interface.Instance made.now.generic number)) }
 {
     let types = given_types(alloc, made.actuals.as_slice())?;
     symbols.add_instance(number, types)?;
