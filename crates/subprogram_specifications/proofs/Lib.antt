@@ -6,3 +6,5 @@ pub mod SpecificationLaws
 pub mod AloneLaws
 pub mod RoutineLaws
 pub mod DeclaredLaws
+pub mod FormalLaws
+pub mod FormalWalks

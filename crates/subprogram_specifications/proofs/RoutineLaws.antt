@@ -15,6 +15,7 @@ use Rattle.ada_rules.specs.Subprograms.{place_among, body_number, routine_values
 use Rattle.ada_entities.specs.declared.entity.Entity.{Entity}
 use Rattle.ada_entities.specs.declared.entity.Completion.{Completion}
 use Rattle.ada_entities.specs.declared.entity.Values.{Values}
+use Rattle.ada_entities.specs.declared.routines.Routine.{Routine}
 use Rattle.ada_entities.specs.EntityViews.{Tables, values_of, no_routine, awaits_body, awaiting, routine_of, entity_of, region_of}
 use Rattle.ada_entities.specs.RegionCode.{innermost}
 use Rattle.ada_entities.specs.RoutineViews.{routine_in}
@@ -27,22 +28,24 @@ use Rattle.specifications.specs.Profiles.{parameters_of, results_of, profile_of}
 use Rattle.program_walk.specs.Walks.{HasLibrary}
 use Rattle.declarations.proofs.OwnerLaws.{owner_is}
 
-pub routine_is : (k : Tables) (env : Env) (region : Region) (generic : Option ℕ) (o : Owner) (name : List ℕ) (n body : ℕ) (w : Completion) (q : Profile) (v : Values)
+pub entered_is : (k : Tables) (n : ℕ) (w : Completion) (r : Routine) → slice_get k.routines n ≡ Some (routine_in k r)
+    → routine_of k (record { number = n; seen = owner.Here; completion = w }) ≡ awaiting (awaits_body w) (routine_in k r)
+entered_is k n w r found = ap (λ o. awaiting (awaits_body w) (unwrap_or o no_routine)) found
+
+pub routine_is : (k : Tables) (env : Env) (region : Region) (generic : Option ℕ) (o : Owner) (name : List ℕ) (body : ℕ) (w : Completion) (q : Profile) (v : Values)
     → env.generic ≡ generic → view.owner_of o ≡ (if is_some generic then here else of_instance 0)
-    → body_number env.world env.unit_name name ≡ Some body → values_of k v ≡ routine_values (results_of k here q.result)
-    → slice_get k.routines n
-    ≡ Some (routine_in k (record { callee = callee.Subprogram o body; parameters = q.parameters; result = q.result; values = v }))
-    → routine_of k (record { number = n; seen = owner.Here; completion = w }) ≡ rules.routine_of env name (awaits_body w) (profile_of k region q)
-routine_is k env region generic o name n body w q v g h b e found =
+    → unwrap_or (body_number env.world env.unit_name name) 0 ≡ body → values_of k v ≡ routine_values (results_of k here q.result)
+    → awaiting (awaits_body w) (routine_in k (record { callee = callee.Subprogram o body; parameters = q.parameters; result = q.result; values = v }))
+    ≡ rules.routine_of env name (awaits_body w) (profile_of k region q)
+routine_is k env region generic o name body w q v g h b e =
     let owned = owner_is env generic o g h in
-    ap (λ r. awaiting (awaits_body w) (unwrap_or r no_routine)) found
-    ∙ (λ z. record {
-      callee = tree.subprogram (owned z) (unwrap_or (sym b z) 0);
+    λ z. record {
+      callee = tree.subprogram (owned z) (sym b z);
       parameters = parameters_of k here q.parameters;
       result = results_of k here q.result;
       values = e z;
       awaits_body = awaits_body w;
-    })
+    }
 
 pub body_is : (x : Library) (unit : List ℕ) (env : Env) (i : Identifier) (n : Option ℕ) → HasLibrary x env.world → env.unit_name ≡ unit
     → (name : List ℕ) → name ≡ key i → IsBodyNumber x unit name n → n ≡ body_number env.world env.unit_name (key i)

@@ -4,3 +4,4 @@ pub mod Results
 pub mod Entering
 pub mod Alone
 pub mod Routines
+pub mod Formals

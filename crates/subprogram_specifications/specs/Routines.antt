@@ -1,5 +1,5 @@
 -- Subprograms that are declared, as the walk goes on.
-use Rattle.std.specs.Prelude.{◌≡◌, ℕ, Option, Some, Result}
+use Rattle.std.specs.Prelude.{◌≡◌, ℕ, Option, unwrap_or, Result}
 use Rattle.cov_base.specs.declared.position.Pos.{Pos}
 use Rattle.cov_base.specs.declared.failure.Failure.{Failure}
 use Rattle.ada_syntax.specs.declared.name.Identifier.{Identifier}
@@ -8,8 +8,10 @@ use Rattle.ada_rules.specs.Environment.{State, Given, Env}
 use Rattle.ada_rules.specs.Subprograms.{body_number, routine_of}
 use Rattle.ada_entities.specs.declared.entity.Completion.{Completion}
 use Rattle.ada_entities.specs.declared.fault.Refusal.{Refusal}
-use Rattle.ada_entities.specs.EntityViews.{Tables, awaits_body, region_of}
+use Rattle.ada_entities.specs.declared.routines.Routine.{Routine}
+use Rattle.ada_entities.specs.EntityViews.{Tables, awaits_body, awaiting, region_of}
 use Rattle.ada_entities.specs.RegionCode.{innermost}
+use Rattle.ada_entities.specs.RoutineViews.{routine_in}
 use Rattle.symbol_table.specs.declared.symbols.Symbols.{Symbols}
 use Rattle.symbol_table.specs.SymbolViews as symbols
 use Rattle.specifications.specs.declared.conformance.Profile.{Profile}
@@ -19,12 +21,20 @@ use Rattle.program_walk.specs.declared.walk.Walk.{Walk}
 use Rattle.program_walk.specs.Walks.{HasLibrary, ComesTo}
 use Rattle.declarations.specs.Going.{region_in}
 
--- a name denotes the subprogram with this profile, wherever its parameters were declared
+-- a name denotes this subprogram
+abbrev pub EntersRoutine : (old new : Symbols) → Identifier → Routine → Completion → Type 0
+EntersRoutine old new i r completion =
+    (k : Tables) → symbols.Begins new k
+    → region_of k (innermost new.regions)
+    ≡ redefined (key i) (routine (awaiting (awaits_body completion) (routine_in k r))) (region_of k (innermost old.regions))
+
+-- a name denotes the subprogram with this profile, wherever its parameters were declared; one whose body is none of the
+-- unit's has the number 0
 abbrev pub AddsRoutine : (old new : Symbols) → (generic : Option ℕ) → Identifier → Profile → (body : ℕ) → Completion
     → Type 0
 AddsRoutine old new generic i q body completion =
     (k : Tables) (env : Env) (region : Region) → symbols.Begins new k → env.generic ≡ generic
-    → body_number env.world env.unit_name (key i) ≡ Some body
+    → unwrap_or (body_number env.world env.unit_name (key i)) 0 ≡ body
     → region_of k (innermost new.regions)
     ≡ redefined (key i) (routine (routine_of env (key i) (awaits_body completion) (profile_of k region q)))
     (region_of k (innermost old.regions))

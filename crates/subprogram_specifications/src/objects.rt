@@ -71,7 +71,7 @@ pub(crate) fn tree_subtype(symbols: &Symbols, subtype: Subtype) -> Result<TreeSu
 }
 
 /// The number behind this one.
-fn next(number: u32) -> Result<u32, AllocError>
+pub(crate) fn next(number: u32) -> Result<u32, AllocError>
     ensures { IfOk result (λ n. n ≡ number + 1) }
 {
     number.checked_add(1).ok_or(AllocError)

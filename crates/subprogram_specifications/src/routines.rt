@@ -8,7 +8,7 @@ ghost use Rattle.ada_entities.specs.EntityViews.{Tables, values_of};
 ghost use Rattle.symbol_table.specs.Changes.{IsOpen, ChangesInside};
 ghost use Rattle.specifications.specs.Profiles.{results_of};
 ghost use Rattle.declarations.specs.Going.{GoesOn, IsWalkOpen};
-ghost use Rattle.subprogram_specifications.specs.Routines.{AddsRoutine, IsBodyIn, ComesToRegion};
+ghost use Rattle.subprogram_specifications.specs.Routines.{EntersRoutine, AddsRoutine, IsBodyIn, ComesToRegion};
 
 use crate::alone::profile_alone;
 use ada_entities::{
@@ -23,7 +23,7 @@ use std::alloc::{AllocError, Global};
 use symbol_table::Symbols;
 
 /// Who owns what is declared in the text of a generic, or in none.
-fn owner(generic: Option<u32>) -> Owner
+pub(crate) fn owner(generic: Option<u32>) -> Owner
     ensures { owner_of result ≡ (if is_some generic then here else of_instance 0) }
 {
     match generic {
@@ -42,6 +42,28 @@ fn values(mark: Option<ResultMark>) -> Values
     }
 }
 
+/// Adds a subprogram, and lets a name of the innermost region denote it. One whose numbers lead nowhere
+/// has no memory.
+pub(crate) fn enter_routine(
+    alloc: Global,
+    symbols: &mut Symbols,
+    name: &Identifier,
+    routine: Routine,
+    completion: Completion,
+) -> Result<(), AllocError>
+    ensures entered { OnOk result (EntersRoutine symbols.old symbols.new name.now routine completion) }
+    ensures inside { OnOk result (IsOpen symbols.old → ChangesInside symbols.old symbols.new) }
+{
+    let number = symbols.add_routine(routine)?;
+    let entered = RoutineName {
+        number,
+        seen: Owner::Here,
+        completion,
+    };
+    symbols.redefine(alloc, name, Entity::Routine(entered))?;
+    Ok(())
+}
+
 /// Adds a subprogram, which is declared in the text of a generic or in none and whose body has this
 /// number, and lets a name of the innermost region denote it. One whose numbers lead nowhere has no
 /// memory.
@@ -58,19 +80,13 @@ pub fn add_routine(
     ensures inside { OnOk result (IsOpen symbols.old → ChangesInside symbols.old symbols.new) }
 {
     let Profile { parameters, result } = profile;
-    let number = symbols.add_routine(Routine {
+    let routine = Routine {
         callee: Callee::Subprogram(owner(generic), body),
         parameters,
         result,
         values: values(result),
-    })?;
-    let routine = RoutineName {
-        number,
-        seen: Owner::Here,
-        completion,
     };
-    symbols.redefine(alloc, name, Entity::Routine(routine))?;
-    Ok(())
+    enter_routine(alloc, symbols, name, routine, completion)
 }
 
 /// The number of the body of a subprogram of the unit, by its name; none where there is no such body.

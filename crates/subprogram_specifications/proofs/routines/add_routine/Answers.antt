@@ -1,20 +1,16 @@
-use Rattle.std.proofs.Common.{ap}
-use Rattle.ada_tree.specs.declared.types.Owner.TheVariants as owner
-use Rattle.ada_rules.specs.Entities.{key, routine}
-use Rattle.ada_entities.specs.declared.entity.Entity.TheVariants as entity
-use Rattle.symbol_table.proofs.HideLaws.{then_inside}
-use Rattle.declarations.proofs.InsideLaws.{grows_inside}
-use Rattle.subprogram_specifications.proofs.RoutineLaws.{routine_is, redefined_behind}
+use Rattle.std.proofs.Common.{ap, ◌∙◌}
+use Rattle.std.proofs.lemmas.Result.{on_ok_weaker}
+use Rattle.ada_rules.specs.Entities.{key, routine, redefined}
+use Rattle.ada_entities.specs.EntityViews.{region_of}
+use Rattle.ada_entities.specs.RegionCode.{innermost}
+use Rattle.subprogram_specifications.proofs.RoutineLaws.{routine_is}
 use Rattle.subprogram_specifications.proofs.routines.add_routine.Goals as goal
 
 pub returns-clause-added : goal.returns-clause-added
-returns-clause-added c k env region b generic body =
-    redefined_behind k c.args.symbols.now c.add_routine.new.self c.redefine.new.self c.args.name.now
-    (entity.Routine (record { number = c.in_ok-number.number; seen = owner.Here; completion = c.args.completion })) _ c.in_ok-number.ensures.added
-    c.in_ok-redefine.ensures.redefined
-    (ap routine (routine_is k env region c.args.generic c.owner.result (key c.args.name.now) c.in_ok-number.number c.args.body c.args.completion c.args.profile
-    c.values.result generic c.owner.ensures body (c.values.ensures k) (c.in_ok-number.ensures.number k (c.in_ok-redefine.ensures.inside.begins k b))))
-
-pub returns-clause-inside : goal.returns-clause-inside
-returns-clause-inside c open_now =
-    then_inside _ _ _ (grows_inside _ _ open_now c.in_ok-number.ensures.added) c.in_ok-redefine.ensures.inside
+returns-clause-added c =
+    on_ok_weaker c.enter_routine.result (λ entered k env region b generic body.
+    entered k b
+    ∙ ap (λ r. redefined (key c.args.name.now) (routine r) (region_of k (innermost c.args.symbols.now.regions)))
+    (routine_is k env region c.args.generic c.owner.result (key c.args.name.now) c.args.body c.args.completion c.args.profile c.values.result generic c.owner.ensures body
+    (c.values.ensures k)))
+    c.enter_routine.ensures.entered

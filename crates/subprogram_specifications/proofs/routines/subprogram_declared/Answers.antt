@@ -1,4 +1,4 @@
-use Rattle.std.proofs.Common.{Ok, refl, sym, ap, ◌∙◌, true}
+use Rattle.std.proofs.Common.{unwrap_or, Ok, refl, sym, ap, ◌∙◌, true}
 use Rattle.std.proofs.lemmas.Result.{err_from_is_err_and}
 use Rattle.ada_rules.specs.Entities.{key, routine, redefined}
 use Rattle.ada_rules.specs.Environment.{given}
@@ -78,7 +78,7 @@ returns-clause-comes c k env h b =
     let stands = stands_behind c.args.context.now w k env h s g (inside_continues first second kept k behind) in
     let has = c.in_ok-profile.ensures.comes k _ stands behind in
     let body = sym (c.in_ok-body.ensures env h.library h.unit_name) ∙ c.in-Some.is in
-    let region = c.in_ok-add_routine.ensures.added k env has.region b.symbols h.generic body
+    let region = c.in_ok-add_routine.ensures.added k env has.region b.symbols h.generic (ap (λ o. unwrap_or o 0) body)
     ∙ ap (λ rs. redefined (key x.name) (routine (routine_of env (key x.name) true (profile_of k has.region c.in_ok-profile.profile))) (region_of k (innermost rs)))
     c.in_ok-profile.ensures.keeps.symbols.regions in
     declared_passes env (state_of k w) x (region_of k (innermost s.regions))
