@@ -15,7 +15,7 @@ mod results;
 mod routines;
 mod specification;
 
-pub use formals::formals_declared;
 pub use alone::profile_alone;
+pub use formals::formals_declared;
 pub use routines::{add_routine, body_number, new_routine, subprogram_declared};
 pub use specification::specified;

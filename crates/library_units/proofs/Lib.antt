@@ -1,0 +1,3 @@
+pub mod BetweenLaws
+pub mod InstanceLaws
+pub mod SubprogramLaws

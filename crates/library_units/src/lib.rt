@@ -1,0 +1,10 @@
+//! What other units see of library units (Ada RM 2012, 7.1, 10.1.1, 12.3), as the rules say it.
+#![tactic(auto)]
+
+mod instances;
+mod place;
+mod subprograms;
+
+pub use instances::instance_shown;
+pub use place::UnitPlace;
+pub use subprograms::subprogram_shown;
