@@ -16,5 +16,6 @@ mod routines;
 mod specification;
 
 pub use formals::formals_declared;
+pub use objects::{number_behind, tree_subtype};
 pub use routines::{add_routine, body_number, subprogram_declared};
 pub use specification::specified;
