@@ -14,7 +14,7 @@ use Rattle.ada_entities.specs.declared.composite.Component.{Component}
 use Rattle.ada_entities.specs.declared.composite.Definition.{Definition}
 use Rattle.ada_entities.specs.declared.types.ScalarType.{ScalarType}
 use Rattle.ada_entities.specs.declared.types.Subtype.{Subtype}
-use Rattle.ada_entities.specs.Views.{Shape, array_shape, record_shape, shaped, shape_at, actuals_of, type_by, subtype_of, TypeTables}
+use Rattle.ada_entities.specs.Views.{Shape, array_shape, record_shape, shaped, shape_at, is_made, actuals_of, type_by, subtype_of, TypeTables}
 use Rattle.ada_entities.specs.Tables.{fields_of, shape_of, tables_with, shapes_behind, instances_of, tables_of, array_parts, parts_of, field_in, shape_from, shape_parts, shape_fields, seen_parts, seen_field, is_earlier, are_earlier}
 use Rattle.ada_entities.proofs.Agreement.{shape_agrees, more_shapes}
 
@@ -23,7 +23,7 @@ append_nothing : {A : Type 0} (xs : List A) → xs ≡ xs ++ []
 append_nothing [] = refl
 append_nothing (x ∷ xs) = ap (λ ys. x ∷ ys) (append_nothing xs)
 
-shapes_all : (actuals : List (List Actual)) (ss : List Shape) (ds : List Definition) (m n : ℕ) → n ≡ length ss → are_earlier m n ds ≡ true
+shapes_all : (actuals : List (Option (List Actual))) (ss : List Shape) (ds : List Definition) (m : ℕ → Bool) (n : ℕ) → n ≡ length ss → are_earlier m n ds ≡ true
     → (whole : List Shape) → whole ≡ shapes_behind actuals ss ds → whole ≡ ss ++ map (shape_of (tables_with actuals whole)) ds
 shapes_all actuals ss [] m n e h whole is = is ∙ append_nothing ss
 shapes_all actuals ss (d ∷ ds) m n e h whole is =
@@ -44,11 +44,11 @@ copied_get xs n None a b = sym (slice_get_past xs n b)
 copied_get xs n (Some x) a b = ap (λ y. Some y) a ∙ sym (slice_get-get_or xs n x.now b.0)
 
 -- what stands at a place of the table, where there may be nothing
-pub shape_found : (given : List (List (Option ScalarType))) (ds : List Definition) → are_earlier (length given) 0 ds ≡ true
+pub shape_found : (given : List (Option (List (Option ScalarType)))) (ds : List Definition) → are_earlier (is_made given) 0 ds ≡ true
     → (n : ℕ) (o : Option (Bor Definition)) → option_copied o ≡ slice_get ds n → shape_at (tables_of given ds) n ≡ shape_from (tables_of given ds) o
 shape_found given ds h n o e =
     let k = tables_of given ds in
-    let all = shapes_all (instances_of given) [] ds (length given) 0 refl h k.shapes refl in
+    let all = shapes_all (instances_of given) [] ds (is_made given) 0 refl h k.shapes refl in
     ap (λ xs. unwrap_or (slice_get xs n) (record_shape no_field)) all
     ∙ (ap (λ x. unwrap_or x (record_shape no_field)) (slice_get-map (shape_of k) ds n)
     ∙ (ap (λ x. unwrap_or (option_map (shape_of k) x) (record_shape no_field)) (sym e) ∙ copied k o)) where

@@ -1,5 +1,5 @@
 -- The table of composite types: each is built of those before it.
-use Rattle.std.specs.Prelude.{◌≡◌, ℕ, ◌+◌, Bool, true, ◌&&◌, List, [], ◌∷◌, ◌++◌, map, length, Option, Some, None, option_map}
+use Rattle.std.specs.Prelude.{◌≡◌, ℕ, ◌+◌, Bool, true, false, ◌&&◌, List, [], ◌∷◌, ◌++◌, map, replicate, set, Option, Some, None, option_map}
 use Rattle.std.specs.Borrow.{Bor}
 use Rattle.std.specs.List.{list_all}
 use Rattle.ada_meaning.specs.Types.{Owner}
@@ -11,7 +11,7 @@ use Rattle.ada_entities.specs.declared.types.Subtype.{Subtype}
 use Rattle.ada_entities.specs.declared.composite.Component.{Component}
 use Rattle.ada_entities.specs.declared.composite.Definition.{Definition}
 use Rattle.ada_entities.specs.declared.composite.Definition.TheVariants as definition
-use Rattle.ada_entities.specs.Views.{Shape, array_shape, record_shape, TypeTables, subtype_of, subtype_by, given_of, is_known}
+use Rattle.ada_entities.specs.Views.{Shape, array_shape, record_shape, TypeTables, is_made, subtype_of, subtype_by, given_of, is_known}
 
 abbrev pub fields_of : TypeTables → List Component → Fields
 fields_of k [] = no_field
@@ -21,38 +21,38 @@ abbrev pub shape_of : TypeTables → Definition → Shape
 shape_of k (definition.Array x c) = array_shape (subtype_of k x) (subtype_of k c)
 shape_of k (definition.Record cs) = record_shape (fields_of k cs)
 
-abbrev pub tables_with : List (List Actual) → List Shape → TypeTables
+abbrev pub tables_with : List (Option (List Actual)) → List Shape → TypeTables
 tables_with instances shapes = record { shapes = shapes; instances = instances }
 
 -- composite types behind others, each built of those before it
-abbrev pub shapes_behind : List (List Actual) → List Shape → List Definition → List Shape
+abbrev pub shapes_behind : List (Option (List Actual)) → List Shape → List Definition → List Shape
 shapes_behind instances shapes [] = shapes
 shapes_behind instances shapes (d ∷ ds) =
     shapes_behind instances (shapes ++ shape_of (tables_with instances shapes) d ∷ []) ds
 
-abbrev pub instances_of : List (List (Option ScalarType)) → List (List Actual)
-instances_of given = map (map given_of) given
+abbrev pub instances_of : List (Option (List (Option ScalarType))) → List (Option (List Actual))
+instances_of given = map (option_map (map given_of)) given
 
-abbrev pub tables_of : List (List (Option ScalarType)) → List Definition → TypeTables
+abbrev pub tables_of : List (Option (List (Option ScalarType))) → List Definition → TypeTables
 tables_of given ds = tables_with (instances_of given) (shapes_behind (instances_of given) [] ds)
 
--- whether a definition leads only to this many types and instances
-abbrev pub are_known : (types instances : ℕ) → List Component → Bool
-are_known n m cs = list_all (λ c. is_known n m c.subtype.of) cs
+-- whether a definition leads only to this many types, and to instances that were made
+abbrev pub are_known : (types : ℕ) (made : ℕ → Bool) → List Component → Bool
+are_known n made cs = list_all (λ c. is_known n made c.subtype.of) cs
 
-abbrev pub is_earlier : (instances types : ℕ) → Definition → Bool
-is_earlier m n (definition.Array x c) = is_known n m x.of && is_known n m c.of
-is_earlier m n (definition.Record cs) = are_known n m cs
+abbrev pub is_earlier : (made : ℕ → Bool) (types : ℕ) → Definition → Bool
+is_earlier made n (definition.Array x c) = is_known n made x.of && is_known n made c.of
+is_earlier made n (definition.Record cs) = are_known n made cs
 
-abbrev pub are_earlier : (instances types : ℕ) → List Definition → Bool
-are_earlier m n [] = true
-are_earlier m n (d ∷ ds) = is_earlier m n d && are_earlier m (n + 1) ds
+abbrev pub are_earlier : (made : ℕ → Bool) (types : ℕ) → List Definition → Bool
+are_earlier made n [] = true
+are_earlier made n (d ∷ ds) = is_earlier made n d && are_earlier made (n + 1) ds
 
 -- the definitions that a table holds, each built of types that stand before it
 pub record AreDefinitions (k : TypeTables) (ds : List Definition) : Type 0 where
-  pub given : List (List (Option ScalarType))
+  pub given : List (Option (List (Option ScalarType)))
   pub are : k ≡ tables_of given ds
-  pub earlier : are_earlier (length given) 0 ds ≡ true
+  pub earlier : are_earlier (is_made given) 0 ds ≡ true
 
 -- the subtypes of the index and of the components of an array (RM 3.6)
 abbrev pub array_parts : AdaType → Option (AdaSubtype × AdaSubtype)
@@ -70,15 +70,22 @@ field_in name t = None
 abbrev pub field_of : TypeTables → ℕ × Subtype → ℕ × AdaSubtype
 field_of k f = (f.0, subtype_of k f.1)
 
--- without types, and with instance 0 alone
-abbrev pub no_tables : TypeTables
-no_tables = tables_with ([] ∷ []) []
+-- without types, and with instance 0 alone, where there is place for so many others
+abbrev pub no_tables : ℕ → TypeTables
+no_tables n = tables_with (Some [] ∷ replicate n None) []
 
 abbrev pub with_shape : TypeTables → Shape → TypeTables
 with_shape k s = record k { shapes = k.shapes ++ s ∷ [] }
 
-abbrev pub with_instance : TypeTables → List Actual → TypeTables
-with_instance k actuals = record k { instances = k.instances ++ actuals ∷ [] }
+-- whether there is a place at which none was made
+abbrev pub is_vacant : {A : Type 0} → Option (Option A) → Bool
+is_vacant None = false
+is_vacant (Some None) = true
+is_vacant (Some (Some x)) = false
+
+-- one more instance
+abbrev pub with_instance : TypeTables → ℕ → List Actual → TypeTables
+with_instance k n actuals = record k { instances = set k.instances n (Some actuals) }
 
 -- where there may be no definition: then there is a record without components
 abbrev pub shape_from : TypeTables → Option (Bor Definition) → Shape

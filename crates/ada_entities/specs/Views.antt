@@ -1,5 +1,5 @@
 -- What the values of the checker's tables are of the rules' definitions.
-use Rattle.std.specs.Prelude.{ℕ, nat_lt, pos, Bool, true, false, ◌&&◌, List, [], Option, Some, None, slice_get, unwrap_or}
+use Rattle.std.specs.Prelude.{ℕ, nat_lt, pos, Bool, true, false, ◌&&◌, List, [], Option, Some, None, is_some, slice_get, unwrap_or}
 use Rattle.ada_meaning.specs.Types.{Owner, here, of_instance, static_number, Range, range_of}
 use Rattle.ada_tree.specs.View.{owner_of, scalar_range_of}
 use Rattle.ada_rules.specs.Types as rules
@@ -26,14 +26,21 @@ abbrev pub shaped : rules.Identity → Shape → AdaType
 shaped i (array_shape x c) = rules.array_type i x c
 shaped i (record_shape fs) = rules.record_type i fs
 
--- What numbers lead to: those of composite types, and those of instances, of which this is what they have for formals.
--- Instances are numbered from 1; 0 has nothing.
+-- What numbers lead to: those of composite types, and those of instances, of which this is what they have for formals
+-- once they were made. Instances are numbered from 1, in the order of the text; 0 has nothing.
 pub record TypeTables : Type 0 where
   pub shapes : List Shape
-  pub instances : List (List Actual)
+  pub instances : List (Option (List Actual))
+
+-- what an instance was made with, where it was made
+abbrev pub made_at : {A : Type 0} → List (Option A) → ℕ → Option A
+made_at xs i = unwrap_or (slice_get xs i) None
+
+abbrev pub is_made : {A : Type 0} → List (Option A) → ℕ → Bool
+is_made xs i = is_some (made_at xs i)
 
 abbrev pub actuals_of : TypeTables → ℕ → List Actual
-actuals_of k i = unwrap_or (slice_get k.instances i) []
+actuals_of k i = unwrap_or (made_at k.instances i) []
 
 abbrev pub shape_at : TypeTables → ℕ → Shape
 shape_at k n = unwrap_or (slice_get k.shapes n) (record_shape no_field)
@@ -89,11 +96,11 @@ abbrev pub given_of : Option ScalarType → Actual
 given_of None = object_actual (static_number (pos 0))
 given_of (Some t) = type_actual (of_type (scalar_type_of t) base)
 
--- whether a type leads only to composite types and instances that are there, where there are so many
-abbrev pub is_known_owner : (instances : ℕ) → Owner → Bool
-is_known_owner m here = true
-is_known_owner m (of_instance i) = nat_lt i m
+-- whether a type leads only to composite types that are there, where there are so many, and to instances that were made
+abbrev pub is_known_owner : (made : ℕ → Bool) → Owner → Bool
+is_known_owner made here = true
+is_known_owner made (of_instance i) = made i
 
-abbrev pub is_known : (types instances : ℕ) → CodeType → Bool
-is_known n m (code.Scalar t) = true
-is_known n m (code.Composite c) = nat_lt c.number n && is_known_owner m (owner_of c.seen)
+abbrev pub is_known : (types : ℕ) (made : ℕ → Bool) → CodeType → Bool
+is_known n made (code.Scalar t) = true
+is_known n made (code.Composite c) = nat_lt c.number n && is_known_owner made (owner_of c.seen)

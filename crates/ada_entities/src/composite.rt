@@ -1,6 +1,7 @@
 //! Composite types, and the table that they stand in (Ada RM 2012, 3.6, 3.8).
 
-ghost use Rattle.std.specs.Prelude.{length, IsTrue};
+ghost use Rattle.std.specs.Prelude.{IsTrue};
+ghost use Rattle.ada_entities.specs.Views.{is_made};
 ghost use Rattle.ada_entities.specs.Tables.{are_earlier};
 
 use crate::types::{ScalarType, Subtype};
@@ -23,11 +24,12 @@ pub enum Definition {
 }
 
 /// The composite types of a compilation, each built of those before it; and, by the number of each
-/// instance, what it has for the formal types of its generic, at the places of the formals. Instance 0
+/// instance that was made, what it has for the formal types of its generic, at the places of the
+/// formals. Instances have the numbers of the text, and are made in the order of dependence; instance 0
 /// is all that is in no generic.
 #[derive(Drop)]
 pub struct Types {
     pub(crate) definitions: Vec<Definition>,
-    pub(crate) instances: Vec<Seq<Option<ScalarType>>>,
-    ghost earlier: { IsTrue (are_earlier (length instances.items) 0 definitions.items) },
+    pub(crate) instances: Vec<Option<Seq<Option<ScalarType>>>>,
+    ghost earlier: { IsTrue (are_earlier (is_made instances.items) 0 definitions.items) },
 }

@@ -1,13 +1,13 @@
 //! The table of composite types, and what instances have for formal types (Ada RM 2012, 3.6, 3.8,
 //! 12.3).
 
-ghost use Rattle.std.specs.Prelude.{◌≡◌, length, map, option_map, slice_get, OnOk, IfOk};
+ghost use Rattle.std.specs.Prelude.{◌≡◌, length, map, None, Some, option_map, slice_get, OnOk, IfOk};
 ghost use Rattle.ada_meaning.specs.Types.{of_instance};
 ghost use Rattle.ada_tree.specs.View.{owner_of};
 ghost use Rattle.ada_rules.specs.Entities.{given_type};
 ghost use Rattle.ada_rules.specs.Denoted.{field_among};
-ghost use Rattle.ada_entities.specs.Views.{TypeTables, actuals_of, shape_at, given_of, is_known, is_known_owner, scalar_type_of, type_of, type_by, subtype_of, subtype_by};
-ghost use Rattle.ada_entities.specs.Tables.{shape_of, are_known, is_earlier, no_tables, with_shape, with_instance, fields_of, array_parts, parts_of, field_in, field_of, shape_from, shape_parts, shape_fields, AreDefinitions, AreSeenParts, IsSeenField};
+ghost use Rattle.ada_entities.specs.Views.{TypeTables, actuals_of, shape_at, given_of, is_made, is_known, is_known_owner, scalar_type_of, type_of, type_by, subtype_of, subtype_by};
+ghost use Rattle.ada_entities.specs.Tables.{shape_of, are_known, is_earlier, is_vacant, no_tables, with_shape, with_instance, fields_of, array_parts, parts_of, field_in, field_of, shape_from, shape_parts, shape_fields, AreDefinitions, AreSeenParts, IsSeenField};
 ghost use Rattle.ada_entities.specs.TypeTable.{tables};
 
 use crate::composite::{Component, Definition, Types};
@@ -27,19 +27,39 @@ pub(crate) fn numbered(count: usize) -> Result<u32, AllocError>
     }
 }
 
-/// Whether an instance is one of so many.
-fn is_known_owner(owner: Owner, instances: usize) -> bool
-    ensures { result ≡ is_known_owner instances (owner_of owner) }
+/// Whether an instance was made.
+fn is_made(instances: &[Option<Seq<Option<ScalarType>>>], instance: u32) -> bool
+    ensures { result ≡ is_made instances.now instance }
 {
-    match owner {
-        Owner::Here => true,
-        Owner::Instance(instance) => (instance as usize) < instances,
+    match instances.get(instance as usize) {
+        Some(made) => made.is_some(),
+        None => false,
     }
 }
 
-/// Whether a type leads only to so many types and instances.
-fn is_known(types: usize, instances: usize, of: AdaType) -> bool
-    ensures { result ≡ is_known types instances of }
+/// Whether an instance has a place, and was not made.
+fn is_vacant(instances: &[Option<Seq<Option<ScalarType>>>], instance: u32) -> bool
+    ensures { result ≡ is_vacant (slice_get instances.now instance) }
+{
+    match instances.get(instance as usize) {
+        Some(made) => made.is_none(),
+        None => false,
+    }
+}
+
+/// Whether an owner is an instance that was made, or none.
+fn is_known_owner(owner: Owner, instances: &[Option<Seq<Option<ScalarType>>>]) -> bool
+    ensures { result ≡ is_known_owner (is_made instances.now) (owner_of owner) }
+{
+    match owner {
+        Owner::Here => true,
+        Owner::Instance(instance) => is_made(instances, instance),
+    }
+}
+
+/// Whether a type leads only to so many types, and to instances that were made.
+fn is_known(types: usize, instances: &[Option<Seq<Option<ScalarType>>>], of: AdaType) -> bool
+    ensures { result ≡ is_known types (is_made instances.now) of }
 {
     match of {
         AdaType::Scalar(_) => true,
@@ -49,16 +69,24 @@ fn is_known(types: usize, instances: usize, of: AdaType) -> bool
     }
 }
 
-/// Whether all components lead only to so many types and instances.
-fn are_known(types: usize, instances: usize, components: &[Component]) -> bool
-    ensures { result ≡ are_known types instances components.now }
+/// Whether all components lead only to so many types, and to instances that were made.
+fn are_known(
+    types: usize,
+    instances: &[Option<Seq<Option<ScalarType>>>],
+    components: &[Component],
+) -> bool
+    ensures { result ≡ are_known types (is_made instances.now) components.now }
 {
     components.iter().all(|component| is_known(types, instances, component.subtype.of))
 }
 
-/// Whether a definition leads only to so many types and instances.
-fn is_earlier(types: usize, instances: usize, definition: &Definition) -> bool
-    ensures { result ≡ is_earlier instances types definition.now }
+/// Whether a definition leads only to so many types, and to instances that were made.
+fn is_earlier(
+    types: usize,
+    instances: &[Option<Seq<Option<ScalarType>>>],
+    definition: &Definition,
+) -> bool
+    ensures { result ≡ is_earlier (is_made instances.now) types definition.now }
 {
     match definition {
         Definition::Array(index, component) => {
@@ -69,12 +97,15 @@ fn is_earlier(types: usize, instances: usize, definition: &Definition) -> bool
 }
 
 impl Types {
-    /// No types, and no instance but number 0.
-    pub fn new(alloc: Global) -> Result<Types, AllocError>
-        ensures { IfOk result (λ t. tables t ≡ no_tables) }
+    /// No types, and no instance but number 0, with places for so many others.
+    pub fn new(alloc: Global, others: usize) -> Result<Types, AllocError>
+        ensures { IfOk result (λ t. tables t ≡ no_tables others) }
     {
         let mut instances = Vec::new(alloc);
-        instances.push(Seq::from(Vec::new(alloc)))?;
+        instances.push(Some(Seq::from(Vec::new(alloc))))?;
+        for _ in 0..others {
+            instances.push(None)?;
+        }
         Ok(Types {
             definitions: Vec::new(alloc),
             instances,
@@ -89,18 +120,30 @@ impl Types {
     {
         let types = self.definitions.as_slice().len();
         let number = numbered(types)?;
-        if !is_earlier(types, self.instances.as_slice().len(), &definition) {
+        if !is_earlier(types, self.instances.as_slice(), &definition) {
             return Err(AllocError);
         }
         self.definitions.push(definition)?;
         Ok(number)
     }
 
-    /// Adds an instance, by what it has for the formal types; it has the next number.
-    pub fn add_instance(&mut self, given: Seq<Option<ScalarType>>) -> Result<(), AllocError>
-        ensures { OnOk result (tables self.new ≡ with_instance (tables self.old) (map given_of given)) }
+    /// Makes the instance with this number, by what it has for the formal types. One that was made, or has
+    /// no place, has no memory either.
+    pub fn add_instance(
+        &mut self,
+        number: u32,
+        given: Seq<Option<ScalarType>>,
+    ) -> Result<(), AllocError>
+        ensures vacant { OnOk result (slice_get (tables self.old).instances number ≡ Some None) }
+        ensures made { OnOk result (tables self.new ≡ with_instance (tables self.old) number (map given_of given)) }
     {
-        self.instances.push(given)?;
+        if !is_vacant(self.instances.as_slice(), number) {
+            return Err(AllocError);
+        }
+        let Some(place) = self.instances.get_mut(number as usize) else {
+            return Err(AllocError);
+        };
+        *place = Some(given);
         Ok(())
     }
 }
@@ -138,8 +181,8 @@ impl Types {
         ensures { scalar_type_of result ≡ given_type (slice_get (actuals_of (tables self.now) instance) place) }
     {
         match self.instances.get(instance as usize) {
-            Some(given) => given_at(given.as_slice(), place),
-            None => ScalarType::given(None),
+            Some(Some(given)) => given_at(given.as_slice(), place),
+            _ => ScalarType::given(None),
         }
     }
 

@@ -24,7 +24,7 @@ pub use expr::{
     BinaryOperator, Expr, ExprKind, LogicalOperator, Operand, RelationalOperator, UnaryOperator,
 };
 pub use name::{Identifier, Name, Suffix};
-pub use nodes::{item_node_count, node_count};
+pub use nodes::{body_node_count, item_node_count, node_count};
 pub use statement::{
     Alternative, Branch, Choice, Direction, ExceptionChoice, HandledStatements, Handler,
     LoopScheme, Statement, StatementKind,

@@ -9,7 +9,7 @@ mod expressions;
 mod statements;
 mod units;
 
-pub use units::{item_node_count, node_count};
+pub use units::{body_node_count, item_node_count, node_count};
 
 /// A part of a unit that has nodes.
 trait Nodes {

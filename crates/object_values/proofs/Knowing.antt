@@ -8,7 +8,7 @@ use Rattle.ada_entities.specs.Views.{is_known_owner}
 use Rattle.ada_entities.specs.EntityViews.{Tables}
 use Rattle.ada_entities.specs.TypeTable.{tables}
 use Rattle.symbol_table.specs.declared.symbols.Symbols.{Symbols}
-use Rattle.symbol_table.specs.Known.{knows_type}
+use Rattle.symbol_table.specs.Known.{knows_instance, knows_type}
 use Rattle.symbol_table.specs.SymbolViews.{Begins, IsKnown}
 use Rattle.type_trees.specs.Trees.{IsThere}
 
@@ -17,7 +17,7 @@ pub known_there : (symbols : Symbols) → IsKnown symbols → (k : Tables) → B
 known_there symbols is k b (type.Scalar t) h = tt
 known_there symbols is k b (type.Composite c) h =
     let e = symbols.extent in
-    let below : c.number < e.types = ltb-true c.number e.types (and_parts (nat_lt c.number e.types) (is_known_owner e.instances (owner_of c.seen)) h).0 in
+    let below : c.number < e.types = ltb-true c.number e.types (and_parts (nat_lt c.number e.types) (is_known_owner (knows_instance e) (owner_of c.seen)) h).0 in
     let long = ap length b.shapes.joined in
     let both = length-append (tables symbols.types).shapes b.shapes.behind in
     omega (arith, below, is.types, long, both)

@@ -1,5 +1,5 @@
 -- Subprograms that are declared, as the walk goes on.
-use Rattle.std.specs.Prelude.{◌≡◌, ℕ, Option, unwrap_or, Result}
+use Rattle.std.specs.Prelude.{◌≡◌, ℕ, List, Option, unwrap_or, Result}
 use Rattle.cov_base.specs.declared.position.Pos.{Pos}
 use Rattle.cov_base.specs.declared.failure.Failure.{Failure}
 use Rattle.ada_syntax.specs.declared.name.Identifier.{Identifier}
@@ -9,6 +9,8 @@ use Rattle.ada_rules.specs.Subprograms.{body_number, routine_of}
 use Rattle.ada_entities.specs.declared.entity.Completion.{Completion}
 use Rattle.ada_entities.specs.declared.fault.Refusal.{Refusal}
 use Rattle.ada_entities.specs.declared.routines.Routine.{Routine}
+use Rattle.ada_entities.specs.declared.entity.RoutineName.{RoutineName}
+use Rattle.ada_entities.specs.EntityViews as entity
 use Rattle.ada_entities.specs.EntityViews.{Tables, awaits_body, awaiting, region_of}
 use Rattle.ada_entities.specs.RegionCode.{innermost}
 use Rattle.ada_entities.specs.RoutineViews.{routine_in}
@@ -27,6 +29,21 @@ EntersRoutine old new i r completion =
     (k : Tables) → symbols.Begins new k
     → region_of k (innermost new.regions)
     ≡ redefined (key i) (routine (awaiting (awaits_body completion) (routine_in k r))) (region_of k (innermost old.regions))
+
+-- a subprogram with this profile, wherever its parameters were declared; one whose body is none of the unit's has the
+-- number 0
+abbrev pub IsRoutineWith : (generic : Option ℕ) → Profile → (body : ℕ) → Routine → Type 0
+IsRoutineWith generic q body r =
+    (k : Tables) (env : Env) (name : List ℕ) (region : Region) (w : Completion) → env.generic ≡ generic
+    → unwrap_or (body_number env.world env.unit_name name) 0 ≡ body
+    → awaiting (awaits_body w) (routine_in k r) ≡ routine_of env name (awaits_body w) (profile_of k region q)
+
+-- what it is named by
+abbrev pub IsRoutineOf : (new : Symbols) → (generic : Option ℕ) → Profile → (body : ℕ) → Completion → RoutineName → Type 0
+IsRoutineOf new generic q body w r =
+    (k : Tables) (env : Env) (name : List ℕ) (region : Region) → symbols.Begins new k → env.generic ≡ generic
+    → unwrap_or (body_number env.world env.unit_name name) 0 ≡ body
+    → entity.routine_of k r ≡ routine_of env name (awaits_body w) (profile_of k region q)
 
 -- a name denotes the subprogram with this profile, wherever its parameters were declared; one whose body is none of the
 -- unit's has the number 0

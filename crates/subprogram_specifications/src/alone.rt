@@ -16,7 +16,7 @@ use std::mem;
 /// A specification without a body: its parameters are declared in a region that closes again, and are no
 /// objects of a subprogram that is counted. Refused at the rules' own place.
 #[tactic(auto, using(declarations::proofs::GoingLaws::parts))]
-pub(crate) fn profile_alone(
+pub fn profile_alone(
     alloc: Global,
     context: &Context<'_>,
     walk: &mut Walk,

@@ -16,6 +16,8 @@ mod routines;
 mod specification;
 
 pub use formals::formals_declared;
+pub use alone::profile_alone;
+pub use formals::formals_declared;
 pub use objects::{number_behind, tree_subtype};
-pub use routines::{add_routine, body_number, subprogram_declared};
+pub use routines::{add_routine, body_number, new_routine, subprogram_declared};
 pub use specification::specified;

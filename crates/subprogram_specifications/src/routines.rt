@@ -5,10 +5,10 @@ ghost use Rattle.ada_meaning.specs.Types.{here, of_instance};
 ghost use Rattle.ada_tree.specs.View.{owner_of};
 ghost use Rattle.ada_rules.specs.Subprograms as rules;
 ghost use Rattle.ada_entities.specs.EntityViews.{Tables, values_of};
-ghost use Rattle.symbol_table.specs.Changes.{IsOpen, ChangesInside};
+ghost use Rattle.symbol_table.specs.Changes.{IsOpen, ChangesInside, Grows};
 ghost use Rattle.specifications.specs.Profiles.{results_of};
 ghost use Rattle.declarations.specs.Going.{GoesOn, IsWalkOpen};
-ghost use Rattle.subprogram_specifications.specs.Routines.{EntersRoutine, AddsRoutine, IsBodyIn, ComesToRegion};
+ghost use Rattle.subprogram_specifications.specs.Routines.{IsRoutineWith, IsRoutineOf, EntersRoutine, AddsRoutine, IsBodyIn, ComesToRegion};
 
 use crate::alone::profile_alone;
 use ada_entities::{
@@ -64,9 +64,41 @@ pub(crate) fn enter_routine(
     Ok(())
 }
 
+/// A subprogram with this profile, which is declared in the text of a generic or in none and whose body
+/// has this number.
+fn routine_with(generic: Option<u32>, profile: Profile, body: u32) -> Routine
+    ensures { IsRoutineWith generic profile body result }
+{
+    let Profile { parameters, result } = profile;
+    Routine {
+        callee: Callee::Subprogram(owner(generic), body),
+        parameters,
+        result,
+        values: values(result),
+    }
+}
+
 /// Adds a subprogram, which is declared in the text of a generic or in none and whose body has this
-/// number, and lets a name of the innermost region denote it. One whose numbers lead nowhere has no
-/// memory.
+/// number, and answers what it is named by. One whose numbers lead nowhere has no memory.
+pub fn new_routine(
+    symbols: &mut Symbols,
+    generic: Option<u32>,
+    profile: Profile,
+    body: u32,
+    completion: Completion,
+) -> Result<RoutineName, AllocError>
+    ensures named { IfOk result (IsRoutineOf symbols.new generic profile body completion) }
+    ensures added { OnOk result (Grows symbols.old symbols.new) }
+{
+    let number = symbols.add_routine(routine_with(generic, profile, body))?;
+    Ok(RoutineName {
+        number,
+        seen: Owner::Here,
+        completion,
+    })
+}
+
+/// Adds a subprogram in the same way, and lets a name of the innermost region denote it.
 pub fn add_routine(
     alloc: Global,
     symbols: &mut Symbols,
@@ -79,13 +111,7 @@ pub fn add_routine(
     ensures added { OnOk result (AddsRoutine symbols.old symbols.new generic name.now profile body completion) }
     ensures inside { OnOk result (IsOpen symbols.old → ChangesInside symbols.old symbols.new) }
 {
-    let Profile { parameters, result } = profile;
-    let routine = Routine {
-        callee: Callee::Subprogram(owner(generic), body),
-        parameters,
-        result,
-        values: values(result),
-    };
+    let routine = routine_with(generic, profile, body);
     enter_routine(alloc, symbols, name, routine, completion)
 }
 

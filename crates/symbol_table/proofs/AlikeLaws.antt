@@ -41,11 +41,11 @@ use Rattle.ada_phrases.specs.declared.names.Denoted.TheVariants as denoted
 use Rattle.ada_phrases.specs.DenotedView.{denotes}
 use Rattle.ada_tree.specs.View as view
 use Rattle.symbol_table.specs.declared.extent.Extent.{Extent}
-use Rattle.symbol_table.specs.Known.{knows_type, knows_owner, knows_routine, knows_entity, knows_parameters, knows_result, knows_subprogram, knows_kind, knows_form, knows_judged, knows_denoted}
+use Rattle.symbol_table.specs.Known.{knows_instance, knows_type, knows_owner, knows_routine, knows_entity, knows_parameters, knows_result, knows_subprogram, knows_kind, knows_form, knows_judged, knows_denoted}
 use Rattle.symbol_table.specs.Alike.{AreAlike, AreAllAlike}
 
 module _ {e : Extent} {k l : Tables} (a : AreAlike e k l) where
-  pub agreeing : Agree e.types e.instances k.types l.types
+  pub agreeing : Agree e.types (knows_instance e) k.types l.types
   agreeing = record { shapes = a.shapes; instances = a.instances }
 
   type_same : (t : CodeType) → knows_type e t ≡ true → type_of k.types t ≡ type_of l.types t
@@ -148,7 +148,7 @@ module _ {e : Extent} {k l : Tables} (a : AreAlike e k l) where
   -- a subprogram as it is seen
   seen_same : (o : Owner) → knows_owner e o ≡ true → (r s : rules.Routine) → r ≡ s → routine_by k o r ≡ routine_by l o s
   seen_same here h r s same = same
-  seen_same (of_instance n) h r s same = λ z. routine_seen n (a.instances n (ltb-true n e.instances h) z) (same z)
+  seen_same (of_instance n) h r s same = λ z. routine_seen n (a.instances n h z) (same z)
 
 module _ {e : Extent} {k l : Tables} (a : AreAllAlike e k l) where
   pub routine_same : (r : RoutineName) → knows_routine e r ≡ true → routine_of k r ≡ routine_of l r

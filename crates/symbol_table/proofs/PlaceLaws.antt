@@ -1,5 +1,5 @@
 -- Places that change with the symbol table: what the rules look at a construct in has what it keeps, before and after.
-use Rattle.std.proofs.Common.{◌≡◌, ℕ, ◌<◌, ◌≤◌, nat_eq, Bool, true, false, List, [], ◌∷◌, length, map, reverse, set, Option, Some, None, slice_get, unwrap_or, if◌then◌else◌, refl, sym, ap, ◌∙◌, subst, arith, Ok, true≢false}
+use Rattle.std.proofs.Common.{◌≡◌, ℕ, ◌<◌, nat_eq, Bool, true, false, List, [], ◌∷◌, length, map, reverse, set, Option, Some, None, slice_get, unwrap_or, if◌then◌else◌, refl, sym, ap, ◌∙◌, subst, arith, Ok, true≢false}
 use Rattle.std.proofs.lemmas.Bool.{eqb-true, eq-eqb}
 use Rattle.std.proofs.lemmas.List.{reverse-append, length-reverse, map-set}
 use Rattle.cov_base.specs.declared.failure.Failure.{Failure}
@@ -22,7 +22,8 @@ use Rattle.ada_phrases.specs.declared.scope.Step.{Step}
 use Rattle.ada_phrases.specs.Scopes.{step_of, text_depth}
 use Rattle.symbol_table.specs.declared.symbols.Symbols.{Symbols}
 use Rattle.symbol_table.specs.declared.extent.Extent.{Extent}
-use Rattle.symbol_table.specs.Alike.{AreAllAlike, IsKnownRegion}
+use Rattle.symbol_table.specs.Known.{knows_instance}
+use Rattle.symbol_table.specs.Alike.{AreAllAlike, GiveAlike, IsKnownRegion}
 use Rattle.symbol_table.specs.SymbolViews.{Begins, IsKnown}
 use Rattle.symbol_table.specs.Sites.{IsAtDepth, StandsInText, HoldsUnits, Holds}
 use Rattle.symbol_table.specs.Changes.{Becomes, Grows, ChangesInside, Opens, Reopens}
@@ -120,11 +121,12 @@ with_actuals actuals j xs i = if nat_eq i j then xs else actuals i
 own_actuals : (actuals : ℕ → List Actual) (j : ℕ) (xs : List Actual) → with_actuals actuals j xs j ≡ xs
 own_actuals actuals j xs = ap (λ b. if b then xs else actuals j) (eq-eqb j j refl)
 
-before : (actuals : ℕ → List Actual) (j : ℕ) (xs : List Actual) (m : ℕ) → m ≤ j → (i : ℕ) → i < m → actuals i ≡ with_actuals actuals j xs i
-before actuals j xs m later i h = by_test (nat_eq i j) refl where
+before : (e : Extent) (actuals : ℕ → List Actual) (j : ℕ) (xs : List Actual) → knows_instance e j ≡ false
+    → GiveAlike e actuals (with_actuals actuals j xs)
+before e actuals j xs fresh i h = by_test (nat_eq i j) refl where
   by_test : (b : Bool) → nat_eq i j ≡ b → actuals i ≡ (if b then xs else actuals i)
-  by_test true e = absurd (omega (arith, eqb-true i j e))
-  by_test false e = refl
+  by_test true same = absurd (true≢false (sym h ∙ (ap (knows_instance e) (eqb-true i j same) ∙ fresh)))
+  by_test false same = refl
 
 with_given : (actuals : ℕ → List Actual) (j : ℕ) (xs : List Actual) (k : Tables) → ((i : ℕ) → GiveSame (actuals i) (actuals_of k.types i))
     → GiveSame xs (actuals_of k.types j) → (i : ℕ) → GiveSame (with_actuals actuals j xs i) (actuals_of k.types i)
@@ -165,16 +167,16 @@ units_shown old new rs k w n i g begins u = record {
 
 -- an instance is seen that was not there before, with what it has for the formals of its generic
 pub units_instance : (old new : Symbols) (rs : List (List (List ℕ × Entity))) (k : Tables) (w : World) (n : ℕ) (g : Option ℕ) (j : ℕ) (xs : List Actual)
-    → Becomes old new rs (set old.units n (interface.Instance g j)) → Begins new k → old.extent.instances ≤ j → GiveSame xs (actuals_of k.types j)
+    → Becomes old new rs (set old.units n (interface.Instance g j)) → Begins new k → knows_instance old.extent j ≡ false → GiveSame xs (actuals_of k.types j)
     → HoldsUnits old k w → HoldsUnits new k (with_interface w n (instance_interface g j xs))
-units_instance old new rs k w n g j xs b begins later same u = record {
+units_instance old new rs k w n g j xs b begins fresh same u = record {
   known = b.known u.known;
   begins = begins;
   actuals = with_actuals u.actuals j xs;
   given_types = with_given u.actuals j xs k u.given_types same;
   interfaces = ap (λ is. set is n (instance_interface g j xs))
       (u.interfaces
-      ∙ u.known.interfaces k k u.actuals (with_actuals u.actuals j xs) (alike_itself old.extent k) (before u.actuals j xs old.extent.instances later))
+      ∙ u.known.interfaces k k u.actuals (with_actuals u.actuals j xs) (alike_itself old.extent k) (before old.extent u.actuals j xs fresh))
       ∙ (ap (λ ys. set (map (interface_of k (with_actuals u.actuals j xs)) old.units) n (instance_interface g j ys)) (sym (own_actuals u.actuals j xs))
       ∙ (sym (map-set (interface_of k (with_actuals u.actuals j xs)) old.units n (interface.Instance g j))
       ∙ ap (map (interface_of k (with_actuals u.actuals j xs))) (sym b.units)));

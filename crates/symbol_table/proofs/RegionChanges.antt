@@ -1,6 +1,5 @@
 -- Regions and units that change, and lead only to what is there as before.
 use Rattle.std.proofs.Common.{◌≡◌, ℕ, zero, suc, true, List, [], ◌∷◌, set, replicate, Result, Ok, refl, sym, ap, ◌∙◌}
-use Rattle.std.proofs.lemmas.Bool.{ltb-true}
 use Rattle.std.proofs.lemmas.List.{map-set}
 use Rattle.ada_syntax.specs.declared.name.Identifier.{Identifier}
 use Rattle.ada_rules.specs.Entities as rules
@@ -72,7 +71,7 @@ pub interface_known : (e : Extent) (i : Interface) → knows_interface e i ≡ t
 interface_known e interface.Unknown h s k l xs ys a g = refl
 interface_known e (interface.Package r) h s k l xs ys a g = ap package_interface (s k l a)
 interface_known e (interface.Generic formals r) h s k l xs ys a g = λ z. generic_interface (s.0 k l a z) (s.1 k l a z)
-interface_known e (interface.Instance o n) h s k l xs ys a g = ap (instance_interface o n) (g n (ltb-true n e.instances h))
+interface_known e (interface.Instance o n) h s k l xs ys a g = ap (instance_interface o n) (g n h)
 interface_known e (interface.Subprogram r) h s k l xs ys a g = ap subprogram_interface (routine_same a r h)
 
 pub set_known : (e : Extent) (is : List Interface) (n : ℕ) (i : Interface) → AreKnownInterfaces e is → IsKnownInterface e i

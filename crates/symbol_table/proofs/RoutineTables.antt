@@ -1,5 +1,5 @@
 -- Subprograms in tables: what is behind the tables' own does not change them.
-use Rattle.std.proofs.Common.{◌≡◌, ℕ, zero, suc, ◌+◌, ◌<◌, ◌≤◌, nat_lt, Bool, true, false, List, [], ◌∷◌, ◌++◌, length, map, Some, option_map, slice_get, refl, sym, ap, ◌∙◌, subst, arith}
+use Rattle.std.proofs.Common.{◌≡◌, ℕ, zero, suc, ◌+◌, ◌<◌, ◌≤◌, nat_lt, Bool, true, false, List, [], ◌∷◌, ◌++◌, length, map, Some, option_map, slice_get, unwrap_or, refl, sym, ap, ◌∙◌, subst, arith}
 use Rattle.std.proofs.lemmas.Bool.{ltb-true, ltb-false}
 use Rattle.std.proofs.lemmas.List.{length-map, map-append}
 use Rattle.std.proofs.lemmas.Option.{slice_get_within}
@@ -59,7 +59,7 @@ test_io_more own more a k h =
 
 -- the subprograms of Test_IO lead nowhere
 abbrev no_table : Tables
-no_table = record { types = no_tables; routines = []; spans = [] }
+no_table = record { types = no_tables 0; routines = []; spans = [] }
 
 pub two_there : (own : List Routine) → AreTestIo own → 2 ≤ length own
 two_there own a =
@@ -75,11 +75,11 @@ test_io_known e own a two k l alike j h = among j (subst (λ n. j < n) two h) wh
 
 -- one more
 module _ (e f : Extent) (own : List Routine) (r : Routine) (known : AreKnownRoutines e own) (count : e.routines ≡ length own)
-    (types : e.types ≡ f.types) (instances : e.instances ≡ f.instances) (next : f.routines ≡ e.routines + 1) (own_known : knows_subprogram e r ≡ true) where
+    (types : e.types ≡ f.types) (instances : e.made ≡ f.made) (next : f.routines ≡ e.routines + 1) (own_known : knows_subprogram e r ≡ true) where
   alike_before : (k l : Tables) → AreAlike f k l → AreAlike e k l
   alike_before k l a = record {
     shapes = λ j h. a.shapes j (subst (λ n. j < n) types h);
-    instances = λ i h. a.instances i (subst (λ n. i < n) instances h);
+    instances = λ i h. a.instances i (ap (λ m. unwrap_or (slice_get m.items i) false) (sym instances) ∙ h);
     spans = a.spans;
   }
 

@@ -1,9 +1,8 @@
 -- Where tables begin with what a symbol table keeps, those that have just this are like them; and there the walk over
 -- names and expressions stands.
-use Rattle.std.proofs.Common.{◌≡◌, ℕ, ◌<◌, ◌≤◌, nat_lt, Bool, true, false, List, [], ◌∷◌, ◌++◌, length, map, reverse, Option, Some, None, option_map, slice_get, unwrap_or, if◌then◌else◌, refl, sym, ap, ◌∙◌, subst, arith}
-use Rattle.std.proofs.lemmas.Bool.{ltb-true, ltb-false, lt-ltb}
+use Rattle.std.proofs.Common.{◌≡◌, ℕ, ◌<◌, ◌≤◌, Bool, true, false, is_some, true≢false, List, [], ◌∷◌, ◌++◌, length, map, reverse, Option, Some, None, option_map, slice_get, unwrap_or, if◌then◌else◌, refl, sym, ap, ◌∙◌, subst, arith}
 use Rattle.std.proofs.lemmas.List.{length-map}
-use Rattle.std.proofs.lemmas.Option.{slice_get-map, slice_get_past}
+use Rattle.std.proofs.lemmas.Option.{slice_get-map}
 use Rattle.ada_rules.specs.Types.{no_field}
 use Rattle.ada_rules.specs.Statics.{Spans}
 use Rattle.ada_rules.specs.Entities as rules
@@ -11,7 +10,7 @@ use Rattle.ada_rules.specs.Entities.{Standard, Actual, given_type}
 use Rattle.ada_rules.specs.Environment.{Env}
 use Rattle.ada_entities.specs.declared.entity.Entity.{Entity}
 use Rattle.ada_entities.specs.declared.routines.Routine.{Routine}
-use Rattle.ada_entities.specs.Views.{record_shape, TypeTables, actuals_of}
+use Rattle.ada_entities.specs.Views.{record_shape, TypeTables, made_at, is_made, actuals_of}
 use Rattle.ada_entities.specs.TypeTable.{tables}
 use Rattle.ada_entities.specs.EntityViews.{Tables, no_routine, region_of}
 use Rattle.ada_entities.specs.RegionCode.{regions_of, in_standard, region_at}
@@ -22,6 +21,7 @@ use Rattle.ada_phrases.specs.Scopes.{text_depth, step_of, IsText, StandsIn}
 use Rattle.ada_phrases.specs.declared.scope.Step.{Step}
 use Rattle.symbol_table.specs.declared.extent.Extent.{Extent}
 use Rattle.symbol_table.specs.declared.symbols.Symbols.{Symbols}
+use Rattle.symbol_table.specs.Known.{knows_instance}
 use Rattle.symbol_table.specs.Alike.{AreAlike, AreAllAlike, GiveAlike, AreKnownRoutines}
 use Rattle.symbol_table.specs.SymbolViews.{HasFront, Begins, IsKnown}
 use Rattle.symbol_table.specs.Sites.{StandsInText, Holds}
@@ -35,20 +35,17 @@ own_routines t rs spans = all_with (only_types t spans) (map (routine_in (only_t
 
 -- tables of just this much, and those that begin with it
 module _ (e : Extent) (t : TypeTables) (rs : List Routine) (k : Tables) (b : HasFront t rs k) where
-  types_alike : e.types ≡ length t.shapes → e.instances ≡ length t.instances → AreAlike e (exactly t rs k.spans) k
+  types_alike : e.types ≡ length t.shapes → ((i : ℕ) → knows_instance e i ≡ is_made t.instances i) → AreAlike e (exactly t rs k.spans) k
   types_alike n m = record {
     shapes = λ j h.
         ap (λ o. unwrap_or o (record_shape no_field))
         (front_get t.shapes b.shapes.behind (record_shape no_field) j (subst (λ x. j < x) n h)
         ∙ ap (λ xs. slice_get xs j) (sym b.shapes.joined));
-    instances = λ i h.
-        ap (λ o. unwrap_or o [])
-        (front_get t.instances b.instances.behind [] i (subst (λ x. i < x) m h)
-        ∙ ap (λ xs. slice_get xs i) (sym b.instances.joined));
+    instances = λ i h. b.instances i (sym (m i) ∙ h);
     spans = refl;
   }
 
-  pub exact_alike : e.types ≡ length t.shapes → e.instances ≡ length t.instances → e.routines ≤ length rs → AreKnownRoutines e rs
+  pub exact_alike : e.types ≡ length t.shapes → ((i : ℕ) → knows_instance e i ≡ is_made t.instances i) → e.routines ≤ length rs → AreKnownRoutines e rs
       → AreAllAlike e (exactly t rs k.spans) k
   exact_alike n m r known = record {
     typed = types_alike n m;
@@ -65,23 +62,25 @@ pub known_alike : (symbols : Symbols) → IsKnown symbols → (k : Tables) → B
 known_alike symbols is k b =
     exact_alike symbols.extent (tables symbols.types) symbols.routines k b is.types is.instances is.routines is.subprograms
 
--- what instances have for formals, where there are so many
+-- what instances have for formals, where they were made
 abbrev pub cut : Extent → (ℕ → List Actual) → ℕ → List Actual
-cut e actuals n = if nat_lt n e.instances then actuals n else []
+cut e actuals n = if knows_instance e n then actuals n else []
 
 pub cut_same : (e : Extent) (actuals : ℕ → List Actual) → GiveAlike e (cut e actuals) actuals
-cut_same e actuals n h = ap (λ b. if b then actuals n else []) (lt-ltb n e.instances h)
+cut_same e actuals n h = ap (λ b. if b then actuals n else []) h
 
-module _ (e : Extent) (t u : TypeTables) (m : e.instances ≡ length t.instances)
-    (alike : (i : ℕ) → i < e.instances → actuals_of t i ≡ actuals_of u i) (actuals : ℕ → List Actual)
+module _ (e : Extent) (t u : TypeTables) (m : (i : ℕ) → knows_instance e i ≡ is_made t.instances i)
+    (alike : (i : ℕ) → knows_instance e i ≡ true → actuals_of t i ≡ actuals_of u i) (actuals : ℕ → List Actual)
     (given : (n : ℕ) → GiveSame (actuals n) (actuals_of u n)) where
-  given_by : (n : ℕ) (b : Bool) → nat_lt n e.instances ≡ b → GiveSame (if b then actuals n else []) (actuals_of t n)
-  given_by n true h = λ place. given n place ∙ ap (λ xs. given_type (slice_get xs place)) (sym (alike n (ltb-true n e.instances h)))
-  given_by n false h = λ place. ap (λ o. given_type (slice_get (unwrap_or o []) place))
-      (sym (slice_get_past t.instances n (subst (λ x. x ≤ n) m (ltb-false n e.instances h))))
+  given_by : (n : ℕ) (b : Bool) → knows_instance e n ≡ b → GiveSame (if b then actuals n else []) (actuals_of t n)
+  given_by n true h = λ place. given n place ∙ ap (λ xs. given_type (slice_get xs place)) (sym (alike n h))
+  given_by n false h = λ place. ap (λ xs. given_type (slice_get xs place)) (sym (not_made (made_at t.instances n) (sym (m n) ∙ h))) where
+    not_made : (o : Option (List Actual)) → is_some o ≡ false → unwrap_or o [] ≡ []
+    not_made None h = refl
+    not_made (Some xs) h = absurd (true≢false h)
 
   pub given_cut : (n : ℕ) → GiveSame (cut e actuals n) (actuals_of t n)
-  given_cut n = given_by n (nat_lt n e.instances) refl
+  given_cut n = given_by n (knows_instance e n) refl
 
 -- the text of a package is one of the regions
 region_or : (k : Tables) (o : Option (List (List ℕ × Entity))) → region_of k (unwrap_or o []) ≡ unwrap_or (option_map (region_of k) o) []

@@ -25,7 +25,7 @@ whole_front xs ys e = record { behind = []; joined = e ∙ nothing_behind xs }
 pub exact_begins : (symbols : Symbols) (spans : List Spans) → Begins symbols (exact symbols spans)
 exact_begins symbols spans = record {
   shapes = whole_front _ _ refl;
-  instances = whole_front _ _ refl;
+  instances = λ i h. refl;
   subprograms = whole_front _ _ (own_routines (tables symbols.types) symbols.routines spans);
 }
 

@@ -1,5 +1,5 @@
 -- Tables that have the same under the numbers of what is there, and what is the same in each of them.
-use Rattle.std.specs.Prelude.{◌≡◌, ℕ, ◌<◌, List, map, slice_get}
+use Rattle.std.specs.Prelude.{◌≡◌, ℕ, ◌<◌, true, List, map, slice_get}
 use Rattle.ada_rules.specs.Entities.{Actual}
 use Rattle.ada_entities.specs.declared.entity.Entity.{Entity}
 use Rattle.ada_entities.specs.declared.routines.Routine.{Routine}
@@ -10,10 +10,11 @@ use Rattle.ada_entities.specs.RegionCode.{regions_of}
 use Rattle.ada_entities.specs.RoutineViews.{routine_in}
 use Rattle.ada_entities.specs.UnitViews.{interface_of}
 use Rattle.symbol_table.specs.declared.extent.Extent.{Extent}
+use Rattle.symbol_table.specs.Known.{knows_instance}
 
 pub record AreAlike (e : Extent) (k l : Tables) : Type 0 where
   pub shapes : (j : ℕ) → j < e.types → shape_at k.types j ≡ shape_at l.types j
-  pub instances : (i : ℕ) → i < e.instances → actuals_of k.types i ≡ actuals_of l.types i
+  pub instances : (i : ℕ) → knows_instance e i ≡ true → actuals_of k.types i ≡ actuals_of l.types i
   pub spans : k.spans ≡ l.spans
 
 -- in their subprograms too
@@ -23,7 +24,7 @@ pub record AreAllAlike (e : Extent) (k l : Tables) : Type 0 where
 
 -- instances that have the same
 abbrev pub GiveAlike : Extent → (actuals others : ℕ → List Actual) → Type 0
-GiveAlike e actuals others = (n : ℕ) → n < e.instances → actuals n ≡ others n
+GiveAlike e actuals others = (n : ℕ) → knows_instance e n ≡ true → actuals n ≡ others n
 
 -- what leads only to what is there
 abbrev pub IsKnownRegion : Extent → List (List ℕ × Entity) → Type 0

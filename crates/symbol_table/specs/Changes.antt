@@ -1,5 +1,5 @@
 -- How a symbol table changes: what comes behind, and what opens, closes and changes inside.
-use Rattle.std.specs.Prelude.{◌≡◌, ℕ, ◌<◌, List, [], ◌∷◌, length, map, replicate, set, Some, Option, option_map, slice_get, IfSome, Result, Ok, Err}
+use Rattle.std.specs.Prelude.{◌≡◌, ℕ, ◌<◌, false, List, [], ◌∷◌, length, map, replicate, set, Some, Option, option_map, slice_get, IfSome, Result, Ok, Err}
 use Rattle.std.specs.Borrow.{Bor}
 use Rattle.cov_base.specs.declared.failure.Failure.{Failure}
 use Rattle.cov_base.specs.declared.failure.Failure.TheVariants.{Fault, WantOfMemory}
@@ -23,6 +23,7 @@ use Rattle.ada_entities.specs.RoutineViews.{routine_in}
 use Rattle.ada_phrases.specs.Scopes.{text_depth}
 use Rattle.symbol_table.specs.declared.extent.Extent.{Extent}
 use Rattle.symbol_table.specs.declared.symbols.Symbols.{Symbols}
+use Rattle.symbol_table.specs.Known.{knows_instance}
 use Rattle.symbol_table.specs.Alike.{AreAllAlike, IsKnownRegion}
 use Rattle.symbol_table.specs.SymbolViews.{Begins, IsKnown}
 
@@ -97,9 +98,9 @@ pub record IsFresh (count : ℕ) (symbols : Symbols) : Type 0 where
 abbrev pub IsTypeOf : (old new : Symbols) → Definition → ℕ → Type 0
 IsTypeOf old new d n = IsKnown old → (k : Tables) → Begins new k → shape_at k.types n ≡ shape_of k.types d
 
--- the next instance, which has this for the formals of its generic
-pub record IsInstance (old new : Symbols) (types : List (Option ScalarType)) (n : ℕ) : Type 0 where
-  pub number : n ≡ old.extent.instances
+-- an instance that was not made before, which has this for the formals of its generic
+pub record IsInstance (old new : Symbols) (n : ℕ) (types : List (Option ScalarType)) : Type 0 where
+  pub fresh : knows_instance old.extent n ≡ false
   pub given : IsKnown old → (k : Tables) → Begins new k → actuals_of k.types n ≡ map given_of types
 
 abbrev pub IsSubprogram : (new : Symbols) → Routine → ℕ → Type 0

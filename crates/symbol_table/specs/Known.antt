@@ -1,5 +1,5 @@
--- What leads only to what is there, where there are so many types, instances and subprograms.
-use Rattle.std.specs.Prelude.{nat_lt, Bool, true, ◌&&◌, List, Option, Some, None}
+-- What leads only to what is there, where there are so many types and subprograms, and these instances were made.
+use Rattle.std.specs.Prelude.{◌≡◌, ℕ, nat_lt, Bool, true, false, not, ◌&&◌, List, ◌∷◌, replicate, slice_get, unwrap_or, Option, Some, None}
 use Rattle.std.specs.List.{list_all}
 use Rattle.ada_meaning.specs.Types.{Owner}
 use Rattle.ada_tree.specs.View.{owner_of}
@@ -25,11 +25,25 @@ use Rattle.ada_phrases.specs.declared.names.Denoted.{Denoted}
 use Rattle.ada_phrases.specs.declared.names.Denoted.TheVariants as denoted
 use Rattle.symbol_table.specs.declared.extent.Extent.{Extent}
 
+-- whether an instance was made
+abbrev pub knows_instance : Extent → ℕ → Bool
+knows_instance e i = unwrap_or (slice_get e.made.items i) false
+
+-- whether it has a place, and was not made
+abbrev pub awaits : Extent → ℕ → Bool
+awaits e i = not (unwrap_or (slice_get e.made.items i) true)
+
+-- before any unit: instance 0 and the subprograms of Test_IO, and places for so many other instances
+pub record IsFreshExtent (others : ℕ) (e : Extent) : Type 0 where
+  pub types : e.types ≡ 0
+  pub made : e.made.items ≡ true ∷ replicate others false
+  pub routines : e.routines ≡ 2
+
 abbrev pub knows_owner : Extent → Owner → Bool
-knows_owner e o = is_known_owner e.instances o
+knows_owner e o = is_known_owner (knows_instance e) o
 
 abbrev pub knows_type : Extent → AdaType → Bool
-knows_type e t = is_known e.types e.instances t
+knows_type e t = is_known e.types (knows_instance e) t
 
 abbrev pub knows_routine : Extent → RoutineName → Bool
 knows_routine e r = nat_lt r.number e.routines && knows_owner e (owner_of r.seen)
@@ -44,10 +58,10 @@ knows_entity e x = true
 
 -- the definition of a composite type, and a subprogram
 abbrev pub knows_components : Extent → List Component → Bool
-knows_components e cs = are_known e.types e.instances cs
+knows_components e cs = are_known e.types (knows_instance e) cs
 
 abbrev pub knows_definition : Extent → Definition → Bool
-knows_definition e d = is_earlier e.instances e.types d
+knows_definition e d = is_earlier (knows_instance e) e.types d
 
 abbrev pub knows_parameters : Extent → List Parameter → Bool
 knows_parameters e qs = list_all (λ q. knows_type e q.subtype.of) qs
@@ -81,6 +95,6 @@ knows_denoted e d = true
 
 -- what is seen of a unit, but for its regions
 abbrev pub knows_interface : Extent → Interface → Bool
-knows_interface e (interface.Instance g n) = nat_lt n e.instances
+knows_interface e (interface.Instance g n) = knows_instance e n
 knows_interface e (interface.Subprogram r) = knows_routine e r
 knows_interface e i = true

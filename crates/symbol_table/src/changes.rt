@@ -22,23 +22,21 @@ use std::alloc::{AllocError, Global};
 const TEXT_DEPTH: usize = 1;
 
 impl Symbols {
-    /// The symbols before any of so many units was looked at: the subprograms of `Test_IO` alone.
+    /// The symbols before any of so many units was looked at: the subprograms of `Test_IO` alone. No
+    /// instance has a number above that of units.
     pub fn new(alloc: Global, units: usize) -> Result<Symbols, AllocError>
         ensures { IfOk result (IsFresh units) }
     {
-        let types = Types::new(alloc)?;
+        let types = Types::new(alloc, units)?;
         let routines = Routines::new(alloc)?;
+        let extent = Extent::new(alloc, units)?;
         let units = Units::new(alloc, units)?;
         Ok(Symbols {
             types,
             routines,
             units,
             regions: Regions::new(alloc),
-            extent: Extent {
-                types: 0,
-                instances: 1,
-                routines: 2,
-            },
+            extent,
         })
     }
 
@@ -134,18 +132,23 @@ impl Symbols {
         Ok(number)
     }
 
-    /// Adds an instance, by what it has for the formal types of its generic, and answers its number
-    /// (RM 12.3).
-    pub fn add_instance(&mut self, given: Seq<Option<ScalarType>>) -> Result<u32, AllocError>
-        ensures number { IfOk result (IsInstance self.old self.new given) }
+    /// Makes the instance with this number, by what it has for the formal types of its generic (RM 12.3).
+    /// Instances have the numbers of the text, and are made in any order. One that was made, or whose
+    /// number is more than that of units, has no memory.
+    pub fn add_instance(
+        &mut self,
+        number: u32,
+        given: Seq<Option<ScalarType>>,
+    ) -> Result<(), AllocError>
+        ensures made { OnOk result (IsInstance self.old self.new number given) }
         ensures added { OnOk result (Grows self.old self.new) }
     {
-        let Ok(number) = u32::try_from(self.extent.instances) else {
+        if !self.extent.awaits(number) {
             return Err(AllocError);
-        };
-        self.types.add_instance(given)?;
-        self.extent.instances = number as usize + 1;
-        Ok(number)
+        }
+        self.types.add_instance(number, given)?;
+        self.extent.make(number);
+        Ok(())
     }
 
     /// Adds a subprogram, and answers its number (RM 6.1). One whose numbers lead nowhere has no memory.
@@ -181,6 +184,13 @@ impl Symbols {
         ensures { option_copied result ≡ slice_get self.now.units unit }
     {
         self.units.get(unit)
+    }
+
+    /// What other units see of all units, by their numbers.
+    pub fn units(&self) -> &Units
+        ensures { result.now ≡ self.now.units }
+    {
+        &self.units
     }
 
     /// The composite types, and what instances have for formal types.

@@ -11,8 +11,8 @@ use std::alloc::AllocError;
 
 impl Extent {
     /// Whether the subtypes that an array is built of, if it is one, lead only to what is there.
-    fn knows_parts(self, parts: Option<(Subtype, Subtype)>) -> bool
-        ensures { result ≡ knows_parts self parts }
+    fn knows_parts(&self, parts: Option<(Subtype, Subtype)>) -> bool
+        ensures { result ≡ knows_parts self.now parts }
     {
         match parts {
             Some((index, component)) => self.knows_type(index.of) && self.knows_type(component.of),

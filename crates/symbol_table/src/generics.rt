@@ -18,7 +18,7 @@ impl Symbols {
         ensures { IfOk result (IsTypeSeen self.now of (of_instance instance)) }
     {
         let through = self.types.type_seen(of, instance);
-        if instance as usize >= self.extent.instances
+        if !self.extent.knows_instance(instance)
             || !self.extent.knows_type(of)
             || !self.extent.knows_type(through)
         {

@@ -1,7 +1,7 @@
 //! Laws of symbol tables that change, for the layers above. The functions do nothing: each carries laws
 //! as its contract.
 
-ghost use Rattle.std.specs.Prelude.{◌≡◌, ℕ, ◌≤◌, List, [], ◌∷◌, replicate, Option};
+ghost use Rattle.std.specs.Prelude.{◌≡◌, ℕ, false, List, [], ◌∷◌, replicate, Option};
 ghost use Rattle.ada_rules.specs.Entities.{whole_standard};
 ghost use Rattle.ada_rules.specs.Environment.{no_interface, World, Env, with_local, opened};
 ghost use Rattle.ada_rules.specs.Statics.{Spans};
@@ -12,6 +12,7 @@ ghost use Rattle.ada_entities.specs.EntityViews.{Tables, region_of};
 ghost use Rattle.ada_entities.specs.RegionCode.{innermost};
 ghost use Rattle.ada_phrases.specs.declared.scope.Step.{Step};
 ghost use Rattle.symbol_table.specs.declared.symbols.Symbols.{Symbols};
+ghost use Rattle.symbol_table.specs.Known.{knows_instance};
 ghost use Rattle.symbol_table.specs.SymbolViews.{Begins};
 ghost use Rattle.symbol_table.specs.Exact.{exact};
 ghost use Rattle.symbol_table.specs.Sites.{HoldsUnits, Holds};
@@ -36,7 +37,7 @@ pub fn places_follow()
 pub fn units_follow()
     ensures shown { (old new : Symbols) (n : ℕ) (i : Interface) → ShowsUnit old new n i → Shows old new n i }
     ensures instance { (old new : Symbols) (n : ℕ) (g : Option ℕ) (j : ℕ)
-        → ShowsUnit old new n (interface.Instance g j) → old.extent.instances ≤ j → ShowsInstance old new n g j }
+        → ShowsUnit old new n (interface.Instance g j) → knows_instance old.extent j ≡ false → ShowsInstance old new n g j }
     ensures unit { (symbols : Symbols) (seen : List (List ℕ × Entity)) → symbols.regions ≡ [] ∷ seen ∷ []
         → StandsInUnit symbols seen }
     ensures text { (symbols : Symbols) (text seen : List (List ℕ × Entity)) → symbols.regions ≡ text ∷ seen ∷ []

@@ -1,5 +1,5 @@
 -- The table of the typed program grows as the checker's.
-use Rattle.std.proofs.Common.{◌≡◌, ℕ, ◌+◌, ◌<◌, nat_lt, true, List, [], ◌∷◌, ◌++◌, length, take, drop, get_or, Option, refl, sym, ap, ◌∙◌, subst, arith}
+use Rattle.std.proofs.Common.{◌≡◌, ℕ, ◌+◌, ◌<◌, nat_lt, Bool, true, List, [], ◌∷◌, ◌++◌, length, take, drop, get_or, Option, refl, sym, ap, ◌∙◌, subst, arith}
 use Rattle.std.proofs.lemmas.Bool.{and_parts, and_from, ltb-true}
 use Rattle.std.proofs.lemmas.List.{map-append, take_more, take-append-drop}
 use Rattle.cov_base.specs.Lists.{Everywhere}
@@ -13,7 +13,7 @@ use Rattle.ada_entities.specs.declared.types.AdaType.TheVariants as type
 use Rattle.ada_entities.specs.declared.composite.Component.{Component}
 use Rattle.ada_entities.specs.declared.composite.Definition.{Definition}
 use Rattle.ada_entities.specs.declared.composite.Definition.TheVariants as definition
-use Rattle.ada_entities.specs.Views.{TypeTables, is_known, is_known_owner}
+use Rattle.ada_entities.specs.Views.{TypeTables, is_made, is_known, is_known_owner}
 use Rattle.ada_entities.specs.Tables.{shape_of, instances_of, tables_of, are_known, is_earlier, are_earlier}
 use Rattle.ada_entities.proofs.TableLaws.{shapes_length, added}
 use Rattle.type_trees.specs.Trees.{shape_in_tree, shapes_in_tree, IsThere, IsSubtypeThere, IsBuiltThere, IsDefinedInTree, generic_at, AreIn}
@@ -25,26 +25,26 @@ push ss [] d = refl
 push ss (e ∷ ds) d = push (ss ++ unfolded ss (composite_of e.definition) ∷ []) ds d
 
 -- what is earlier is there
-there : (k : TypeTables) (n m : ℕ) (t : AdaType) → n ≡ length k.shapes → is_known n m t ≡ true → IsThere k t
+there : (k : TypeTables) (n : ℕ) (m : ℕ → Bool) (t : AdaType) → n ≡ length k.shapes → is_known n m t ≡ true → IsThere k t
 there k n m (type.Scalar t) e h = tt
 there k n m (type.Composite c) e h =
     subst (λ x. c.number < x) e (ltb-true c.number n (and_parts (nat_lt c.number n) (is_known_owner m (owner_of c.seen)) h).0)
 
-all_there : (k : TypeTables) (n m : ℕ) (cs : List Component) → n ≡ length k.shapes → are_known n m cs ≡ true
+all_there : (k : TypeTables) (n : ℕ) (m : ℕ → Bool) (cs : List Component) → n ≡ length k.shapes → are_known n m cs ≡ true
     → Everywhere (λ (c : Component). IsSubtypeThere k c.subtype) cs
 all_there k n m [] e h = tt
 all_there k n m (c ∷ cs) e h =
     let p = and_parts (is_known n m c.subtype.of) (are_known n m cs) h in
     (there k n m c.subtype.of e p.0, all_there k n m cs e p.1)
 
-built : (k : TypeTables) (n m : ℕ) (d : Definition) → n ≡ length k.shapes → is_earlier m n d ≡ true → IsBuiltThere k d
+built : (k : TypeTables) (n : ℕ) (m : ℕ → Bool) (d : Definition) → n ≡ length k.shapes → is_earlier m n d ≡ true → IsBuiltThere k d
 built k n m (definition.Array x c) e h =
     let p = and_parts (is_known n m x.of) (is_known n m c.of) h in
     (there k n m x.of e p.0, there k n m c.of e p.1)
 built k n m (definition.Record cs) e h = all_there k n m cs e h
 
 -- of definitions the last, and those before it
-last_earlier : (m n : ℕ) (ds : List Definition) (d : Definition) → are_earlier m n (ds ++ d ∷ []) ≡ true → is_earlier m (n + length ds) d ≡ true
+last_earlier : (m : ℕ → Bool) (n : ℕ) (ds : List Definition) (d : Definition) → are_earlier m n (ds ++ d ∷ []) ≡ true → is_earlier m (n + length ds) d ≡ true
 last_earlier m n [] d h =
     let same : n ≡ n + 0 = omega arith in
     subst (λ x. is_earlier m x d ≡ true) same (and_parts (is_earlier m n d) true h).0
@@ -53,34 +53,34 @@ last_earlier m n (x ∷ ds) d h =
     let same : n + 1 + length ds ≡ n + length (x ∷ ds) = omega arith in
     subst (λ y. is_earlier m y d ≡ true) same (last_earlier m (n + 1) ds d p.1)
 
-pub front_earlier : (m n : ℕ) (ds es : List Definition) → are_earlier m n (ds ++ es) ≡ true → are_earlier m n ds ≡ true
+pub front_earlier : (m : ℕ → Bool) (n : ℕ) (ds es : List Definition) → are_earlier m n (ds ++ es) ≡ true → are_earlier m n ds ≡ true
 front_earlier m n [] es h = refl
 front_earlier m n (d ∷ ds) es h =
     let p = and_parts (is_earlier m n d) (are_earlier m (n + 1) (ds ++ es)) h in
     and_from (is_earlier m n d) (are_earlier m (n + 1) ds) p.0 (front_earlier m (n + 1) ds es p.1)
 
 -- both tables with one more type
-pub grown : (given : List (List (Option ScalarType))) (ds : List Definition) (d : Definition) (xs : List TypeDeclaration) (x : TypeDeclaration)
-    → are_earlier (length given) 0 (ds ++ d ∷ []) ≡ true → types_of xs ≡ shapes_in_tree (tables_of given ds) → IsDefinedInTree d x.definition
+pub grown : (given : List (Option (List (Option ScalarType)))) (ds : List Definition) (d : Definition) (xs : List TypeDeclaration) (x : TypeDeclaration)
+    → are_earlier (is_made given) 0 (ds ++ d ∷ []) ≡ true → types_of xs ≡ shapes_in_tree (tables_of given ds) → IsDefinedInTree d x.definition
     → types_of (xs ++ x ∷ []) ≡ shapes_in_tree (tables_of given (ds ++ d ∷ []))
 grown given ds d xs x h e is =
     let k = tables_of given ds in
     let size : 0 + length ds ≡ length k.shapes = sym (shapes_length (instances_of given) [] ds) in
-    let there : IsBuiltThere k d = built k (0 + length ds) (length given) d size (last_earlier (length given) 0 ds d h) in
+    let there : IsBuiltThere k d = built k (0 + length ds) (is_made given) d size (last_earlier (is_made given) 0 ds d h) in
     let new : unfolded (types_of xs) (composite_of x.definition) ≡ shape_in_tree (shape_of k d) =
     ap (λ ts. unfolded ts (composite_of x.definition)) e ∙ is k there in
     push [] xs x ∙ (λ z. e z ++ new z ∷ []) ∙ sym (map-append shape_in_tree k.shapes (shape_of k d ∷ [])) ∙ ap shapes_in_tree (sym (added given ds d))
 
-pub table_step : (given : List (List (Option ScalarType))) (items : List Definition) (place : ℕ) (d : Definition) (xs : List TypeDeclaration) (x : TypeDeclaration)
-    → place < length items → d ≡ get_or items place d → are_earlier (length given) 0 items ≡ true
+pub table_step : (given : List (Option (List (Option ScalarType)))) (items : List Definition) (place : ℕ) (d : Definition) (xs : List TypeDeclaration) (x : TypeDeclaration)
+    → place < length items → d ≡ get_or items place d → are_earlier (is_made given) 0 items ≡ true
     → types_of xs ≡ shapes_in_tree (tables_of given (take place items)) → IsDefinedInTree d x.definition
     → types_of (xs ++ x ∷ []) ≡ shapes_in_tree (tables_of given (take (place + 1) items))
 table_step given items place d xs x within at h e is =
     let more : take (place + 1) items ≡ take place items ++ d ∷ [] = take_more items place d within ∙ ap (λ y. take place items ++ y ∷ []) (sym at) in
     let parted : items ≡ (take place items ++ d ∷ []) ++ drop (place + 1) items =
     sym (take-append-drop (place + 1) items) ∙ ap (λ ys. ys ++ drop (place + 1) items) more in
-    let front = front_earlier (length given) 0 (take place items ++ d ∷ []) (drop (place + 1) items)
-    (subst (λ ds. are_earlier (length given) 0 ds ≡ true) parted h) in
+    let front = front_earlier (is_made given) 0 (take place items ++ d ∷ []) (drop (place + 1) items)
+    (subst (λ ds. are_earlier (is_made given) 0 ds ≡ true) parted h) in
     grown given (take place items) d xs x front e is ∙ ap (λ ds. shapes_in_tree (tables_of given ds)) (sym more)
 
 -- generics of declarations

@@ -1,5 +1,5 @@
 -- What opens at the beginning of a unit, and closes at its end.
-use Rattle.std.proofs.Common.{◌≡◌, ℕ, List, [], ◌∷◌, map, reverse, refl, ap, ◌∙◌}
+use Rattle.std.proofs.Common.{◌≡◌, ℕ, Option, List, [], ◌∷◌, map, reverse, refl, sym, ap, ◌∙◌}
 use Rattle.std.specs.declared.vec.Vec.{Vec}
 use Rattle.std.specs.declared.alloc.Global.{Global}
 use Rattle.ada_tree.specs.declared.types.Subtype.{Subtype}
@@ -12,8 +12,10 @@ use Rattle.symbol_table.specs.Alike.{IsKnownRegion}
 use Rattle.symbol_table.specs.Changes.{Becomes, Reopens, Closes}
 use Rattle.symbol_table.proofs.PlaceLaws.{region_stays}
 use Rattle.program_walk.specs.declared.walk.Walk.{Walk}
-use Rattle.program_walk.specs.States.{state_of, subtype_there}
-use Rattle.unit_walk.specs.Entering.{Enters, Leaves}
+use Rattle.program_walk.specs.declared.found.Found.{Found}
+use Rattle.program_walk.specs.Finding.{FindsUnitWords}
+use Rattle.program_walk.specs.States.{state_of, with_found, subtype_there}
+use Rattle.unit_walk.specs.Entering.{Enters, Leaves, LeavesWords}
 
 -- one change after another, as what both come to
 joined : (old middle new : Symbols) (rs ss ts : List (List (List ℕ × Entity))) (is js us : List Interface) → Becomes old middle rs is
@@ -48,3 +50,19 @@ pub left : (old middle new : Symbols) → Closes old middle → Closes middle ne
 left old middle new a b =
     joined old middle new (enclosing old.regions) (enclosing middle.regions) (enclosing (enclosing old.regions)) old.units middle.units old.units
     a b (ap enclosing a.regions) a.units
+
+-- what a unit has declared is noted
+pub words_left : (old new : Found) (none words : Vec Subtype Global) (n own : ℕ) (g : Option ℕ) → none.items ≡ [] → words ≡ old.library_words
+    → FindsUnitWords (record old { library_words = none }) new (record { unit = n; package_unit = own; generic = g; words = words })
+    → LeavesWords old n own g new
+words_left old new none words n own g empty taken finds k env s unit generic =
+    finds k s
+    ∙ (λ z. record (with_found k old s) {
+      library_words = reverse (map (subtype_there k) (empty z));
+      unit_words = record {
+        unit = sym unit z;
+        package_unit = own;
+        generic = sym generic z;
+        words = reverse (map (subtype_there k) (ap (λ (v : Vec Subtype Global). v.items) taken z));
+      } ∷ (with_found k old s).unit_words;
+    })

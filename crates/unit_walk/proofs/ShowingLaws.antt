@@ -1,5 +1,5 @@
 -- An instance that others see, as what it gives for formal types is kept.
-use Rattle.std.proofs.Common.{ℕ, List, set, Option, map, sym, ap, subst, ◌∙◌, arith}
+use Rattle.std.proofs.Common.{ℕ, List, set, Option, map, sym, ap, subst, ◌∙◌}
 use Rattle.ada_entities.specs.declared.types.ScalarType.{ScalarType}
 use Rattle.ada_entities.specs.declared.units.Interface.TheVariants as interface
 use Rattle.ada_entities.specs.Views.{given_of}
@@ -13,7 +13,7 @@ use Rattle.unit_walk.specs.declared.instantiation.Instantiated.{Instantiated}
 use Rattle.unit_walk.specs.Instantiating.{SeesInstance}
 
 -- the table grows, and then the unit is seen: as one change
-shown_behind : (old middle new : Symbols) (n : ℕ) (g : Option ℕ) (j : ℕ) → Grows old middle
+pub shown_behind : (old middle new : Symbols) (n : ℕ) (g : Option ℕ) (j : ℕ) → Grows old middle
     → ShowsUnit middle new n (interface.Instance g j) → Becomes old new old.regions (set old.units n (interface.Instance g j))
 shown_behind old middle new n g j a b = record {
   known = λ h. b.known (a.known h);
@@ -24,9 +24,9 @@ shown_behind old middle new n g j a b = record {
 }
 
 pub instance_seen : (old middle new : Symbols) (n : ℕ) (y : Instantiated) (types : List (Option ScalarType)) (j : ℕ) → Grows old middle
-    → IsInstance old middle types j → ShowsUnit middle new n (interface.Instance y.generic j)
+    → IsInstance old middle j types → ShowsUnit middle new n (interface.Instance y.generic j)
     → ((k : Tables) → GiveSame (actuals_in k y.actuals) (map given_of types)) → SeesInstance old new n y j
 instance_seen old middle new n y types j grows made shows same k w held begins =
     units_instance old new old.regions k w n y.generic j (actuals_in k y.actuals) (shown_behind old middle new n y.generic j grows shows) begins
-    (omega (arith, made.number))
+    made.fresh
     (subst (GiveSame (actuals_in k y.actuals)) (sym (made.given held.known k (shows.begins k begins))) (same k)) held

@@ -1,8 +1,8 @@
 -- The beginning and the end of a unit, of the rules' definitions.
 use Rattle.std.specs.Prelude.{◌≡◌, ℕ, false, List, [], ◌∷◌, Option, None, Some}
-use Rattle.ada_rules.specs.Environment.{World}
+use Rattle.ada_rules.specs.Environment.{World, State, Env}
 use Rattle.ada_rules.specs.Statics.{Facts}
-use Rattle.ada_rules.specs.Units.{env_of, in_package, at_unit}
+use Rattle.ada_rules.specs.Units.{env_of, in_package, at_unit, behind_unit}
 use Rattle.ada_entities.specs.declared.entity.Entity.{Entity}
 use Rattle.ada_entities.specs.EntityViews.{Tables, region_of}
 use Rattle.ada_entities.specs.RegionCode.{enclosing}
@@ -18,7 +18,8 @@ use Rattle.program_walk.specs.declared.context.Context.{Context}
 use Rattle.program_walk.specs.declared.context.Level.TheVariants as level
 use Rattle.program_walk.specs.declared.context.Returning.TheVariants as returning
 use Rattle.program_walk.specs.declared.walk.Walk.{Walk}
-use Rattle.program_walk.specs.States.{state_of}
+use Rattle.program_walk.specs.declared.found.Found.{Found}
+use Rattle.program_walk.specs.States.{with_found, state_of}
 use Rattle.program_walk.specs.Walks.{Begins, StandsAt}
 use Rattle.unit_walk.specs.Standing.{StandsBefore}
 
@@ -57,6 +58,12 @@ Enters old seen text new =
 -- both regions of a unit are closed
 abbrev pub Leaves : (old new : Symbols) → Type 0
 Leaves old new = Becomes old new (enclosing (enclosing old.regions)) old.units
+
+-- the objects of the library level that a unit of this package has declared are noted
+abbrev pub LeavesWords : (old : Found) → (unit package_unit : ℕ) → Option ℕ → (new : Found) → Type 0
+LeavesWords old n own g new =
+    (k : Tables) (env : Env) (s : State) → env.unit_number ≡ n → env.generic ≡ g
+    → with_found k new s ≡ behind_unit env own (with_found k old s)
 
 -- what the rules look at the unit in, and the text of a package
 abbrev pub StandsInUnit : (old new : Walk) → Context → (seen : List (List ℕ × Entity)) → Type 0

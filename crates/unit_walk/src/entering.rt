@@ -2,11 +2,12 @@
 
 ghost use Rattle.std.specs.Prelude.{◌≡◌, OnOk};
 ghost use Rattle.ada_entities.specs.RegionCode.{innermost};
-ghost use Rattle.unit_walk.specs.Entering.{Enters, Leaves};
+ghost use Rattle.unit_walk.specs.Entering.{Enters, Leaves, LeavesWords};
 
 use ada_entities::Region;
-use program_walk::Walk;
+use program_walk::{Found, UnitWords, Walk};
 use std::alloc::{AllocError, Global};
+use std::mem;
 use symbol_table::Symbols;
 
 /// Enters a unit that sees this of the library, and whose text has declared this already. Types are
@@ -33,4 +34,24 @@ pub fn leave_unit(alloc: Global, symbols: &mut Symbols) -> Region
     let text = symbols.close(alloc);
     symbols.close(alloc);
     text
+}
+
+/// Notes the objects of the library level that a unit has declared in the text of a package, by the number
+/// of the package's unit, which stands in this generic or in none. Behind the unit none are left.
+pub fn note_library_words(
+    alloc: Global,
+    found: &mut Found,
+    unit: u32,
+    package_unit: u32,
+    generic: Option<u32>,
+) -> Result<(), AllocError>
+    ensures { OnOk result (LeavesWords found.old unit package_unit generic found.new) }
+{
+    let words = mem::replace(&mut found.library_words, Vec::new(alloc));
+    found.add_unit_words(UnitWords {
+        unit,
+        package_unit,
+        generic,
+        words,
+    })
 }

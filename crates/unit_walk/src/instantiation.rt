@@ -1,7 +1,8 @@
 //! Instances of generics (Ada RM 2012, 12.3).
 
-ghost use Rattle.std.specs.Prelude.{◌≡◌, IfOk, OnOk};
-ghost use Rattle.symbol_table.specs.Changes.{Continues};
+ghost use Rattle.std.specs.Prelude.{IfOk, OnOk};
+ghost use Rattle.ada_entities.specs.declared.units.Interface.TheVariants as interface;
+ghost use Rattle.symbol_table.specs.Changes.{ShowsUnit};
 ghost use Rattle.static_parts.specs.Places.{ComesTo};
 ghost use Rattle.unit_walk.specs.Instantiating.{instantiated_of, instance_part, AreFormalsOf, NotesMade, Makes, KeepsSymbols, SeesInstance};
 
@@ -90,20 +91,20 @@ pub fn make_instance(
     note_made(&mut walk.notes.statics, made.generic, number)
 }
 
-/// Lets other units see a made instance as the unit with this number, and answers the number that it has
-/// in the table of types: that of the next instance there.
+/// Lets other units see a made instance, which has this number in the text, as the unit with that
+/// number. Instances are made in the order of dependence, each of them once.
 pub fn show_instance(
     alloc: Global,
     symbols: &mut Symbols,
     unit: u32,
+    number: u32,
     made: &Instantiated,
-) -> Result<u32, AllocError>
-    ensures number { IfOk result (λ j. j ≡ symbols.old.extent.instances) }
-    ensures shown { IfOk result (SeesInstance symbols.old symbols.new unit made.now) }
-    ensures added { OnOk result (Continues symbols.old symbols.new) }
+) -> Result<(), AllocError>
+    ensures shown { OnOk result (SeesInstance symbols.old symbols.new unit made.now number) }
+    ensures added { OnOk result (ShowsUnit symbols.old symbols.new unit (interface.Instance made.now.generic number)) }
 {
     let types = given_types(alloc, made.actuals.as_slice())?;
-    let instance = symbols.add_instance(types)?;
-    symbols.set_unit(unit, Interface::Instance(made.generic, instance))?;
-    Ok(instance)
+    symbols.add_instance(number, types)?;
+    symbols.set_unit(unit, Interface::Instance(made.generic, number))?;
+    Ok(())
 }

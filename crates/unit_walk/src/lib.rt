@@ -4,8 +4,7 @@
 //! entered with what it sees of the library, in which its text stands: declarations are then looked at in
 //! a context whose environment is the rules' own ([`enter_unit`], [`unit_context`], [`package_context`]).
 //! An instance comes to what the rules make of its generic and its actuals ([`instance_actuals`],
-//! [`make_instance`]), and others see it by the number that the table of types gives it
-//! ([`show_instance`]).
+//! [`make_instance`]), and others see it by its number in the text ([`show_instance`]).
 #![tactic(auto)]
 
 mod contexts;
@@ -15,7 +14,7 @@ mod instantiation;
 mod laws;
 
 pub use contexts::{package_context, unit_context};
-pub use entering::{enter_unit, leave_unit};
+pub use entering::{enter_unit, leave_unit, note_library_words};
 pub use instances::instances_before;
 pub use instantiation::{Instantiated, instance_actuals, make_instance, show_instance};
 pub use laws::{

@@ -168,6 +168,13 @@ impl Nodes for WithClause {
     }
 }
 
+/// The number of nodes of a subprogram's body. The count stands still at 2^32 - 1.
+pub fn body_node_count(body: &SubprogramBody) -> u32
+    ensures { result ≡ capped (count.body_nodes body.now) }
+{
+    body.nodes()
+}
+
 /// The number of nodes of what a unit declares, without its context clauses. The count stands still at
 /// 2^32 - 1.
 pub fn item_node_count(item: &LibraryItem) -> u32

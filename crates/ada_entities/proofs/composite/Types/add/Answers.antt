@@ -1,4 +1,5 @@
 use Rattle.std.proofs.Common.{[], is_ok, length, true, sym, ap, ◌∙◌, arith, ◌≡◌}
+use Rattle.ada_entities.specs.Views.{is_made}
 use Rattle.ada_entities.specs.Tables.{is_earlier, instances_of, tables_of}
 use Rattle.ada_entities.proofs.TableLaws.{shapes_length, added, earlier_pushed}
 use Rattle.ada_entities.proofs.composite.Types.add.Goals as goal
@@ -6,10 +7,10 @@ use Rattle.ada_entities.proofs.composite.Types.add.Goals as goal
 pub invariant_of-self : goal.invariant_of-self
 invariant_of-self c =
     let old = c.args.self.now in
-    let m = length old.instances.items in
+    let m = is_made old.instances.items in
     let n = length old.definitions.items in
-    let counts : is_earlier (length c.as_slice.result.now) (length c.as_slice-types.result.now) c.args.definition ≡ is_earlier m n c.args.definition =
-    ap (λ xs. is_earlier (length xs) (length c.as_slice-types.result.now) c.args.definition) c.as_slice.ensures.value
+    let counts : is_earlier (is_made c.as_slice.result.now) (length c.as_slice-types.result.now) c.args.definition ≡ is_earlier m n c.args.definition =
+    ap (λ xs. is_earlier (is_made xs) (length c.as_slice-types.result.now) c.args.definition) c.as_slice.ensures.value
     ∙ ap (λ xs. is_earlier m (length xs) c.args.definition) c.as_slice-types.ensures.value in
     let known : is_earlier m n c.args.definition ≡ true = sym counts ∙ (sym c.is_earlier.ensures ∙ c.if-not-is_earlier.false) in
     record {

@@ -1,4 +1,4 @@
-use Rattle.std.proofs.Common.{◌≡◌, sym, ap, ◌∙◌}
+use Rattle.std.proofs.Common.{sym, ap, ◌∙◌}
 use Rattle.ada_entities.specs.Tables.{array_parts}
 use Rattle.ada_entities.proofs.Agreement.{type_agrees}
 use Rattle.symbol_table.proofs.AlikeLaws.{agreeing}

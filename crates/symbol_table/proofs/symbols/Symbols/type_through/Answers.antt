@@ -13,5 +13,5 @@ returns c known k b =
     let i = c.args.instance in
     sym (type_agrees (agreeing a) c.type_seen-through.result (sym c.knows_type-else-not-knows_type.ensures ∙ c.if-not-knows_type-2.false))
     ∙ c.type_seen-through.ensures
-    ∙ ap (λ xs. type_seen i xs (type_of (tables c.args.self.now.types) c.args.of)) (a.instances i c.if-instance-self.false)
+    ∙ ap (λ xs. type_seen i xs (type_of (tables c.args.self.now.types) c.args.of)) (a.instances i (sym c.knows_instance.ensures ∙ c.if-not-knows_instance.false))
     ∙ ap (type_seen i (actuals_of k.types i)) (type_agrees (agreeing a) c.args.of (sym c.knows_type.ensures ∙ c.if-not-knows_type.false))
