@@ -15,7 +15,6 @@ mod results;
 mod routines;
 mod specification;
 
-pub use formals::formals_declared;
 pub use alone::profile_alone;
 pub use formals::formals_declared;
 pub use objects::{number_behind, tree_subtype};
