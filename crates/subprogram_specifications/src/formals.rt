@@ -15,7 +15,7 @@ ghost use Rattle.subprogram_specifications.specs.Routines.{ComesToRegion};
 ghost use Rattle.subprogram_specifications.specs.Formals.{object_declared, AddsFormal, ComesToFormal};
 
 use crate::alone::profile_alone;
-use crate::objects::next;
+use crate::objects::number_behind;
 use crate::routines::{enter_routine, owner};
 use ada_entities::{
     AdaType, Completion, Entity, FormalKind, Identity, Refusal, Routine, ScalarType, Subtype,
@@ -184,7 +184,7 @@ pub fn formals_declared(
     let mut place = 0;
     for formal in formals {
         formal_declared(alloc, context, walk, place, formal)?;
-        place = next(place)?;
+        place = number_behind(place)?;
     }
     Ok(())
 }

@@ -17,5 +17,6 @@ mod specification;
 
 pub use alone::profile_alone;
 pub use formals::formals_declared;
+pub use objects::{number_behind, tree_subtype};
 pub use routines::{add_routine, body_number, new_routine, subprogram_declared};
 pub use specification::specified;

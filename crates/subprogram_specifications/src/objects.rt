@@ -61,7 +61,7 @@ impl ParameterForm {
 }
 
 /// A subtype as the typed program has it. One that leads nowhere has no memory.
-pub(crate) fn tree_subtype(symbols: &Symbols, subtype: Subtype) -> Result<TreeSubtype, AllocError>
+pub fn tree_subtype(symbols: &Symbols, subtype: Subtype) -> Result<TreeSubtype, AllocError>
     ensures { IfOk result (IsTreeOf symbols.now subtype) }
 {
     if !symbols.knows(subtype.of) {
@@ -70,8 +70,8 @@ pub(crate) fn tree_subtype(symbols: &Symbols, subtype: Subtype) -> Result<TreeSu
     Ok(subtype_in_tree(subtype))
 }
 
-/// The number behind this one.
-pub(crate) fn next(number: u32) -> Result<u32, AllocError>
+/// The number behind this one. One beyond 2^32 - 1 has no memory.
+pub fn number_behind(number: u32) -> Result<u32, AllocError>
     ensures { IfOk result (λ n. n ≡ number + 1) }
 {
     number.checked_add(1).ok_or(AllocError)
@@ -108,7 +108,7 @@ pub(crate) fn note_limit(
     let mut number = first;
     for name in names {
         note_excess(decisions, number, name.pos)?;
-        number = next(number)?;
+        number = number_behind(number)?;
     }
     Ok(())
 }

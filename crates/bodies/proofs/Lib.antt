@@ -1,0 +1,9 @@
+pub mod GoingLaws
+pub mod ContextLaws
+pub mod TypedLaws
+pub mod RecordingLaws
+pub mod EndLaws
+pub mod InsideLaws
+pub mod HeadLaws
+pub mod HeadWalks
+pub mod ItemLaws
