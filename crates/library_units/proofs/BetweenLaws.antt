@@ -25,7 +25,8 @@ use Rattle.symbol_table.proofs.RegionChanges.{innermost_known}
 use Rattle.program_walk.specs.declared.context.Context.{Context}
 use Rattle.program_walk.specs.declared.walk.Walk.{Walk}
 use Rattle.program_walk.specs.Walks.{Begins, Continues, StandsAt}
-use Rattle.declarations.specs.Going.{Stays}
+use Rattle.declarations.specs.Going.{Stays, GoesInside}
+use Rattle.declarations.proofs.GoingLaws.{inside_continues, stays_behind}
 use Rattle.unit_walk.specs.Standing.{StandsBefore}
 use Rattle.unit_walk.specs.Entering.{IsUnitContext, IsEntered, Enters, Leaves}
 use Rattle.unit_walk.proofs.StandingLaws.{in_unit}
@@ -135,3 +136,59 @@ reopened_innermost old middle new r known is a opens =
 
 pub entered_open : (old new : Walk) (seen text : List (List ℕ × Entity)) → IsEntered old seen text new → IsOpen new.symbols
 entered_open old new seen text e = subst (λ rs. 0 < length rs) (sym e.symbols.regions) (omega arith)
+
+-- the text of a package, in which formals are declared, whose region is copied, and then other declarations
+pub kept_open : (old new : Symbols) → Becomes old new (innermost old.regions ∷ enclosing old.regions) old.units → IsOpen new
+kept_open old new g = subst (λ rs. 0 < length rs) (sym g.regions) (omega arith)
+
+pub goes_stay : (old new : Walk) (f : Failure Refusal) → GoesInside old new → Stays old new f
+goes_stay old new (Fault x) g = inside_continues old new g
+goes_stay old new WantOfMemory g = tt
+
+module _ (old first second fourth : Walk) (seen : List (List ℕ × Entity)) (e : IsEntered old seen [] first) (goes : GoesInside first second)
+    (copied : Symbols) (kept : Becomes second.symbols copied (innermost second.symbols.regions ∷ enclosing second.symbols.regions) second.symbols.units) where
+  abbrev third : Walk
+  third = record second { symbols = copied }
+
+  third_continues : Continues old third
+  third_continues k b =
+      entered_continues old first seen [] e k
+      (inside_continues first second goes k (record { symbols = kept.begins k b.symbols; spans = b.spans }))
+
+  pub items_stay : (f : Failure Refusal) → Stays third fourth f → Stays old fourth f
+  items_stay f stays = stays_behind old third fourth f third_continues stays
+
+  module _ (goes_on : GoesInside third fourth) (left : Symbols) (leaves : Leaves fourth.symbols left) where
+    in_its_text : Becomes first.symbols fourth.symbols (innermost fourth.symbols.regions ∷ seen ∷ []) first.symbols.units
+    in_its_text = record {
+      known = λ h. goes_on.symbols.known (kept.known (goes.symbols.known h));
+      stays = λ h k l a.
+          goes.symbols.stays h k l (kept.stays (goes.symbols.known h) k l (goes_on.symbols.stays (kept.known (goes.symbols.known h)) k l a));
+      begins = λ k b. goes.symbols.begins k (kept.begins k (goes_on.symbols.begins k b));
+      regions = goes_on.symbols.regions
+          ∙ ap (λ rs. innermost fourth.symbols.regions ∷ rs)
+          (ap enclosing kept.regions ∙ (ap enclosing goes.symbols.regions ∙ ap enclosing e.symbols.regions));
+      units = goes_on.symbols.units ∙ (kept.units ∙ goes.symbols.units);
+    }
+
+    pub text_left : Becomes old.symbols left [] old.symbols.units
+    text_left = left_becomes old first fourth.symbols left seen [] (innermost fourth.symbols.regions) e in_its_text leaves
+
+    -- what the formals and all declarations lead to is there still
+    pub text_known : IsKnown old.symbols → (formals region : List (List ℕ × Entity)) → formals ≡ innermost second.symbols.regions
+        → region ≡ innermost fourth.symbols.regions → IsKnownRegion left.extent formals × IsKnownRegion left.extent region
+    text_known known formals region is are =
+        let second_known = goes.symbols.known (e.symbols.known known) in
+        let copied_known = kept.known second_known in
+        let fourth_known = goes_on.symbols.known copied_known in
+        let of_formals = subst (IsKnownRegion second.symbols.extent) (sym is)
+        (innermost_known second.symbols.extent second.symbols.regions second_known.regions) in
+        let of_region = subst (IsKnownRegion fourth.symbols.extent) (sym are)
+        (innermost_known fourth.symbols.extent fourth.symbols.regions fourth_known.regions) in
+        let then_copied = region_stays second.symbols copied (innermost second.symbols.regions ∷ enclosing second.symbols.regions)
+        second.symbols.units formals kept second_known of_formals in
+        let then_items = region_stays copied fourth.symbols (innermost fourth.symbols.regions ∷ enclosing copied.regions) copied.units formals
+        goes_on.symbols copied_known then_copied in (
+          region_stays fourth.symbols left (enclosing (enclosing fourth.symbols.regions)) fourth.symbols.units formals leaves fourth_known then_items,
+          region_stays fourth.symbols left (enclosing (enclosing fourth.symbols.regions)) fourth.symbols.units region leaves fourth_known of_region,
+        )

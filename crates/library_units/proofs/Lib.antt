@@ -1,3 +1,4 @@
 pub mod BetweenLaws
 pub mod InstanceLaws
 pub mod SubprogramLaws
+pub mod PackageLaws

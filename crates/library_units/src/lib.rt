@@ -3,8 +3,10 @@
 
 mod instances;
 mod place;
+mod shown_packages;
 mod subprograms;
 
 pub use instances::instance_shown;
 pub use place::UnitPlace;
+pub use shown_packages::package_shown;
 pub use subprograms::subprogram_shown;
