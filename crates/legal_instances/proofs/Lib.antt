@@ -1,0 +1,4 @@
+mod Sums
+mod Picking
+mod Cycles
+mod WholeOrder
