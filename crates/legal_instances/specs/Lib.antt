@@ -1,1 +1,5 @@
 pub mod Ordered
+pub mod InOrder
+pub mod Looked
+pub mod Within
+pub mod Resolved
