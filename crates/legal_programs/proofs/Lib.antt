@@ -32,3 +32,6 @@ pub mod FactsInBase
 pub mod SubprogramPlaces
 pub mod KeptNames
 pub mod NamedBodies
+mod PlacedExpressions
+mod PlacedDecisions
+mod PlacedDecisionUnits
