@@ -17,6 +17,7 @@ mod WithinStatements
 mod WithinBodies
 mod WithinWorld
 mod WithinFormals
+mod FormedActuals
 mod ValuesAgree
 mod WithinUnits
 mod WithinInstances

@@ -1,5 +1,5 @@
 -- Constants of a legal program have the values of their expressions in each instance.
-use Rattle.std.proofs.Common.{◌≡◌, ◌≤◌, ◌<◌, ◌+◌, ℕ, zero, suc, pred, nat_eq, Bool, true, false, if◌then◌else◌, List, [], ◌∷◌, ◌++◌, reverse, length, Option, Some, None, option_map, slice_get, refl, sym, ap, ◌∙◌, subst, arith, inl, inr, append-nil}
+use Rattle.std.proofs.Common.{◌≡◌, ◌≤◌, ◌<◌, ◌+◌, ℕ, zero, suc, pred, nat_eq, pos, Bool, true, false, if◌then◌else◌, List, [], ◌∷◌, ◌++◌, reverse, length, Option, Some, None, option_map, slice_get, refl, sym, ap, ◌∙◌, subst, arith, inl, inr, append-nil}
 use Rattle.std.specs.Prelude.{unwrap_or}
 use Rattle.std.specs.Option.{option_and_then}
 use Rattle.std.specs.List.{sum_by}
@@ -8,8 +8,9 @@ use Rattle.std.proofs.lemmas.Bool.{eqb-true, false≢true}
 use Rattle.cov_base.specs.Lists.{Everywhere, Somewhere}
 use Rattle.ada_syntax.specs.declared.unit.Unit.{Unit as LibraryUnit}
 use Rattle.ada_meaning.specs.Bodies.{StandsIn}
-use Rattle.ada_meaning.specs.Program.{GenericConstant, Instance, Program}
-use Rattle.ada_meaning.specs.Statics.{InstanceValues, constant_values, constants_of, values_of}
+use Rattle.ada_meaning.specs.Arithmetic.{base_range}
+use Rattle.ada_meaning.specs.Program.{FormalActual, actual_object, actual_type, actual_subprogram, GenericConstant, Instance, Program}
+use Rattle.ada_meaning.specs.Statics.{static_value, static_bounds, InstanceValues, constant_values, constants_of, values_of}
 use Rattle.ada_rules.specs.Entities.{whole_standard}
 use Rattle.ada_rules.specs.Environment.{typing, State, beginning_state}
 use Rattle.ada_rules.specs.Legal.{with_values}
@@ -18,6 +19,7 @@ use Rattle.ada_rules.specs.Statics.{Asked, Facts, number_of_fact, bounds_of_fact
 use Rattle.ada_rules.specs.Units.{all_interfaces, all_bodies_judged, world_before, all_with_constants}
 use Rattle.legal_laws.specs.Served.{HaveOwnValues}
 use Rattle.legal_laws.specs.Scoped.{AreValued}
+use Rattle.legal_laws.proofs.Passing.{every_so}
 use Rattle.legal_laws.proofs.ScopedValues.{first_values, values_kept}
 use Rattle.legal_laws.proofs.Values.{values_alike}
 use Rattle.legal_programs.specs.Final.{IsServed}
@@ -29,9 +31,10 @@ use Rattle.legal_programs.proofs.Headings.{are_headed, have_homes}
 use Rattle.legal_programs.proofs.Lists.{longer_both}
 use Rattle.legal_programs.proofs.Passed.{of_ok}
 use Rattle.legal_instances.specs.InOrder.{UnitsRise}
-use Rattle.legal_instances.specs.Resolved.{HaveConstants}
+use Rattle.legal_instances.specs.Resolved.{HaveConstants, IsStaticActual, HaveStaticActuals}
 use Rattle.legal_instances.specs.Within.{Made, count_in, AreConstantsWithin}
 use Rattle.legal_instances.proofs.Cycles.{In}
+use Rattle.legal_instances.proofs.FormedActuals.{IsFormed, AreFormed, all_formed_stay, formed_in_order, formed_with_values}
 use Rattle.legal_instances.proofs.InstanceNumbers.{IsInstanceAt}
 use Rattle.legal_instances.proofs.KeptWalk.{is_instance_there, with_instance_unit, instances_among}
 use Rattle.legal_instances.proofs.LegalInstances.{instances_are, all_beside, in_places, facts_of_instances, looked_at}
@@ -40,6 +43,7 @@ use Rattle.legal_instances.proofs.TextInstances.{AreBeside, units_once, same_onc
 use Rattle.legal_instances.proofs.ValuesAgree.{Agree, AreListWithin, in_order_within, constants_agree, values_joined, values_length, AllLook, all_valued}
 use Rattle.legal_instances.proofs.WholeOrder.{none_some, or_else, among_units, legal_order}
 use Rattle.legal_instances.proofs.WithinLibrary.{IsAllReady, interfaces_ready, ready_at_first, all_bodies_so}
+use Rattle.legal_instances.proofs.WithinMore.{own_grown}
 use Rattle.legal_instances.proofs.WithinUnits.{made_by, made_from, IsValued}
 
 -- items of lists
@@ -392,3 +396,26 @@ module _ (us : List LibraryUnit) (main : List ℕ) (p : Program) (is : IsLegal (
       subst (HaveConstants p 1) (sym (instances_are whole_standard us main p is rise ∙ ap (with_values (in_places whole_standard us main p is rise)) facts_are))
       (have_constants is.walked.next.demands 0 1 (in_places whole_standard us main p is rise) S
       (subst (AreBeside is.walked.next.demands 0 (in_places whole_standard us main p is rise)) facts_are (all_beside whole_standard us main p is rise)))
+
+  -- and its actuals
+  values_are : instance_values F ≡ values_of p
+  values_are =
+      ap instance_values (sym facts_are) ∙ sym (values_alike p is.walked.world.instances (facts_of_instances whole_standard us main p is rise).0)
+
+  all_formed : AreFormed had F p.instances
+  all_formed =
+      subst (AreFormed had F) (sym (instances_are whole_standard us main p is rise ∙ ap (with_values (in_places whole_standard us main p is rise)) facts_are))
+      (formed_with_values had F (in_places whole_standard us main p is rise) F
+      (formed_in_order had F is.walk.seen.next.instances_declared
+      (all_formed_stay had had (own_grown had) S F agree is.walk.seen.next.instances_declared ready_all.ready.formed)))
+
+  static_actuals : (actuals : List FormalActual) → Everywhere (IsFormed had F) actuals → Everywhere (IsStaticActual p) actuals
+  static_actuals [] h = tt
+  static_actuals (actual_object e x ∷ actuals) h =
+      (h.0.1 ∙ ap (λ v. unwrap_or (static_value v 0 e) (pos 0)) values_are, static_actuals actuals h.1)
+  static_actuals (actual_type r b c ∷ actuals) h =
+      (h.0.1 ∙ ap (λ v. unwrap_or (static_bounds v 0 r) base_range) values_are, static_actuals actuals h.1)
+  static_actuals (actual_subprogram t ∷ actuals) h = (tt, static_actuals actuals h.1)
+
+  pub all_actuals : HaveStaticActuals p
+  all_actuals = every_so (λ i. Everywhere (IsFormed had F) i.actuals) (λ i. Everywhere (IsStaticActual p) i.actuals) p.instances (λ i h. static_actuals i.actuals h) all_formed

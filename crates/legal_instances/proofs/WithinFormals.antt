@@ -80,7 +80,7 @@ module _ (had : Made) where
       (λ rest u. record { goes = goes_both had env.generic s region.next rest.next h.goes u.goes; value = u.value })))
 
   -- actuals
-  actual_goes : (env : Env) (s : State) (n : ℕ) (before : List Actual) (f : Entity) (x : source.Expr) → IsHere had env s
+  pub actual_goes : (env : Env) (s : State) (n : ℕ) (before : List Actual) (f : Entity) (x : source.Expr) → IsHere had env s
       → IfPassed (actual_plan env s n before f x).outcome (Go had env.generic s)
   actual_goes env s n before (formal_object t e) x here =
       part_so (GivesSo had env.generic (ValuedSo had env.generic) s) (Go had env.generic s)

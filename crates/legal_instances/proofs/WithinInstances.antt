@@ -1,5 +1,5 @@
 -- An instance has the values of the constants of its generic, where these look no further than at what was declared before.
-use Rattle.std.proofs.Common.{◌≡◌, ◌≤◌, ◌<◌, ℕ, zero, suc, pred, nat_eq, Bool, true, false, List, [], ◌∷◌, reverse, length, Option, Some, None, IfSome, IfOk, set, slice_get, refl, sym, ap, ◌∙◌, subst, arith, inl, inr}
+use Rattle.std.proofs.Common.{◌≡◌, ◌≤◌, ◌<◌, ℕ, zero, suc, pred, nat_eq, Bool, true, false, List, [], ◌∷◌, map, reverse, length, Option, Some, None, IfSome, IfOk, set, slice_get, refl, sym, ap, ◌∙◌, subst, arith, inl, inr}
 use Rattle.std.specs.Prelude.{◌||◌, unwrap_or}
 use Rattle.std.specs.Option.{option_and_then}
 use Rattle.std.proofs.lemmas.Bool.{eqb-true, eq-eqb, false≢true}
@@ -12,7 +12,7 @@ use Rattle.ada_meaning.specs.Program.{GenericConstant}
 use Rattle.ada_meaning.specs.Statics.{constants_of}
 use Rattle.ada_rules.specs.Entities.{key, Entity, hidden, mark, literal, object, formal_object, routine, raisable, component, test_io, unit, Region, Actual, visible}
 use Rattle.ada_rules.specs.Environment.{typing, Interface, no_interface, package_interface, generic_interface, instance_interface, subprogram_interface, World, interface_of, State, Env, regions_of}
-use Rattle.ada_rules.specs.Instances.{generic_number, generic_of, generic_or_any, generic_named, formals_of, actuals_judged, facts_made}
+use Rattle.ada_rules.specs.Instances.{generic_number, generic_of, generic_or_any, generic_named, formals_of, actuals_judged, facts_made, typed_actual}
 use Rattle.ada_rules.specs.Library.{count_instances, instance_number}
 use Rattle.ada_rules.specs.Plan.{◌>>=◌, rule}
 use Rattle.ada_rules.specs.Statics.{Facts, number_of_fact, bounds_of_fact, with_constants, instance_values}
@@ -22,15 +22,16 @@ use Rattle.legal_programs.specs.Growing.{Adds}
 use Rattle.legal_programs.proofs.Adding.{Add, adds_both}
 use Rattle.legal_programs.proofs.ExtendingUnits.{actuals_add, adds_at_unit}
 use Rattle.legal_programs.proofs.Lists.{longer_same, longer_both}
-use Rattle.legal_instances.specs.Within.{Made, count_in, had_by, IsRegionWithin, Goes, own_of, HasParts, IsInterfaceWithin}
+use Rattle.legal_instances.specs.Within.{Made, IsHere, count_in, had_by, IsRegionWithin, Goes, own_of, HasParts, IsInterfaceWithin}
 use Rattle.legal_instances.proofs.Cycles.{In}
+use Rattle.legal_instances.proofs.FormedActuals.{AreActualsWithin, actuals_so, AreFormed, formed_first, formed_stays, all_formed_stay}
 use Rattle.legal_instances.proofs.InstanceNumbers.{IsInstanceAt, number_positive, number_counted, set_here, set_others}
 use Rattle.legal_instances.proofs.KeptInstances.{numbers_apart}
 use Rattle.legal_instances.proofs.KeptInterfaces.{StandOnce}
 use Rattle.legal_instances.proofs.KeptWalk.{instance_so}
 use Rattle.legal_instances.proofs.ValuesAgree.{AgreeAt, Agree, own_count, in_order_within, constants_agree, values_length}
 use Rattle.legal_instances.proofs.WithinFormals.{actuals_go}
-use Rattle.legal_instances.proofs.WithinMore.{IsMore, region_more, constants_more}
+use Rattle.legal_instances.proofs.WithinMore.{IsMore, own_grown, region_more, constants_more}
 use Rattle.legal_instances.proofs.WithinStatements.{Go}
 use Rattle.legal_instances.proofs.WithinUnits.{made_by, made_from, key_made, key_instance, IsValued, IsReady, generic_same, other_same, set_world}
 use Rattle.legal_instances.proofs.WithinWorld.{unit_here, own_is_longer}
@@ -94,7 +95,7 @@ same_at fs gs (suc i) less e n = same_values fs gs i e n
 
 module _ (us : List LibraryUnit) (ks ns : List ℕ) (n : ℕ) (at : IsInstanceAt us n) (once : StandOnce (n ∷ ns)) (w : World) (s : State)
     (ready : IsReady us ks (n ∷ ns) (record { world = w; next = s })) (i : SourceInstance) (g : ℕ) (generic : IsGenericThere w g) (actuals : List Actual) (t : State)
-    (all : Adds s t) (goes : Goes (made_by us ks w.instances) None s t) where
+    (all : Adds s t) (goes : Goes (made_by us ks w.instances) None s t) (looks : AreActualsWithin (made_by us ks w.instances) actuals) where
   abbrev k : ℕ
   k = instance_number n us
 
@@ -302,6 +303,12 @@ module _ (us : List LibraryUnit) (ks ns : List ℕ) (n : ℕ) (at : IsInstanceAt
         ∙ (ap count_in (set_others w.instances (pred k) (pred (instance_number m us)) has other)
         ∙ (sym (count_at w.instances (instance_number m us) (number_positive m us)) ∙ ready.unmade m (inr there) here)));
     apart = λ m there h. not_both m there h;
+    formed = (
+      formed_stays had more grown w.instances facts (agree_before had (own_grown had) has) (map (typed_actual w.instances) actuals)
+          (formed_first had w.instances actuals looks),
+      subst (AreFormed more facts) (sym all.instances)
+          (all_formed_stay had more grown w.instances facts (agree_before had (own_grown had) has) s.instances_declared ready.formed),
+    );
   }
     where
       not_both : (m : ℕ) → In ns m → In (n ∷ ks) m → ⊥
@@ -319,13 +326,16 @@ instance_stepped us ks ns n at once w s ready name region p i place h =
     (λ g. actuals_judged env (at_unit s) p (instance_number n us) [] (formals_of w g) i.actuals
     >>= (λ actuals. rule (Some (with_instance w p n (instance_number n us) i g actuals.value actuals.next))))
     (generic_is w n name region i.generic_name)
-    (λ g there. part_so (λ actuals. Add (at_unit s) actuals × Go had None (at_unit s) actuals) Ready (actuals_judged env (at_unit s) p (instance_number n us) [] (formals_of w g) i.actuals).answer
+    (λ g there. part_so (λ actuals. (Add (at_unit s) actuals × Go had None (at_unit s) actuals) × AreActualsWithin had actuals.value) Ready (actuals_judged env (at_unit s) p (instance_number n us) [] (formals_of w g) i.actuals).answer
     (λ actuals. rule (Some (with_instance w p n (instance_number n us) i g actuals.value actuals.next)))
+    (both_ok (λ actuals. Add (at_unit s) actuals × Go had None (at_unit s) actuals) (λ actuals. AreActualsWithin had actuals.value)
+    (actuals_judged env (at_unit s) p (instance_number n us) [] (formals_of w g) i.actuals).answer
     (both_ok (Add (at_unit s)) (Go had None (at_unit s)) (actuals_judged env (at_unit s) p (instance_number n us) [] (formals_of w g) i.actuals).answer
     (actuals_add env (at_unit s) p (instance_number n us) [] (formals_of w g) i.actuals)
-    (actuals_go had env (at_unit s) p (instance_number n us) [] (formals_of w g) i.actuals (unit_here had w s.constants_declared ready.world n name region (at_unit s) refl h)))
-    (λ actuals all. made_ready g there actuals.value actuals.next (adds_both s (at_unit s) actuals.next (adds_at_unit s) all.0)
-    (record { constants = all.1.constants; more = all.1.more }))))
+    (actuals_go had env (at_unit s) p (instance_number n us) [] (formals_of w g) i.actuals here))
+    (actuals_so had w n name region (at_unit s) p (instance_number n us) [] (formals_of w g) i.actuals here tt))
+    (λ actuals all. made_ready g there actuals.value actuals.next (adds_both s (at_unit s) actuals.next (adds_at_unit s) all.0.0)
+    (record { constants = all.0.1.constants; more = all.0.1.more }) all.1)))
   where
     env : Env
     env = env_of typing w n name region
@@ -336,7 +346,10 @@ instance_stepped us ks ns n at once w s ready name region p i place h =
     Ready : Walked → Type 0
     Ready = IsReady us (n ∷ ks) ns
 
-    made_ready : (g : Option ℕ) → IsGeneric w g → (actuals : List Actual) (t : State) → Adds s t → Goes had None s t
+    here : IsHere had env (at_unit s)
+    here = unit_here had w s.constants_declared ready.world n name region (at_unit s) refl h
+
+    made_ready : (g : Option ℕ) → IsGeneric w g → (actuals : List Actual) (t : State) → Adds s t → Goes had None s t → AreActualsWithin had actuals
         → IsReady us (n ∷ ks) ns (with_instance w p n (instance_number n us) i g actuals t)
-    made_ready None there actuals t all goes = absurd there
-    made_ready (Some g) there actuals t all goes = instance_ready us ks ns n at once w s ready i g there actuals t all goes p place
+    made_ready None there actuals t all goes looks = absurd there
+    made_ready (Some g) there actuals t all goes looks = instance_ready us ks ns n at once w s ready i g there actuals t all goes looks p place

@@ -129,6 +129,7 @@ ready_at_first us ns = record {
   fresh = λ m there. no_interface_yet us m;
   unmade = λ m there at. had_none (length us) us (instance_number m us);
   apart = λ m there h. h;
+  formed = tt;
 }
   where
     first_world : World

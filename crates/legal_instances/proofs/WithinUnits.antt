@@ -31,6 +31,7 @@ use Rattle.legal_instances.proofs.Cycles.{In}
 use Rattle.legal_instances.proofs.InstanceNumbers.{IsInstanceAt, set_others}
 use Rattle.legal_instances.proofs.KeptInstances.{AreKept}
 use Rattle.legal_instances.proofs.KeptInterfaces.{StandOnce}
+use Rattle.legal_instances.proofs.FormedActuals.{AreFormed}
 use Rattle.legal_instances.proofs.KeptWalk.{AreMadeSo, IsQuiet, quiet_so, quiet_adds}
 use Rattle.legal_instances.proofs.ValuesAgree.{AreListWithin}
 use Rattle.legal_instances.proofs.WithinBodies.{RegionSo, ProfileSo, specified_so, items_so}
@@ -95,6 +96,7 @@ pub record IsReady (us : List LibraryUnit) (ks ns : List ℕ) (x : Walked) : Typ
   pub fresh : (m : ℕ) → In ns m → interface_of x.world m ≡ no_interface
   pub unmade : (m : ℕ) → In ns m → IsInstanceAt us m → had_by x.world.instances (instance_number m us) ≡ 0
   pub apart : (m : ℕ) → In ns m → In ks m → ⊥
+  pub formed : AreFormed (made_by us ks x.world.instances) x.world.instances x.next.instances_declared
 
 -- what is seen of a unit is set
 not_generic : (w : World) (n g : ℕ) (formals region : Region) → interface_of w n ≡ no_interface → interface_of w g ≡ generic_interface formals region → n ≡ g → ⊥
@@ -249,4 +251,6 @@ module _ (us : List LibraryUnit) where
         fresh = λ m there. st.others m (λ e. once.0 (subst (In ns) (sym e) there)) ∙ h.fresh m (inr there);
         unmade = λ m there at. ap (λ fs. had_by fs (instance_number m us)) st.quiet.facts ∙ h.unmade m (inr there) at;
         apart = λ m there k. h.apart m (inr there) k;
+        formed = subst (λ fs. AreFormed (made_by us ks fs) fs y.next.instances_declared) (sym st.quiet.facts)
+            (subst (AreFormed (made_by us ks w.instances) w.instances) (sym st.quiet.declared) h.formed);
       }

@@ -1,8 +1,10 @@
 -- What instances have for the constants of their generics.
-use Rattle.std.specs.Prelude.{◌≡◌, ℕ, ◌+◌, List, [], ◌∷◌, Option}
+use Rattle.std.specs.Prelude.{◌≡◌, ℕ, ◌+◌, pos, List, [], ◌∷◌, Option, unwrap_or}
+use Rattle.cov_base.specs.Lists.{Everywhere}
+use Rattle.ada_meaning.specs.Arithmetic.{base_range}
 use Rattle.ada_meaning.specs.Bodies.{StandsIn}
-use Rattle.ada_meaning.specs.Program.{GenericConstant, Instance, Program}
-use Rattle.ada_meaning.specs.Statics.{constants_of, constant_values, values_of}
+use Rattle.ada_meaning.specs.Program.{FormalActual, actual_object, actual_type, actual_subprogram, GenericConstant, Instance, Program}
+use Rattle.ada_meaning.specs.Statics.{constants_of, constant_values, values_of, static_value, static_bounds}
 use Rattle.ada_rules.specs.Statics.{Facts}
 use Rattle.legal_laws.specs.Served.{HaveOwnValues}
 
@@ -15,3 +17,12 @@ HaveConstants p n (i ∷ is) =
 -- in each instance of the program, constants have the values of their expressions
 abbrev pub AreOwnValues : List Facts → Program → List GenericConstant → Type 0
 AreOwnValues facts p cs = (o : Option ℕ) (inst : ℕ) → StandsIn p o inst → HaveOwnValues facts inst o cs
+
+-- what an instance has for a formal is what the static expressions of the actual come to in the typed program
+abbrev pub IsStaticActual : Program → FormalActual → Type 0
+IsStaticActual p (actual_object e x) = x ≡ unwrap_or (static_value (values_of p) 0 e) (pos 0)
+IsStaticActual p (actual_type r b c) = b ≡ unwrap_or (static_bounds (values_of p) 0 r) base_range
+IsStaticActual p (actual_subprogram t) = Unit {0}
+
+abbrev pub HaveStaticActuals : Program → Type 0
+HaveStaticActuals p = Everywhere (λ i. Everywhere (IsStaticActual p) i.actuals) p.instances

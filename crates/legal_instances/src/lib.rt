@@ -23,7 +23,7 @@ ghost use Rattle.legal_laws.specs.Valued.{AreFactsOf};
 ghost use Rattle.legal_instances.specs.InOrder.{UnitsRise};
 ghost use Rattle.legal_instances.specs.Looked.{AreLookedAt};
 ghost use Rattle.legal_instances.specs.Ordered.{IsWholeOrder};
-ghost use Rattle.legal_instances.specs.Resolved.{AreOwnValues, HaveConstants};
+ghost use Rattle.legal_instances.specs.Resolved.{AreOwnValues, HaveConstants, HaveStaticActuals};
 
 /// The order of dependence of a legal program is whole: what other units see of a unit is looked at once for
 /// each that is no body of a package, behind that of all that it names.
@@ -55,4 +55,11 @@ pub fn constants_have_their_values()
         → (is : IsLegal (library_of whole_standard units) main p) → UnitsRise units
         → (o : Option ℕ) (inst : ℕ) → StandsIn p o inst → (s : State) → Extends s is.walked.next
         → IsServed is.walked.world.instances p o inst s }
+{}
+
+/// What an instance of a legal program has for its formals is what the static expressions of the actuals come to
+/// in the typed program, in no instance.
+pub fn actuals_have_their_values()
+    ensures { (units : List LibraryUnit) (main : List ℕ) (p : Program)
+        → IsLegal (library_of whole_standard units) main p → UnitsRise units → HaveStaticActuals p }
 {}
