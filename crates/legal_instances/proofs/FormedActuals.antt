@@ -1,38 +1,48 @@
 -- Actuals look statically at what was declared before, so what an instance has for its formals stays what they come to.
-use Rattle.std.proofs.Common.{◌≡◌, ℕ, pos, Bool, true, false, if◌then◌else◌, List, [], ◌∷◌, ◌++◌, map, reverse, Some, None, option_map, IfSome, IfOk, refl, ap, ◌∙◌, arith}
+use Rattle.std.proofs.Common.{◌≡◌, ℕ, ℤ, pos, Bool, true, false, if◌then◌else◌, List, [], ◌∷◌, ◌++◌, map, reverse, Option, Some, None, option_map, IfSome, IfOk, refl, sym, subst, ap, ◌∙◌, arith}
 use Rattle.std.specs.Prelude.{unwrap_or}
+use Rattle.std.specs.Option.{option_and_then}
 use Rattle.cov_base.specs.Lists.{Everywhere}
 use Rattle.cov_base.specs.TextOrder.{precedes}
 use Rattle.cov_base.specs.declared.position.Pos.{Pos}
 use Rattle.ada_syntax.specs.Tree as source
 use Rattle.ada_syntax.specs.Tree.{expr_pos}
 use Rattle.ada_meaning.specs.Arithmetic.{base_range}
+use Rattle.ada_meaning.specs.Types.{Static, static_number}
+use Rattle.ada_meaning.specs.WellFormed.{IsInBase}
 use Rattle.ada_meaning.specs.Obligations.{inserted, in_order}
 use Rattle.ada_meaning.specs.Program.{FormalActual, actual_object, actual_type, actual_subprogram, Instance}
 use Rattle.ada_rules.specs.Plan.{◌>>=◌, rule}
 use Rattle.ada_rules.specs.Denoted.{Denoted, a_mark, a_routine}
-use Rattle.ada_rules.specs.Types.{of_type, type_in, range_in, fits}
+use Rattle.ada_rules.specs.Types.{Kind, of_type, type_in, range_in, fits}
 use Rattle.ada_rules.specs.Entities.{Entity, mark, formal_object, routine, Region, Actual, object_actual, type_actual, routine_actual, routine_seen, subtype_seen}
-use Rattle.ada_rules.specs.Environment.{typing, typed_rule, World, State, Given, given, Env}
-use Rattle.ada_rules.specs.Expressions.{itself, denoted, judged, static_part}
+use Rattle.ada_rules.specs.Environment.{typing, typed_rule, World, State, Given, given, map_given, demanded, Env}
+use Rattle.ada_rules.specs.Expressions.{itself, denoted, judged, Valued, any_valued, static_known, accepted, static_part}
 use Rattle.ada_rules.specs.Declarations.{in_range}
 use Rattle.ada_rules.specs.Instances.{matches_type, formal_is_integer, same_profile, actual_for_name, any_actual, actual_plan, actuals_judged, number_of, bounds_of, typed_actual}
 use Rattle.ada_rules.specs.Legal.{with_values}
-use Rattle.ada_rules.specs.Statics.{Facts, instance_values}
+use Rattle.ada_rules.specs.Statics.{Test, Facts, instance_values, value_in}
 use Rattle.ada_rules.specs.Units.{env_of}
-use Rattle.legal_laws.proofs.Passing.{IfPassed, answered, part_so, typed_so, any_answer, both_ok}
+use Rattle.legal_laws.specs.Valued.{AreFactsInBase}
+use Rattle.legal_laws.proofs.Passing.{IfPassed, answered, part_so, typed_so, any_answer, both_ok, if_then, if_test}
+use Rattle.legal_laws.proofs.Values.{value_in_base, facts_in_base}
 use Rattle.legal_laws.proofs.KnownBodies.{every_reversed}
-use Rattle.legal_instances.specs.Within.{Made, IsWithin, IsRangeWithin, IsSubtypeWithin, IsNameWithin, IsHere}
-use Rattle.legal_instances.proofs.ValuesAgree.{AgreeAt, Agree, value_agrees, bounds_agree}
+use Rattle.legal_instances.specs.Within.{Made, IsRangeWithin, IsSubtypeWithin, IsNameWithin, IsHere}
+use Rattle.legal_instances.proofs.ValuesAgree.{AgreeAt, Agree, bounds_agree}
 use Rattle.legal_instances.proofs.WithinFormals.{actual_goes}
-use Rattle.legal_instances.proofs.WithinMore.{IsMore, within_more, range_more, here_next}
+use Rattle.legal_instances.proofs.WithinMore.{IsMore, range_more, here_next}
 use Rattle.legal_instances.proofs.WithinNames.{denoted_within}
-use Rattle.legal_instances.proofs.WithinStatics.{GivesSo, ValuedSo, static_so}
 use Rattle.legal_instances.proofs.WithinStatements.{Go}
+
+-- a number in the base range
+pub record IsBaseNumber (e : Static) : Type 0 where
+  pub number : ℤ
+  pub is : e ≡ static_number number
+  pub base : IsInBase number
 
 -- an actual in no generic
 abbrev pub IsActualWithin : Made → Actual → Type 0
-IsActualWithin had (object_actual e) = IsWithin had false 0 e
+IsActualWithin had (object_actual e) = IsBaseNumber e
 IsActualWithin had (type_actual t) = IsSubtypeWithin had false 0 t
 IsActualWithin had (routine_actual r) = Unit {0}
 
@@ -44,7 +54,7 @@ more_actuals : (had : Made) (xs : List Actual) (x : Actual) → AreActualsWithin
 more_actuals had [] x h k = (k, tt)
 more_actuals had (y ∷ xs) x h k = (h.0, more_actuals had xs x h.1 k)
 
-module _ (had : Made) (w : World) (m : ℕ) (name : List ℕ) (outer : Region) where
+module _ (had : Made) (w : World) (base : Everywhere AreFactsInBase w.instances) (m : ℕ) (name : List ℕ) (outer : Region) where
   abbrev env : Env
   env = env_of typing w m name outer
 
@@ -67,12 +77,42 @@ module _ (had : Made) (w : World) (m : ℕ) (name : List ℕ) (outer : Region) w
       of_both (routine g) (a_routine r) k = if_given (same_profile (routine_seen n before g) r) (routine_actual r) tt
       of_both g x k = tt
 
+  -- a static expression in no generic is its value
+  number_so : (z : Static) → IsBaseNumber (static_number (unwrap_or (value_in w.instances 0 z) (pos 0)))
+  number_so z = record {
+    number = unwrap_or (value_in w.instances 0 z) (pos 0);
+    is = refl;
+    base = or_zero (value_in w.instances 0 z) (value_in_base (instance_values w.instances) (facts_in_base w.instances base) 0 z);
+  }
+    where
+      or_zero : (o : Option ℤ) → IfSome o IsInBase → IsInBase (unwrap_or o (pos 0))
+      or_zero None h = refl
+      or_zero (Some x) h = h
+
+  any_known : (o : Option Static) → IfSome o (λ z. Unit {0})
+  any_known None = tt
+  any_known (Some z) = tt
+
+  abbrev NumberSo : Given Valued → Type 0
+  NumberSo v = IsBaseNumber v.value.value
+
+  static_number_so : (s : State) (accepts : Kind → Bool) (test : Static → Test) (e : source.Expr) → IfOk (static_part env s accepts test e).answer NumberSo
+  static_number_so s accepts test e =
+      answered NumberSo (expr_pos e) _
+      (part_so (λ y. Unit {0}) NumberSo (judged env itself s e).answer
+      (λ y. typed_rule env.step (given any_valued y.next) (option_and_then (accepted env y.next (expr_pos e) accepts test y.value) y.value.known))
+      (any_answer (judged env itself s e).answer)
+      (λ y u. typed_so NumberSo env.step (given any_valued y.next) (option_and_then (accepted env y.next (expr_pos e) accepts test y.value) y.value.known) refl
+      (if_then (λ z. Unit {0}) NumberSo (accepted env y.next (expr_pos e) accepts test y.value) y.value.known (any_known y.value.known)
+      (λ z k. if_test NumberSo (accepts y.value.kind)
+      (Some (map_given (λ v. record { value = v; kind = y.value.kind }) (static_known env z (demanded env (expr_pos e) (test z) y.next)))) (λ b. number_so z)))))
+
   actual_so : (s : State) (n : ℕ) (before : List Actual) (f : Entity) (x : source.Expr) → IsHere had env s → IfPassed (actual_plan env s n before f x).outcome OneWithin
   actual_so s n before (formal_object t e) x here =
-      part_so (GivesSo had None (ValuedSo had None) s) OneWithin
+      part_so NumberSo OneWithin
       (static_part env s (fits (type_in (subtype_seen n before t))) (in_range (range_in (subtype_seen n before t))) x).answer
       (λ v. rule (Some (given (object_actual v.value.value) v.next)))
-      (static_so had env s (fits (type_in (subtype_seen n before t))) (in_range (range_in (subtype_seen n before t))) x here) (λ v h. h.value.0)
+      (static_number_so s (fits (type_in (subtype_seen n before t))) (in_range (range_in (subtype_seen n before t))) x) (λ v h. h)
   actual_so s n before f (source.named p x) here =
       part_so (λ d. IsNameWithin had false 0 d.value) OneWithin (denoted env s x).answer
       (λ d. typed_rule env.step (given any_actual d.next) (option_map (λ a. given a d.next) (actual_for_name n before f d.value)))
@@ -102,7 +142,7 @@ module _ (had : Made) (w : World) (m : ℕ) (name : List ℕ) (outer : Region) w
 
 -- what an instance has for a formal is what the actual comes to behind these facts
 abbrev pub IsFormed : Made → List Facts → FormalActual → Type 0
-IsFormed had facts (actual_object e x) = IsWithin had false 0 e × (x ≡ number_of facts e)
+IsFormed had facts (actual_object e x) = IsBaseNumber e × (x ≡ number_of facts e)
 IsFormed had facts (actual_type r b c) = IsRangeWithin had false 0 r × (b ≡ bounds_of facts r)
 IsFormed had facts (actual_subprogram t) = Unit {0}
 
@@ -122,10 +162,7 @@ module _ (had more : Made) (grown : IsMore had more) (fs gs : List Facts) (other
   pub formed_stays : (actuals : List FormalActual) → Everywhere (IsFormed had fs) actuals → Everywhere (IsFormed more gs) actuals
   formed_stays [] h = tt
   formed_stays (actual_object e x ∷ actuals) h = (
-    (
-      within_more had more grown false false (λ e. e) 0 0 (omega (arith)) e h.0.0,
-      h.0.1 ∙ ap (λ o. unwrap_or o (pos 0)) (value_agrees had (instance_values fs) (instance_values gs) others false 0 0 outside e h.0.0),
-    ),
+    (h.0.0, h.0.1 ∙ subst (λ z. number_of fs z ≡ number_of gs z) (sym h.0.0.is) refl),
     formed_stays actuals h.1,
   )
   formed_stays (actual_type r b c ∷ actuals) h = (

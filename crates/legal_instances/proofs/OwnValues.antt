@@ -10,9 +10,11 @@ use Rattle.ada_syntax.specs.declared.unit.Unit.{Unit as LibraryUnit}
 use Rattle.ada_meaning.specs.Bodies.{StandsIn}
 use Rattle.ada_meaning.specs.Arithmetic.{base_range}
 use Rattle.ada_meaning.specs.Program.{FormalActual, actual_object, actual_type, actual_subprogram, GenericConstant, Instance, Program}
-use Rattle.ada_meaning.specs.Statics.{static_value, static_bounds, InstanceValues, constant_values, constants_of, values_of}
+use Rattle.ada_meaning.specs.Resolved.{number_in}
+use Rattle.ada_meaning.specs.Statics.{static_bounds, InstanceValues, constant_values, constants_of, values_of}
 use Rattle.ada_rules.specs.Entities.{whole_standard}
 use Rattle.ada_rules.specs.Environment.{typing, State, beginning_state}
+use Rattle.ada_rules.specs.Instances.{number_of}
 use Rattle.ada_rules.specs.Legal.{with_values}
 use Rattle.ada_rules.specs.Library.{Library, is_instance, count_instances, instance_number, units_but_bodies, library_of}
 use Rattle.ada_rules.specs.Statics.{Asked, Facts, number_of_fact, bounds_of_fact, with_constants, instance_values, instances_from}
@@ -411,8 +413,10 @@ module _ (us : List LibraryUnit) (main : List ℕ) (p : Program) (is : IsLegal (
 
   static_actuals : (actuals : List FormalActual) → Everywhere (IsFormed had F) actuals → Everywhere (IsStaticActual p) actuals
   static_actuals [] h = tt
-  static_actuals (actual_object e x ∷ actuals) h =
-      (h.0.1 ∙ ap (λ v. unwrap_or (static_value v 0 e) (pos 0)) values_are, static_actuals actuals h.1)
+  static_actuals (actual_object e x ∷ actuals) h = (
+    h.0.1 ∙ subst (λ z. number_of F z ≡ number_in p 0 z) (sym h.0.0.is) (ap (λ b. unwrap_or (if b then Some h.0.0.number else None) (pos 0)) h.0.0.base),
+    static_actuals actuals h.1,
+  )
   static_actuals (actual_type r b c ∷ actuals) h =
       (h.0.1 ∙ ap (λ v. unwrap_or (static_bounds v 0 r) base_range) values_are, static_actuals actuals h.1)
   static_actuals (actual_subprogram t ∷ actuals) h = (tt, static_actuals actuals h.1)

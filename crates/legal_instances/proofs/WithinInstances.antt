@@ -21,6 +21,7 @@ use Rattle.legal_laws.proofs.Passing.{answered, part_so, ruled_so, if_then, both
 use Rattle.legal_programs.specs.Growing.{Adds}
 use Rattle.legal_programs.proofs.Adding.{Add, adds_both}
 use Rattle.legal_programs.proofs.ExtendingUnits.{actuals_add, adds_at_unit}
+use Rattle.legal_programs.proofs.FactsInBase.{made_in_base, set_in_base}
 use Rattle.legal_programs.proofs.Lists.{longer_same, longer_both}
 use Rattle.legal_instances.specs.Within.{Made, IsHere, count_in, had_by, IsRegionWithin, Goes, own_of, HasParts, IsInterfaceWithin}
 use Rattle.legal_instances.proofs.Cycles.{In}
@@ -303,6 +304,7 @@ module _ (us : List LibraryUnit) (ks ns : List ℕ) (n : ℕ) (at : IsInstanceAt
         ∙ (ap count_in (set_others w.instances (pred k) (pred (instance_number m us)) has other)
         ∙ (sym (count_at w.instances (instance_number m us) (number_positive m us)) ∙ ready.unmade m (inr there) here)));
     apart = λ m there h. not_both m there h;
+    base = set_in_base w.instances k (facts_made w (Some g) actuals) (reverse cs) ready.base (made_in_base w (Some g) actuals ready.base);
     formed = (
       formed_stays had more grown w.instances facts (agree_before had (own_grown had) has) (map (typed_actual w.instances) actuals)
           (formed_first had w.instances actuals looks),
@@ -333,7 +335,7 @@ instance_stepped us ks ns n at once w s ready name region p i place h =
     (both_ok (Add (at_unit s)) (Go had None (at_unit s)) (actuals_judged env (at_unit s) p (instance_number n us) [] (formals_of w g) i.actuals).answer
     (actuals_add env (at_unit s) p (instance_number n us) [] (formals_of w g) i.actuals)
     (actuals_go had env (at_unit s) p (instance_number n us) [] (formals_of w g) i.actuals here))
-    (actuals_so had w n name region (at_unit s) p (instance_number n us) [] (formals_of w g) i.actuals here tt))
+    (actuals_so had w ready.base n name region (at_unit s) p (instance_number n us) [] (formals_of w g) i.actuals here tt))
     (λ actuals all. made_ready g there actuals.value actuals.next (adds_both s (at_unit s) actuals.next (adds_at_unit s) all.0.0)
     (record { constants = all.0.1.constants; more = all.0.1.more }) all.1)))
   where

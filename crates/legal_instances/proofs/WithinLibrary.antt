@@ -20,6 +20,7 @@ use Rattle.legal_laws.proofs.Passing.{answered, part_so, any_answer, both_ok, we
 use Rattle.legal_programs.specs.Growing.{AddsBodies}
 use Rattle.legal_programs.specs.Homes.{HasHome}
 use Rattle.legal_programs.proofs.ExtendingUnits.{bodies_adds}
+use Rattle.legal_programs.proofs.FactsInBase.{before_in_base}
 use Rattle.legal_programs.proofs.FactsCounted.{count_before}
 use Rattle.legal_instances.specs.Within.{Made, count_in, had_by, AreConstantsWithin, IsEntityWithin, IsRegionWithin, IsHere, Goes, own_of, IsInterfaceWithin, IsWorldWithin}
 use Rattle.legal_instances.specs.Ordered.{HaveSameItems}
@@ -129,6 +130,7 @@ ready_at_first us ns = record {
   fresh = λ m there. no_interface_yet us m;
   unmade = λ m there at. had_none (length us) us (instance_number m us);
   apart = λ m there h. h;
+  base = before_in_base (length us) us;
   formed = tt;
 }
   where

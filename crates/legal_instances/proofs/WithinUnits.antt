@@ -20,6 +20,7 @@ use Rattle.ada_rules.specs.Plan.{◌>>=◌, rule}
 use Rattle.ada_rules.specs.Statics.{Asked, Facts, instance_values}
 use Rattle.ada_rules.specs.Subprograms.{specified, declared_only, closed_by}
 use Rattle.ada_rules.specs.Units.{env_of, generic_at, package_items, interface_with, Walked, with_interface, at_unit, formals_in, in_package, in_specification, with_package, package_judged, with_subprogram, library_routine, library_subprogram}
+use Rattle.legal_laws.specs.Valued.{AreFactsInBase}
 use Rattle.legal_laws.proofs.Passing.{answered, part_so, any_answer, both_ok, every_so}
 use Rattle.legal_programs.specs.Growing.{IsLonger}
 use Rattle.legal_programs.proofs.Adding.{Add, adds_both}
@@ -96,6 +97,7 @@ pub record IsReady (us : List LibraryUnit) (ks ns : List ℕ) (x : Walked) : Typ
   pub fresh : (m : ℕ) → In ns m → interface_of x.world m ≡ no_interface
   pub unmade : (m : ℕ) → In ns m → IsInstanceAt us m → had_by x.world.instances (instance_number m us) ≡ 0
   pub apart : (m : ℕ) → In ns m → In ks m → ⊥
+  pub base : Everywhere AreFactsInBase x.world.instances
   pub formed : AreFormed (made_by us ks x.world.instances) x.world.instances x.next.instances_declared
 
 -- what is seen of a unit is set
@@ -251,6 +253,7 @@ module _ (us : List LibraryUnit) where
         fresh = λ m there. st.others m (λ e. once.0 (subst (In ns) (sym e) there)) ∙ h.fresh m (inr there);
         unmade = λ m there at. ap (λ fs. had_by fs (instance_number m us)) st.quiet.facts ∙ h.unmade m (inr there) at;
         apart = λ m there k. h.apart m (inr there) k;
+        base = subst (Everywhere AreFactsInBase) (sym st.quiet.facts) h.base;
         formed = subst (λ fs. AreFormed (made_by us ks fs) fs y.next.instances_declared) (sym st.quiet.facts)
             (subst (AreFormed (made_by us ks w.instances) w.instances) (sym st.quiet.declared) h.formed);
       }

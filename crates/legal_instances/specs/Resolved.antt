@@ -1,10 +1,11 @@
 -- What instances have for the constants of their generics.
-use Rattle.std.specs.Prelude.{◌≡◌, ℕ, ◌+◌, pos, List, [], ◌∷◌, Option, unwrap_or}
+use Rattle.std.specs.Prelude.{◌≡◌, ℕ, ◌+◌, List, [], ◌∷◌, Option, unwrap_or}
 use Rattle.cov_base.specs.Lists.{Everywhere}
 use Rattle.ada_meaning.specs.Arithmetic.{base_range}
 use Rattle.ada_meaning.specs.Bodies.{StandsIn}
 use Rattle.ada_meaning.specs.Program.{FormalActual, actual_object, actual_type, actual_subprogram, GenericConstant, Instance, Program}
-use Rattle.ada_meaning.specs.Statics.{constants_of, constant_values, values_of, static_value, static_bounds}
+use Rattle.ada_meaning.specs.Resolved.{number_in}
+use Rattle.ada_meaning.specs.Statics.{constants_of, constant_values, values_of, static_bounds}
 use Rattle.ada_rules.specs.Statics.{Facts}
 use Rattle.legal_laws.specs.Served.{HaveOwnValues}
 
@@ -18,9 +19,9 @@ HaveConstants p n (i ∷ is) =
 abbrev pub AreOwnValues : List Facts → Program → List GenericConstant → Type 0
 AreOwnValues facts p cs = (o : Option ℕ) (inst : ℕ) → StandsIn p o inst → HaveOwnValues facts inst o cs
 
--- what an instance has for a formal is what the static expressions of the actual come to in the typed program
+-- an instance has the value of the actual for a formal object, and what the subtype of the actual comes to for a formal type
 abbrev pub IsStaticActual : Program → FormalActual → Type 0
-IsStaticActual p (actual_object e x) = x ≡ unwrap_or (static_value (values_of p) 0 e) (pos 0)
+IsStaticActual p (actual_object e x) = x ≡ number_in p 0 e
 IsStaticActual p (actual_type r b c) = b ≡ unwrap_or (static_bounds (values_of p) 0 r) base_range
 IsStaticActual p (actual_subprogram t) = Unit {0}
 
