@@ -23,3 +23,4 @@ mod WithinUnits
 mod WithinInstances
 mod WithinLibrary
 mod OwnValues
+mod WellFormedTexts

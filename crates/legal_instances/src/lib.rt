@@ -9,13 +9,18 @@
 //! The functions here do nothing: each carries a law of the definitions as its contract.
 #![tactic(auto)]
 
-ghost use Rattle.std.specs.Prelude.{ℕ, List, Option};
+ghost use Rattle.std.specs.Prelude.{ℕ, List, Option, ◌≡◌};
 ghost use Rattle.ada_meaning.specs.Bodies.{StandsIn};
 ghost use Rattle.ada_meaning.specs.Program.{Program};
+ghost use Rattle.ada_meaning.specs.WellFormed.{IsWellFormed};
+ghost use Rattle.ada_rules.specs.Legal.{checked_with, legal};
 ghost use Rattle.ada_rules.specs.Entities.{Standard, whole_standard};
 ghost use Rattle.ada_rules.specs.Environment.{State};
 ghost use Rattle.ada_rules.specs.Library.{library_of};
 ghost use Rattle.ada_syntax.specs.declared.unit.Unit.{Unit as LibraryUnit};
+ghost use Rattle.legal_programs.specs.DecisionPlaces.{units_decisions};
+ghost use Rattle.legal_programs.specs.InText.{Rise};
+ghost use Rattle.legal_programs.specs.TextPlaces.{units_places};
 ghost use Rattle.legal_programs.specs.Final.{IsServed};
 ghost use Rattle.legal_programs.specs.Growing.{Extends};
 ghost use Rattle.legal_programs.specs.Walked.{IsLegal};
@@ -23,7 +28,7 @@ ghost use Rattle.legal_laws.specs.Valued.{AreFactsOf};
 ghost use Rattle.legal_instances.specs.InOrder.{UnitsRise};
 ghost use Rattle.legal_instances.specs.Looked.{AreLookedAt};
 ghost use Rattle.legal_instances.specs.Ordered.{IsWholeOrder};
-ghost use Rattle.legal_instances.specs.Resolved.{AreOwnValues, HaveConstants, HaveStaticActuals};
+ghost use Rattle.legal_instances.specs.Resolved.{AreOwnValues, AreTextsFormed, HaveConstants, HaveStaticActuals};
 
 /// The order of dependence of a legal program is whole: what other units see of a unit is looked at once for
 /// each that is no body of a package, behind that of all that it names.
@@ -62,4 +67,13 @@ pub fn constants_have_their_values()
 pub fn actuals_have_their_values()
     ensures { (units : List LibraryUnit) (main : List ℕ) (p : Program)
         → IsLegal (library_of whole_standard units) main p → UnitsRise units → HaveStaticActuals p }
+{}
+
+/// A program that the rules of the whole language accept is well-formed, where its units, its statements and its
+/// conditions stand in the order of the text, where the subtypes that its instances are given have bounds, and where
+/// its objects of the library level and its bodies are well-formed in each instance.
+pub fn legal_programs_are_well_formed_but_for_their_texts()
+    ensures { (units : List LibraryUnit) (main : List ℕ) (p : Program)
+        → checked_with whole_standard units main ≡ legal p → UnitsRise units
+        → Rise (units_places units) → Rise (units_decisions units) → AreTextsFormed p → IsWellFormed p }
 {}

@@ -22,7 +22,7 @@ mod DecidedParts
 mod DecidedStatements
 mod DecidedBodies
 pub mod DecidedUnits
-mod DecidedPrograms
+pub mod DecidedPrograms
 pub mod ClosedEntities
 pub mod FactsCounted
 pub mod WithoutInstances
@@ -34,4 +34,4 @@ pub mod KeptNames
 pub mod NamedBodies
 mod PlacedExpressions
 mod PlacedDecisions
-mod PlacedDecisionUnits
+pub mod PlacedDecisionUnits
