@@ -3,3 +3,4 @@ pub mod InOrder
 pub mod Looked
 pub mod Within
 pub mod Resolved
+pub mod Worked

@@ -9,7 +9,7 @@
 //! The functions here do nothing: each carries a law of the definitions as its contract.
 #![tactic(auto)]
 
-ghost use Rattle.std.specs.Prelude.{ℕ, List, Option, ◌≡◌};
+ghost use Rattle.std.specs.Prelude.{codes, ℕ, List, Option, ◌≡◌};
 ghost use Rattle.ada_meaning.specs.Bodies.{StandsIn};
 ghost use Rattle.ada_meaning.specs.Program.{Program};
 ghost use Rattle.ada_meaning.specs.WellFormed.{IsWellFormed};
@@ -28,6 +28,7 @@ ghost use Rattle.legal_laws.specs.Valued.{AreFactsOf};
 ghost use Rattle.legal_instances.specs.InOrder.{UnitsRise};
 ghost use Rattle.legal_instances.specs.Looked.{AreLookedAt};
 ghost use Rattle.legal_instances.specs.Ordered.{IsWholeOrder};
+ghost use Rattle.legal_instances.specs.Worked.{worked_program, worked_units};
 ghost use Rattle.legal_instances.specs.Resolved.{AreOwnValues, AreTextsFormed, HaveConstants, HaveStaticActuals};
 
 /// The order of dependence of a legal program is whole: what other units see of a unit is looked at once for
@@ -76,4 +77,13 @@ pub fn legal_programs_are_well_formed_but_for_their_texts()
     ensures { (units : List LibraryUnit) (main : List ℕ) (p : Program)
         → checked_with whole_standard units main ≡ legal p → UnitsRise units
         → Rise (units_places units) → Rise (units_decisions units) → AreTextsFormed p → IsWellFormed p }
+{}
+
+/// A worked program with an instance meets these premises.
+pub fn a_worked_program_with_an_instance_meets_the_premises()
+    ensures is_legal { checked_with whole_standard worked_units (codes "main") ≡ legal worked_program }
+    ensures units { UnitsRise worked_units }
+    ensures statements { Rise (units_places worked_units) }
+    ensures decisions { Rise (units_decisions worked_units) }
+    ensures formed { AreTextsFormed worked_program }
 {}
