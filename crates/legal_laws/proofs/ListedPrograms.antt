@@ -39,7 +39,7 @@ one_way a b x y less h = by_less (nat_lt a b) refl h
     by_less true e k = after_less (nat_lt b a) (nat_eq b a) y (greater a b e).0 (greater a b e).1
     by_less false e k = by_equal (nat_eq a b) e refl k
 
-one_before : (a b : Pos) → precedes a b ≡ true → precedes b a ≡ false
+pub one_before : (a b : Pos) → precedes a b ≡ true → precedes b a ≡ false
 one_before a b h =
     one_way a.file b.file (comes_first a.line b.line (nat_lt a.col b.col)) (comes_first b.line a.line (nat_lt b.col a.col))
     (λ k. one_way a.line b.line (nat_lt a.col b.col) (nat_lt b.col a.col) (λ l. (greater a.col b.col l).0) k) h

@@ -45,12 +45,12 @@ in_front [] ys k h = absurd (none_less k h)
 in_front (x ∷ xs) ys zero h = refl
 in_front (x ∷ xs) ys (suc k) h = in_front xs ys k (omega (arith, h))
 
-last_of : {X : Type 0} (xs : List X) (x : X) → slice_get (xs ++ x ∷ []) (length xs) ≡ Some x
+pub last_of : {X : Type 0} (xs : List X) (x : X) → slice_get (xs ++ x ∷ []) (length xs) ≡ Some x
 last_of [] x = refl
 last_of (y ∷ xs) x = last_of xs x
 
 -- the first values stay
-first_values : (v : InstanceValues) (inst : ℕ) (xs : List (Option ℤ)) (cs : List GenericConstant) (k : ℕ) → k < length xs
+pub first_values : (v : InstanceValues) (inst : ℕ) (xs : List (Option ℤ)) (cs : List GenericConstant) (k : ℕ) → k < length xs
     → slice_get (constant_values v inst xs cs) k ≡ slice_get xs k
 first_values v inst xs [] k h = refl
 first_values v inst xs (c ∷ cs) k h =
@@ -85,7 +85,7 @@ module _ (v w : InstanceValues) (inst : ℕ) (had : ℕ → ℕ) (objects : (i k
       )
 
 -- the constants of a generic, with the latest first
-abbrev only_if : Bool → GenericConstant → List GenericConstant
+abbrev pub only_if : Bool → GenericConstant → List GenericConstant
 only_if b c = if b then c ∷ [] else []
 
 with_first : (b : Bool) (d : GenericConstant) (xs ys zs : List GenericConstant) → xs ≡ (ys ++ zs)
@@ -93,7 +93,7 @@ with_first : (b : Bool) (d : GenericConstant) (xs ys zs : List GenericConstant) 
 with_first true d xs ys zs h = ap (λ x. d ∷ x) h
 with_first false d xs ys zs h = h
 
-constants_joined : (g : ℕ) (cs : List GenericConstant) (c : GenericConstant)
+pub constants_joined : (g : ℕ) (cs : List GenericConstant) (c : GenericConstant)
     → constants_of g (cs ++ c ∷ []) ≡ (constants_of g cs ++ only_if (nat_eq c.generic g) c)
 constants_joined g [] c = refl
 constants_joined g (d ∷ cs) c =
@@ -103,7 +103,7 @@ count_if : (b : Bool) (c : GenericConstant) (cs : List GenericConstant) → leng
 count_if true c cs = omega (arith)
 count_if false c cs = omega (arith)
 
-constants_count : (g : ℕ) (cs : List GenericConstant) → length (constants_of g (reverse cs)) ≡ length (constants_of g cs)
+pub constants_count : (g : ℕ) (cs : List GenericConstant) → length (constants_of g (reverse cs)) ≡ length (constants_of g cs)
 constants_count g [] = refl
 constants_count g (c ∷ cs) =
     let both = length-append (constants_of g (reverse cs)) (only_if (nat_eq c.generic g) c) in

@@ -57,7 +57,7 @@ in_expr_of k x h = of_form x.form h
     of_form (test_form t) g = absurd g
 
 -- parts behind others
-in_followed : (k : ℕ) (p q : tree.Parts) → in_parts k (followed_by p q) ≡ (in_parts k p ++ in_parts k q)
+pub in_followed : (k : ℕ) (p q : tree.Parts) → in_parts k (followed_by p q) ≡ (in_parts k p ++ in_parts k q)
 in_followed k tree.whole q = refl
 in_followed k (tree.component n p) q = in_followed k p q
 in_followed k (tree.element r e p) q =
@@ -98,7 +98,7 @@ entity_whole name [] all = tt
 entity_whole name (e ∷ region) all =
     if_either IsWhole (same_name name e.0) (Some e.1) (entity_of name region) all.0 (entity_whole name region all.1)
 
-found_whole : (name : List ℕ) (regions : List Region) → Everywhere IsWholeRegion regions → IfSome (found name regions) IsWhole
+pub found_whole : (name : List ℕ) (regions : List Region) → Everywhere IsWholeRegion regions → IfSome (found name regions) IsWhole
 found_whole name [] all = tt
 found_whole name (r ∷ rs) all = if_or IsWhole (entity_of name r) (found name rs) (entity_whole name r all.0) (found_whole name rs all.1)
 
@@ -107,7 +107,7 @@ shown_whole None h = tt
 shown_whole (Some hidden) h = tt
 shown_whole (Some x) h = h
 
-part_whole : (env : Env) (n : ℕ) (name : List ℕ) → IsWholeEnv env → IfSome (part_of_unit env n name) IsWhole
+pub part_whole : (env : Env) (n : ℕ) (name : List ℕ) → IsWholeEnv env → IfSome (part_of_unit env n name) IsWhole
 part_whole env n name is =
     if_either IsWhole (is_own env.own_package n) (shown (entity_of name env.own)) (part_of_interface env.world name (interface_of env.world n))
     (shown_whole (entity_of name env.own) (entity_whole name env.own is.own)) (is.units n name)
@@ -188,16 +188,16 @@ attributed_denotes env s t d name step true h = typed_denotes env s t (attribute
 attributed_denotes env s t d name step false h = tt
 
 -- actuals
-abbrev IsOwn : Judged → Type 0
+abbrev pub IsOwn : Judged → Type 0
 IsOwn x = IsClear x × IsPlain x.form
 
-abbrev all_forms : ℕ → List Judged → List Decision
+abbrev pub all_forms : ℕ → List Judged → List Decision
 all_forms k [] = []
 all_forms k (x ∷ xs) = in_form k x.form ++ all_forms k xs
 
-record JudgesAll (s : State) (g : Given (List Judged)) : Type 0 where
-  decides : (k : ℕ) → Decides s (all_forms k g.value) g.next
-  own : Everywhere IsOwn g.value
+pub record JudgesAll (s : State) (g : Given (List Judged)) : Type 0 where
+  pub decides : (k : ℕ) → Decides s (all_forms k g.value) g.next
+  pub own : Everywhere IsOwn g.value
 
 abbrev Holds : Judged → List Judged → tree.Actuals → tree.Actuals → Type 0
 Holds x xs rest actuals = (k : ℕ) → in_actuals k actuals ≡ (in_form k x.form ++ in_actuals k rest)
@@ -236,7 +236,7 @@ passed_holds out_mode q x xs rest h =
 passed_holds in_out_mode q x xs rest h =
     if_test (Holds x xs rest) x.is_name (option_and_then (by_name q rest) x.variable) (λ e. name_holds q x xs rest x.variable h.0.variable)
 
-actuals_hold : (qs : List Parameter) (xs : List Judged) → Everywhere IsOwn xs → IfSome (actuals_for qs xs) (λ actuals. (k : ℕ) → in_actuals k actuals ≡ all_forms k xs)
+pub actuals_hold : (qs : List Parameter) (xs : List Judged) → Everywhere IsOwn xs → IfSome (actuals_for qs xs) (λ actuals. (k : ℕ) → in_actuals k actuals ≡ all_forms k xs)
 actuals_hold [] [] h = λ k. refl
 actuals_hold [] (x ∷ xs) h = tt
 actuals_hold (q ∷ qs) [] h = tt
@@ -251,7 +251,7 @@ actuals_hold (q ∷ qs) (x ∷ xs) h =
     some_holds rest r (Some actuals) l = λ k. l k ∙ ap (λ ds. in_form k x.form ++ ds) (r k)
 
 -- what is applied to actuals
-one_form : (k : ℕ) (x : Judged) → all_forms k (x ∷ []) ≡ in_form k x.form
+pub one_form : (k : ℕ) (x : Judged) → all_forms k (x ∷ []) ≡ in_form k x.form
 one_form k x = append-nil (in_form k x.form)
 
 conversion_denotes : (s t u : State) (y : AdaSubtype) (x : Judged) → Decides s [] t → ((k : ℕ) → Decides t (in_form k x.form) u) → IsOwn x
@@ -348,7 +348,7 @@ any_role : (r : Role) (s : State) (g : Given Judged) → JudgesFrom itself false
 any_role r s g h = record { decides = h.decides; clear = h.clear; is_plain = plain_in r g.value.form h.is_plain; none = h.none }
 
 -- operators
-in_complemented : (k : ℕ) (f : Form) → in_form k (complemented f) ≡ in_form k f
+pub in_complemented : (k : ℕ) (f : Form) → in_form k (complemented f) ≡ in_form k f
 in_complemented k (plain e) = refl
 in_complemented k (test_form t) = in_negated k t
 
@@ -387,7 +387,7 @@ integral_judges s p b o g h =
     (λ e. if_map (λ x. Unit {0}) (λ x. JudgesFrom itself false s (given x g.next)) (signed p g.value) o (any_of o) (λ sign u. signed_judges s p sign g h))
 
 -- two operands
-two_forms : (k : ℕ) (x y : Judged) → IsPlain x.form → IsPlain y.form → (in_expr k (expr_of x) ++ in_expr k (expr_of y)) ≡ (in_form k x.form ++ in_form k y.form)
+pub two_forms : (k : ℕ) (x y : Judged) → IsPlain x.form → IsPlain y.form → (in_expr k (expr_of x) ++ in_expr k (expr_of y)) ≡ (in_form k x.form ++ in_form k y.form)
 two_forms k x y h l = λ i. in_expr_of k x h i ++ in_expr_of k y l i
 
 nothing_both : (xs ys : List Decision) → xs ≡ [] → ys ≡ [] → (xs ++ ys) ≡ []
@@ -573,7 +573,7 @@ module _ (env : Env) (step : env.step ≡ typing) (is : IsWholeEnv env) where
         (λ y k. closed_typed env r c s y.next q (joined q op x.value y.value) step
         (circuit_judges (entered (opens r c) s) q (is_boolean x.value.kind && is_boolean y.value.kind) (is_circuit a) (is_circuit b) (neutral_of op) x y h k))))
 
-    all_decide : (s : State) (q : Pos) (es : source.Exprs) → IfOk (all_judged env s q es).answer (JudgesAll s)
+    pub all_decide : (s : State) (q : Pos) (es : source.Exprs) → IfOk (all_judged env s q es).answer (JudgesAll s)
     all_decide s q source.no_exprs = record { decides = λ k. decides_same s; own = tt }
     all_decide s q (source.also e es) =
         answered (JudgesAll s) q _

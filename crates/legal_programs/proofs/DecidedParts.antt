@@ -196,7 +196,7 @@ module _ (env : Env) (step : env.step ≡ typing) (is : IsWholeEnv env) where
   plain_value_in (of_type (record_type i fs) r) x c p =
       if_not _ (not (fits (record_type i fs) x.kind)) _ (λ e. composite_value_in (of_type (record_type i fs) r) x x.variable c.variable)
 
-  value_in : (t : AdaSubtype) (ps : List Pos) (x : Judged) → IsClear x → IsPlain x.form → IfSome (value_for t ps x) (λ v. (k : ℕ) → in_value k v ≡ in_form k x.form)
+  pub value_in : (t : AdaSubtype) (ps : List Pos) (x : Judged) → IsClear x → IsPlain x.form → IfSome (value_for t ps x) (λ v. (k : ℕ) → in_value k v ≡ in_form k x.form)
   value_in t [] x c p = plain_value_in t x c p
   value_in (of_type (array_type i y z) r) (q ∷ ps) x c p =
       if_map (λ v. (k : ℕ) → in_value k v ≡ in_form k x.form) (λ v. (k : ℕ) → in_value k v ≡ in_form k x.form) (tree.others_value (range_in y)) (value_for z ps x)

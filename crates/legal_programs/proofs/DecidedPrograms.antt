@@ -27,7 +27,7 @@ use Rattle.legal_programs.proofs.PlacedUnits.{labels_placed}
 use Rattle.legal_programs.proofs.QuietInterfaces.{labels_numbered, declared_once}
 use Rattle.legal_programs.proofs.Worlds.{has_main_sub}
 
-none_declared : (us : List LibraryUnit) → Everywhere IsWholeInterface (map (λ u. no_interface) us)
+pub none_declared : (us : List LibraryUnit) → Everywhere IsWholeInterface (map (λ u. no_interface) us)
 none_declared [] = tt
 none_declared (u ∷ us) = (tt, none_declared us)
 

@@ -42,11 +42,11 @@ exceptions_declare : (env : Env) (s : State) (region : Region) (is : List Identi
 exceptions_declare env s region is =
     subst (λ ds. Decides s (in_declarations ds) (exceptions_from env s region is).next) (sym (exceptions_made env s region is)) (exceptions_decided env s region is)
 
-bare_decisions : (t : AdaSubtype) (n : ℕ) (is : List Identifier) → in_declarations (bare_declarations t n is) ≡ []
+pub bare_decisions : (t : AdaSubtype) (n : ℕ) (is : List Identifier) → in_declarations (bare_declarations t n is) ≡ []
 bare_decisions t n [] = refl
 bare_decisions t n (i ∷ is) = bare_decisions t (n + 1) is
 
-decisions_of_both : (ds es : List tree.Declaration) → in_declarations (ds ++ es) ≡ (in_declarations ds ++ in_declarations es)
+pub decisions_of_both : (ds es : List tree.Declaration) → in_declarations (ds ++ es) ≡ (in_declarations ds ++ in_declarations es)
 decisions_of_both [] es = refl
 decisions_of_both (tree.initialized l d v ∷ ds) es =
     ap (λ xs. in_value l.number v ++ xs) (decisions_of_both ds es) ∙ sym (append_assoc (in_value l.number v) (in_declarations ds) (in_declarations es))
@@ -127,26 +127,26 @@ declarations_decide env s q (d ∷ ds) step whole inside =
     (λ xs k. (decides_as s xs.next _ _ (sym (decisions_of_both x.made xs.made)) (decides_joined s x.next xs.next _ _ h.0 k.0), k.1))))
 
 -- statements
-joined_decisions : (xs ys : List tree.Stmt) → in_stmts (stmts_of (xs ++ ys)) ≡ (in_stmts (stmts_of xs) ++ in_stmts (stmts_of ys))
+pub joined_decisions : (xs ys : List tree.Stmt) → in_stmts (stmts_of (xs ++ ys)) ≡ (in_stmts (stmts_of xs) ++ in_stmts (stmts_of ys))
 joined_decisions [] ys = refl
 joined_decisions (x ∷ xs) ys =
     ap (λ zs. in_stmt x ++ zs) (joined_decisions xs ys) ∙ sym (append_assoc (in_stmt x) (in_stmts (stmts_of xs)) (in_stmts (stmts_of ys)))
 
-abbrev chosen_decisions : ℕ → List Chosen → List Decision
+abbrev pub chosen_decisions : ℕ → List Chosen → List Decision
 chosen_decisions k [] = []
 chosen_decisions k (c ∷ cs) = (in_decision k after_if c.label c.test ++ in_stmts (stmts_of c.statements)) ++ chosen_decisions k cs
 
-branches_decisions : (k : ℕ) (cs : List Chosen) (other : List tree.Stmt) → in_branches k (branches_of cs other) ≡ (chosen_decisions k cs ++ in_stmts (stmts_of other))
+pub branches_decisions : (k : ℕ) (cs : List Chosen) (other : List tree.Stmt) → in_branches k (branches_of cs other) ≡ (chosen_decisions k cs ++ in_stmts (stmts_of other))
 branches_decisions k [] other = refl
 branches_decisions k (c ∷ cs) other =
     ap (λ zs. (in_decision k after_if c.label c.test ++ in_stmts (stmts_of c.statements)) ++ zs) (branches_decisions k cs other)
     ∙ sym (append_assoc (in_decision k after_if c.label c.test ++ in_stmts (stmts_of c.statements)) (chosen_decisions k cs) (in_stmts (stmts_of other)))
 
-abbrev arm_decisions : List Arm → List Decision
+abbrev pub arm_decisions : List Arm → List Decision
 arm_decisions [] = []
 arm_decisions (a ∷ rest) = in_stmts (stmts_of a.statements) ++ arm_decisions rest
 
-alternatives_decisions : (arms : List Arm) → in_alternatives (alternatives_of arms) ≡ arm_decisions arms
+pub alternatives_decisions : (arms : List Arm) → in_alternatives (alternatives_of arms) ≡ arm_decisions arms
 alternatives_decisions [] = refl
 alternatives_decisions (a ∷ rest) = ap (λ zs. in_stmts (stmts_of a.statements) ++ zs) (alternatives_decisions rest)
 
@@ -180,7 +180,7 @@ stmt_decided env s t l x step h =
     typed_so (As s) env.step (one (tree.null_statement l) t) (option_map (λ y. one y t) x) step
     (if_map (λ y. Decides s (in_stmt y) t) (As s) (λ y. one y t) x h (λ y k. one_decided s t y k))
 
-call_decisions : (l : tree.Label) (d : Denoted) → IfSome (call_of l d) (λ y. in_stmt y ≡ in_denoted l.number d)
+pub call_decisions : (l : tree.Label) (d : Denoted) → IfSome (call_of l d) (λ y. in_stmt y ≡ in_denoted l.number d)
 call_decisions l (a_routine r) = if_test (λ y. in_stmt y ≡ []) (nat_eq (length r.parameters) 0) _ (if_none r.result)
   where
     if_none : (o : Option Parameter) → (nat_eq (length r.parameters) 0 ≡ true)
@@ -199,14 +199,14 @@ some_decided : (s t : State) (ds : List Decision) (x : Option tree.Stmt) → IfS
 some_decided s t ds None e h = tt
 some_decided s t ds (Some y) e h = decides_as s t ds (in_stmt y) (sym e) h
 
-allowed_decisions : (b : Bool) (x : tree.Stmt) → IfSome (where_allowed b x) (λ y. in_stmt y ≡ in_stmt x)
+pub allowed_decisions : (b : Bool) (x : tree.Stmt) → IfSome (where_allowed b x) (λ y. in_stmt y ≡ in_stmt x)
 allowed_decisions b x = if_test (λ y. in_stmt y ≡ in_stmt x) b (Some x) (λ e. refl)
 
-returned_decisions : (l : tree.Label) (r : Returning) → IfSome (returned l r) (λ y. in_stmt y ≡ [])
+pub returned_decisions : (l : tree.Label) (r : Returning) → IfSome (returned l r) (λ y. in_stmt y ≡ [])
 returned_decisions l no_result = refl
 returned_decisions l (result_of t) = tt
 
-value_decisions : (l : tree.Label) (x : Judged) (r : Returning) → IfSome (returned_value l x r) (λ y. in_stmt y ≡ in_expr l.number (expr_of x))
+pub value_decisions : (l : tree.Label) (x : Judged) (r : Returning) → IfSome (returned_value l x r) (λ y. in_stmt y ≡ in_expr l.number (expr_of x))
 value_decisions l x no_result = tt
 value_decisions l x (result_of t) = if_test (λ y. in_stmt y ≡ in_expr l.number (expr_of x)) (fits (type_in t) x.kind) _ (λ e. refl)
 

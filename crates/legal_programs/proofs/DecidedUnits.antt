@@ -145,7 +145,7 @@ every_set P [] (suc n) x h k = tt
 every_set P (y ∷ xs) zero x h k = (k, h.1)
 every_set P (y ∷ xs) (suc n) x h k = (h.0, every_set P xs n x h.1 k)
 
-interface_whole : (w : World) (n : ℕ) → IsWholeWorld w → IsWholeInterface (interface_of w n)
+pub interface_whole : (w : World) (n : ℕ) → IsWholeWorld w → IsWholeInterface (interface_of w n)
 interface_whole w n is = or_none (slice_get w.interfaces n) (every_at IsWholeInterface w.interfaces n is.interfaces)
   where
     or_none : (o : Option Interface) → IfSome o IsWholeInterface → IsWholeInterface (unwrap_or o no_interface)
@@ -214,12 +214,12 @@ denoted_whole w l i = if_io (is_test_io i) (unit_named l.names (key i))
     if_io false None = tt
     if_io false (Some n) = unit_whole n (interface_of w n)
 
-seen_more_whole : (w : World) (l : Library) (is : List Identifier) (region : Region) → IsWholeRegion region → IsWholeRegion (seen_more w l is region)
+pub seen_more_whole : (w : World) (l : Library) (is : List Identifier) (region : Region) → IsWholeRegion region → IsWholeRegion (seen_more w l is region)
 seen_more_whole w l [] region all = all
 seen_more_whole w l (i ∷ is) region all =
     seen_more_whole w l is (with_seen (key i) (denoted_in_with w l i) region) (with_seen_whole (key i) (denoted_in_with w l i) region (denoted_whole w l i) all)
 
-env_whole : (w : World) (n : ℕ) (name : List ℕ) (region : Region) → IsWholeWorld w → IsWholeRegion region → IsWholeEnv (env_of typing w n name region)
+pub env_whole : (w : World) (n : ℕ) (name : List ℕ) (region : Region) → IsWholeWorld w → IsWholeRegion region → IsWholeEnv (env_of typing w n name region)
 env_whole w n name region is all = record {
   regions = (tt, (all, (is.standard.predefined, tt)));
   own = tt;
@@ -227,10 +227,10 @@ env_whole w n name region is all = record {
   test_io = is.standard.test_io;
 }
 
-package_env_whole : (env : Env) (g : Option ℕ) (n : ℕ) (region : Region) → IsWholeEnv env → IsWholeRegion region → IsWholeEnv (in_package env g n region)
+pub package_env_whole : (env : Env) (g : Option ℕ) (n : ℕ) (region : Region) → IsWholeEnv env → IsWholeRegion region → IsWholeEnv (in_package env g n region)
 package_env_whole env g n region is all = record { regions = (all, is.regions.1); own = all; units = is.units; test_io = is.test_io }
 
-region_whole : (i : Interface) → IsWholeInterface i → IsWholeRegion (region_of i)
+pub region_whole : (i : Interface) → IsWholeInterface i → IsWholeRegion (region_of i)
 region_whole (package_interface region) h = h
 region_whole (generic_interface formals region) h = h
 region_whole no_interface h = tt
@@ -297,7 +297,7 @@ library_seen env s n b step whole world =
     )))
 
 module _ (l : Library) where
-  in_region : (w : World) (u : LibraryUnit) (x : Entity) → IsWhole x → IsWholeRegion (seen_in w l u x)
+  pub in_region : (w : World) (u : LibraryUnit) (x : Entity) → IsWhole x → IsWholeRegion (seen_in w l u x)
   in_region w u x h = seen_more_whole w l (clause_names u.withs) ((key (item_name u.item), x) ∷ []) (h, tt)
 
   interface_seen : (w : World) (s : State) (n : ℕ) (u : LibraryUnit) (i : LibraryItem) → IsWholeWorld w → IfOk (interface_judged typing l w s n u i).answer (Seen s)
@@ -366,7 +366,7 @@ module _ (l : Library) where
       s b [] tt [] q (calm_both s (at_unit s) q.next (calm_same s (at_unit s) refl refl) h.0.0, h.0.1) (adds_both s (at_unit s) q.next (adds_at_unit s) h.1))
       (λ next k. k)))
 
-  routine_whole : (i : Interface) → IsWhole (routine_entity i)
+  pub routine_whole : (i : Interface) → IsWhole (routine_entity i)
   routine_whole (subprogram_interface r) = tt
   routine_whole no_interface = tt
   routine_whole (package_interface region) = tt

@@ -64,7 +64,7 @@ any_adds env s (source.named p x) =
 any_adds env s x =
     part_so (Add s) (Add s) (judged env itself s x).answer (λ y. rule (Some (given any_actual y.next))) (expression_adds env s x) (λ y h. h)
 
-actuals_add : (env : Env) (s : State) (p : Pos) (n : ℕ) (before : List Actual) (fs : Region) (xs : List source.Expr)
+pub actuals_add : (env : Env) (s : State) (p : Pos) (n : ℕ) (before : List Actual) (fs : Region) (xs : List source.Expr)
     → IfOk (actuals_judged env s p n before fs xs).answer (Add s)
 actuals_add env s p n before [] [] = adds_same s
 actuals_add env s p n before (f ∷ fs) [] =

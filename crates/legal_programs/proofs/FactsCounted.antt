@@ -96,7 +96,7 @@ count_if : (b : Bool) (n : ℕ) (f : Facts) (fs : List Facts) → length fs ≡ 
 count_if true n f fs h = omega (arith, h)
 count_if false n f fs h = h
 
-count_before : (count : ℕ) (us : List LibraryUnit) → length (facts_before count us) ≡ count_instances us
+pub count_before : (count : ℕ) (us : List LibraryUnit) → length (facts_before count us) ≡ count_instances us
 count_before count [] = refl
 count_before count (u ∷ us) =
     count_if (is_instance u.item) (count_instances us) (record { generic = count; formals = []; constants = [] }) (facts_before count us) (count_before count us)

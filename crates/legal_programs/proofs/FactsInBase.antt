@@ -44,10 +44,10 @@ package_stays env s p n x base =
     (λ region k. part_so (λ u. Unit {0}) Stays (closed_by p x.name x.end_name).answer
     (λ end. rule (Some (with_package env n x formals.value region))) (any_answer (closed_by p x.name x.end_name).answer) (λ end u. base))))
 
-made_in_base : (w : World) (g : Option ℕ) (actuals : List Actual) → InBase w → AreFactsInBase (facts_made w g actuals)
+pub made_in_base : (w : World) (g : Option ℕ) (actuals : List Actual) → InBase w → AreFactsInBase (facts_made w g actuals)
 made_in_base w g actuals base = record { formals = actuals_in_base w.instances actuals base; constants = tt }
 
-set_in_base : (fs : List Facts) (k : ℕ) (f : Facts) (cs : List GenericConstant) → Everywhere AreFactsInBase fs → AreFactsInBase f
+pub set_in_base : (fs : List Facts) (k : ℕ) (f : Facts) (cs : List GenericConstant) → Everywhere AreFactsInBase fs → AreFactsInBase f
     → Everywhere AreFactsInBase (facts_set fs k f cs)
 set_in_base fs k f cs base h =
     every_set AreFactsInBase fs (pred k) (with_constants (set fs (pred k) f) cs k f) base
@@ -102,7 +102,7 @@ none_if : (count : ℕ) (b : Bool) (fs : List Facts) → Everywhere AreFactsInBa
 none_if count true fs h = (record { formals = tt; constants = tt }, h)
 none_if count false fs h = h
 
-before_in_base : (count : ℕ) (us : List LibraryUnit) → Everywhere AreFactsInBase (facts_before count us)
+pub before_in_base : (count : ℕ) (us : List LibraryUnit) → Everywhere AreFactsInBase (facts_before count us)
 before_in_base count [] = tt
 before_in_base count (u ∷ us) = none_if count (is_instance u.item) (facts_before count us) (before_in_base count us)
 

@@ -1,34 +1,37 @@
-mod Lists
-mod Adding
-mod AddingStatements
-mod Extending
-mod ExtendingUnits
-mod Passed
-mod Limited
-mod Serving
-mod Finals
-mod Headings
-mod Counted
+pub mod Lists
+pub mod Adding
+pub mod AddingStatements
+pub mod Extending
+pub mod ExtendingUnits
+pub mod Passed
+pub mod Limited
+pub mod Serving
+pub mod Finals
+pub mod Headings
+pub mod Counted
 mod LabelledStatements
 mod MadeBodies
-mod MadeUnits
+pub mod MadeUnits
 mod QuietInterfaces
-mod MainUnit
-mod Worlds
-mod Deciding
+pub mod MainUnit
+pub mod Worlds
+pub mod Deciding
 mod DecidedExpressions
-mod WholeRegions
+pub mod WholeRegions
 mod DecidedParts
 mod DecidedStatements
 mod DecidedBodies
-mod DecidedUnits
-mod DecidedPrograms
-mod ClosedEntities
-mod FactsCounted
-mod WithoutInstances
+pub mod DecidedUnits
+pub mod DecidedPrograms
+pub mod ClosedEntities
+pub mod FactsCounted
+pub mod WithoutInstances
 mod PlacedStatements
 mod PlacedUnits
-mod FactsInBase
-mod SubprogramPlaces
-mod KeptNames
-mod NamedBodies
+pub mod FactsInBase
+pub mod SubprogramPlaces
+pub mod KeptNames
+pub mod NamedBodies
+mod PlacedExpressions
+mod PlacedDecisions
+pub mod PlacedDecisionUnits

@@ -12,3 +12,4 @@ pub mod InText
 pub mod Closed
 pub mod TextPlaces
 pub mod Worked
+pub mod DecisionPlaces

@@ -44,7 +44,7 @@ ghost use Rattle.legal_programs.specs.Deciding.{Decides, IsNarrow, IsWhole, IsWh
 ghost use Rattle.legal_programs.specs.Final.{IsServed};
 ghost use Rattle.legal_programs.specs.Growing.{Adds, AddsBodies, AddsInterfaces, Extends};
 ghost use Rattle.legal_programs.specs.Homes.{AreNamedApart, HasHome, instances_at};
-ghost use Rattle.legal_programs.specs.InText.{IsFormedInInstances, IsInTextOrder};
+ghost use Rattle.legal_programs.specs.InText.{IsFormedInInstances, IsInTextOrder, Rise};
 ghost use Rattle.legal_programs.specs.Labelled.{Labels};
 ghost use Rattle.legal_programs.specs.Looked.{IsLookedAt};
 ghost use Rattle.legal_programs.specs.Made.{AreMadeInTurn, Makes};
@@ -53,6 +53,7 @@ ghost use Rattle.ada_rules.specs.Declarations.{declared};
 ghost use Rattle.ada_syntax.specs.declared.declaration.Declaration.{Declaration};
 ghost use Rattle.legal_programs.specs.Worked.{worked_program, worked_units};
 ghost use Rattle.legal_laws.specs.Valued.{AreFactsOf, AreFactsInBase};
+ghost use Rattle.legal_programs.specs.DecisionPlaces.{units_decisions};
 ghost use Rattle.legal_programs.specs.TextPlaces.{all_places, units_places};
 ghost use Rattle.legal_programs.specs.Walked.{IsLegal};
 ghost use Rattle.legal_programs.specs.WholeWorld.{IsWholeStandard};
@@ -137,6 +138,16 @@ pub fn statements_stand_in_the_text()
 pub fn obligations_stand_in_the_text()
     ensures { (l : Library) (main : List ℕ) (p : Program) → IsLegal l main p
         → map (λ x. x.place) (labels_of p.subprograms) ≡ units_places l.units }
+{}
+
+/// The decisions of a legal program stand where the conditions of its units stand, one behind the other in
+/// the order of the units: so where the statements and the conditions of the text rise, its obligations stand
+/// in the order of the text.
+pub fn decisions_stand_in_the_text()
+    ensures places { (l : Library) (main : List ℕ) (p : Program) → IsLegal l main p → IsWholeStandard l.standard
+        → map (λ h. h.label.place) (decisions_of p.subprograms) ≡ units_decisions l.units }
+    ensures order { (l : Library) (main : List ℕ) (p : Program) → IsLegal l main p → IsWholeStandard l.standard
+        → Rise (units_places l.units) → Rise (units_decisions l.units) → IsInTextOrder l.units p }
 {}
 
 /// A body makes one subprogram, with the parameters of its specification: its statement obligations are

@@ -1,0 +1,6 @@
+pub mod Ordered
+pub mod InOrder
+pub mod Looked
+pub mod Within
+pub mod Resolved
+pub mod Worked
