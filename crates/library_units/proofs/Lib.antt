@@ -2,3 +2,4 @@ pub mod BetweenLaws
 pub mod InstanceLaws
 pub mod SubprogramLaws
 pub mod PackageLaws
+pub mod InterfaceLaws

@@ -1,3 +1,4 @@
 pub mod Walked
 pub mod Subprograms
 pub mod Packages
+pub mod Interfaces

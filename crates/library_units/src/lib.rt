@@ -2,11 +2,10 @@
 #![tactic(auto)]
 
 mod instances;
+mod interfaces;
 mod place;
 mod shown_packages;
 mod subprograms;
 
-pub use instances::instance_shown;
+pub use interfaces::all_shown;
 pub use place::UnitPlace;
-pub use shown_packages::package_shown;
-pub use subprograms::subprogram_shown;
