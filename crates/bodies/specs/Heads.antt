@@ -6,7 +6,8 @@ use Rattle.ada_syntax.specs.declared.unit.SubprogramBody.{SubprogramBody}
 use Rattle.ada_rules.specs.Entities.{key, Region}
 use Rattle.ada_rules.specs.Environment.{State, given, Env, with_local}
 use Rattle.ada_rules.specs.Subprograms as rules
-use Rattle.ada_rules.specs.Subprograms.{fresh, completed, specified, conforming, with_routine, inside_body, packaged_body}
+use Rattle.ada_rules.specs.Subprograms.{fresh, completed, specified, conforming, with_routine, inside_body}
+use Rattle.ada_rules.specs.Subprograms.{packaged_body}
 use Rattle.ada_entities.specs.Answers.{Refuses}
 use Rattle.ada_entities.specs.declared.fault.Refusal.{Refusal}
 use Rattle.ada_entities.specs.EntityViews.{Tables, region_of}

@@ -12,10 +12,12 @@ use Rattle.program_walk.specs.declared.walk.Walk.{Walk}
 use Rattle.program_walk.specs.States.{state_of}
 use Rattle.program_walk.specs.Walks.{Begins, StandsAt}
 
--- A body comes to what the rules say of it, where its unit was entered: nothing is declared in its text, and it declares no
--- object of the library level.
-abbrev pub ComesToLibrary : {A : Type 0} → Context → (old new : Walk) → SubprogramBody → Result A (Failure Refusal) → Type 0
+-- A body comes to what the rules say of it, where its unit was entered: nothing is declared in its text, and it
+-- declares no object of the library level.
+abbrev pub ComesToLibrary : {A : Type 0} → Context → (old new : Walk) → SubprogramBody → Result A (Failure Refusal)
+    → Type 0
 ComesToLibrary c old new b result =
-    (k : Tables) (env : Env) (before : State) → StandsAt c old k env → Begins new k → env.local ≡ [] → env.is_library ≡ false
+    (k : Tables) (env : Env) (before : State) → StandsAt c old k env → Begins new k → env.local ≡ []
+    → env.is_library ≡ false
     → state_of k old ≡ at_unit before
     → Answers (λ u. state_of k new) (subprogram_body env before b).answer result
