@@ -2,3 +2,5 @@ pub mod Words
 pub mod Handling
 pub mod Loops
 pub mod Nested
+pub mod Begun
+pub mod Made
