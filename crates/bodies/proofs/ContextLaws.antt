@@ -4,8 +4,6 @@ use Rattle.ada_rules.specs.Entities.{Parameter}
 use Rattle.ada_rules.specs.Environment.{Env}
 use Rattle.ada_rules.specs.Subprograms as rules
 use Rattle.ada_entities.specs.EntityViews.{Tables}
-use Rattle.ada_phrases.specs.declared.scope.Step.{Step}
-use Rattle.ada_phrases.specs.Scopes.{step_of}
 use Rattle.symbol_table.specs.Sites.{Holds}
 use Rattle.symbol_table.proofs.PlaceLaws.{holds_alike}
 use Rattle.program_walk.specs.declared.context.Context.{Context}

@@ -1,5 +1,5 @@
 -- The end of bodies, of the rules' definitions.
-use Rattle.std.proofs.Common.{◌≡◌, Bool, true, false, Option, Some, None, Ok, refl, sym, ap, ◌∙◌, if◌then◌else◌}
+use Rattle.std.proofs.Common.{◌≡◌, Bool, true, false, Option, Some, None, Ok, sym, ap, ◌∙◌, if◌then◌else◌}
 use Rattle.cov_base.specs.declared.failure.Failure.{Failure}
 use Rattle.ada_syntax.specs.declared.unit.SubprogramBody.{SubprogramBody}
 use Rattle.ada_rules.specs.Plan.{Plan, answer_at}

@@ -1,5 +1,5 @@
 -- Walks that go on over bodies, one behind the other.
-use Rattle.std.proofs.Common.{◌≡◌, ℕ, ◌<◌, List, [], ◌∷◌, length, Ok, Err, Result, refl, sym, ap, ◌∙◌, subst, arith}
+use Rattle.std.proofs.Common.{ℕ, ◌<◌, List, ◌∷◌, length, Ok, Err, Result, sym, ap, ◌∙◌, subst, arith}
 use Rattle.cov_base.specs.declared.failure.Failure.{Failure}
 use Rattle.cov_base.specs.declared.failure.Failure.TheVariants.{Fault, WantOfMemory}
 use Rattle.ada_rules.specs.Environment.{Env, with_local}
@@ -10,7 +10,6 @@ use Rattle.ada_entities.specs.RegionCode.{innermost, enclosing}
 use Rattle.symbol_table.specs.declared.symbols.Symbols.{Symbols}
 use Rattle.symbol_table.specs.Changes.{IsOpen, Becomes, ChangesInside, Closes, Grows, UnlessMemory}
 use Rattle.symbol_table.proofs.HideLaws.{then_inside}
-use Rattle.symbol_table.proofs.PlaceLaws.{then_becomes}
 use Rattle.program_walk.specs.declared.context.Context.{Context}
 use Rattle.program_walk.specs.declared.walk.Walk.{Walk}
 use Rattle.program_walk.specs.Walks.{Begins, Continues, StandsAt}

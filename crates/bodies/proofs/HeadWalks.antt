@@ -43,9 +43,9 @@ module _ (c d : Context) (w : Walk) (s : Symbols) (second : Walk) (last : Symbol
       let fourth : Walk = record second { symbols = last } in
       let begins : Begins third k = record { symbols = e.opened.begins k b.symbols; spans = b.spans } in
       let at_round =
-          changed_inside c w third (then_inside w.symbols s e.round inside (round_changes s second.symbols e.round enters e.named)) k env h begins in
+      changed_inside c w third (then_inside w.symbols s e.round inside (round_changes s second.symbols e.round enters e.named)) k env h begins in
       let inner =
-          reopened_inside c (record c { level = level.Inside }) third fourth (innermost second.symbols.regions) refl e.opened k (with_innermost third k env)
-          at_round b in
+      reopened_inside c (record c { level = level.Inside }) third fourth (innermost second.symbols.regions) refl e.opened k (with_innermost third k env)
+      at_round b in
       subst (λ r. StandsAt d fourth k (inside_body env r (key i) profile_there)) is_round
       (stands_in_body c d fourth k _ (key i) head.returning profile_there.result inner is has.returning)

@@ -7,3 +7,4 @@ pub mod InsideLaws
 pub mod HeadLaws
 pub mod HeadWalks
 pub mod ItemLaws
+pub mod LibraryLaws

@@ -19,7 +19,7 @@ use Rattle.program_walk.specs.declared.found.SubprogramWords.{SubprogramWords}
 use Rattle.program_walk.specs.declared.found.Word.{Word}
 use Rattle.program_walk.specs.Finding.{FindsSubprogramWords, FindsSubprogram}
 use Rattle.program_walk.specs.States.{types_in, subtype_there, word_of, subprogram_words_of, with_counts, with_found, kept_state}
-use Rattle.bodies.specs.Recording.{with_body, RecordsBody}
+use Rattle.bodies.specs.Recording.{RecordsBody}
 use Rattle.bodies.specs.Typed.{parameters_there}
 
 -- the subtypes of objects, one by one
@@ -51,7 +51,7 @@ pub body_recorded : (old second new : Found) (empty words : Vec Word Global) (d 
     → RecordsBody old new generic qs b
 body_recorded old second new empty words d x generic qs b none same is_words listed found g ps os body k s =
     let objects = ap (map (subtype_there k)) (os ∙ ap (λ (v : Vec Word Global). map (λ (w : Word). w.subtype) v.items) same)
-        ∙ twice (λ (w : Word). w.subtype) (subtype_there k) old.words.items in
+    ∙ twice (λ (w : Word). w.subtype) (subtype_there k) old.words.items in
     let given = is_words ∙ ap (λ (v : Vec Word Global). record { generic = generic; words = v }) same in
     found k s
     ∙ (ap (λ (t : State). record t { subprograms = subprogram_of (types_in k) x ∷ t.subprograms }) (listed k s)

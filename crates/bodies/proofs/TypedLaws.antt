@@ -1,5 +1,5 @@
 -- Parameters as the typed program has them, one behind the other.
-use Rattle.std.proofs.Common.{◌≡◌, ℕ, ◌+◌, ◌<◌, ◌≤◌, List, [], ◌∷◌, ◌++◌, length, drop, get_or, map, refl, sym, ap, ◌∙◌}
+use Rattle.std.proofs.Common.{◌≡◌, ℕ, ◌+◌, ◌<◌, ◌≤◌, List, [], ◌∷◌, ◌++◌, length, drop, get_or, sym, ap, ◌∙◌}
 use Rattle.std.proofs.lemmas.List.{at_drop_all, at_drop_more, map_push, append_assoc, append-nil}
 use Rattle.ada_meaning.specs.Types.{here}
 use Rattle.ada_tree.specs.Programs.{parameter_of, mode_of}

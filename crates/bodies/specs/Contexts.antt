@@ -6,8 +6,8 @@ use Rattle.program_walk.specs.declared.context.Context.{Context}
 use Rattle.program_walk.specs.declared.context.Level.TheVariants as level
 use Rattle.program_walk.specs.declared.context.Returning.{Returning}
 
--- Inside the body of a subprogram with this name, whose `return` gives this, where these are the library, what instances
--- have, and the name of the unit.
+-- Inside the body of a subprogram with this name, whose `return` gives this, where these are the library, what
+-- instances have, and the name of the unit.
 pub record IsInBody (c : Context) (x : Library) (facts : List Facts) (own : List ℕ) (name : List ℕ) (r : Returning)
     (d : Context) : Type 0 where
   pub step : d.step ≡ c.step

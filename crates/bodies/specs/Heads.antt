@@ -1,12 +1,13 @@
 -- The head of a body in a package: what it completes or declares, its specification, and the region of its parameters.
-use Rattle.std.specs.Prelude.{◌≡◌, ℕ, ◌<◌, length, ◌∷◌, Option, unwrap_or, Result, Ok, Err}
+use Rattle.std.specs.Prelude.{◌≡◌, ◌<◌, length, ◌∷◌, Result, Ok, Err}
 use Rattle.cov_base.specs.declared.failure.Failure.{Failure}
 use Rattle.ada_syntax.specs.declared.name.Identifier.{Identifier}
 use Rattle.ada_syntax.specs.declared.unit.SubprogramBody.{SubprogramBody}
 use Rattle.ada_rules.specs.Entities.{key, Region}
-use Rattle.ada_rules.specs.Environment.{State, Given, given, Env, with_local}
+use Rattle.ada_rules.specs.Environment.{State, given, Env, with_local}
 use Rattle.ada_rules.specs.Subprograms as rules
-use Rattle.ada_rules.specs.Subprograms.{fresh, completed, specified, conforming, with_routine, inside_body, packaged_body}
+use Rattle.ada_rules.specs.Subprograms.{fresh, completed, specified, conforming, with_routine, inside_body}
+use Rattle.ada_rules.specs.Subprograms.{packaged_body}
 use Rattle.ada_entities.specs.Answers.{Refuses}
 use Rattle.ada_entities.specs.declared.fault.Refusal.{Refusal}
 use Rattle.ada_entities.specs.EntityViews.{Tables, region_of}
@@ -42,19 +43,19 @@ Reenters c old new i q = IsKnown old → 0 < length (enclosing old.regions) → 
 
 -- what the rules find of the head, and where the walk stands behind it
 pub record IsPackaged (c : Context) (old new : Walk) (b : SubprogramBody) (h : Head) (k : Tables) (env : Env) : Type 0
-    where
-  pub region : Region
-  pub profile : rules.Profile
-  pub is_completed : (completed env.local b.specification.name).answer ≡ Ok region
-  pub is_specified : (specified (with_local env region) (state_of k old) b.specification).answer
-      ≡ Ok (given profile (state_of k new))
-  pub is_conforming : (conforming b.specification.pos region b.specification.name profile).answer ≡ Ok tt
-  pub head : HasHead k h profile.parameters profile.result
-  pub outside : region_of k (innermost (enclosing new.symbols.regions))
-      ≡ with_routine env region b.specification.name profile
-  pub stands : (d : Context) → IsBodyContext c (key b.specification.name) h.returning d
-      → StandsAt d new k
-      (inside_body env (with_routine env region b.specification.name profile) (key b.specification.name) profile)
+  where
+    pub region : Region
+    pub profile : rules.Profile
+    pub is_completed : (completed env.local b.specification.name).answer ≡ Ok region
+    pub is_specified : (specified (with_local env region) (state_of k old) b.specification).answer
+        ≡ Ok (given profile (state_of k new))
+    pub is_conforming : (conforming b.specification.pos region b.specification.name profile).answer ≡ Ok tt
+    pub head : HasHead k h profile.parameters profile.result
+    pub outside : region_of k (innermost (enclosing new.symbols.regions))
+        ≡ with_routine env region b.specification.name profile
+    pub stands : (d : Context) → IsBodyContext c (key b.specification.name) h.returning d
+        → StandsAt d new k
+        (inside_body env (with_routine env region b.specification.name profile) (key b.specification.name) profile)
 
 -- It is refused where the rules refuse it, whatever is counted of the subprogram round it.
 abbrev pub HasPackaged : Context → (old new : Walk) → SubprogramBody → Result Head (Failure Refusal) → Tables → Env

@@ -29,15 +29,16 @@ ending step b r made =
 -- whether a body whose `return` gives this may end (RM 6.5)
 abbrev pub IsEndAllowed : SubprogramBody → Returning → Bool → Type 0
 IsEndAllowed b returning is_allowed =
-    (k : Tables) (r : Option Parameter) → rules.returning_of r ≡ returning_of k returning → is_allowed ≡ rules.may_end b r
+    (k : Tables) (r : Option Parameter) → rules.returning_of r ≡ returning_of k returning
+    → is_allowed ≡ rules.may_end b r
 
 abbrev pub IsEnded : {A : Type 0} → Context → SubprogramBody → Result A (Failure Refusal) → Type 0
 IsEnded c b result =
     (k : Tables) (r : Option Parameter) (made : State) → rules.returning_of r ≡ returning_of k c.returning
     → Answers (λ u. made) (answer_at b.specification.pos (ending (step_of c.step) b r made).outcome) result
 
--- The inside of a body comes to what the rules say of it, wherever it is declared; the objects of the subprogram round it
--- are counted as before.
+-- The inside of a body comes to what the rules say of it, wherever it is declared; the objects of the subprogram round
+-- it are counted as before.
 abbrev pub ComesToInside : {A : Type 0} → Context → (old new : Walk) → List TreeParameter → SubprogramBody
     → Result A (Failure Refusal) → Type 0
 ComesToInside c old new typed b result =

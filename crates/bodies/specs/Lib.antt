@@ -5,3 +5,4 @@ pub mod Recording
 pub mod Heads
 pub mod Inside
 pub mod Items
+pub mod Library

@@ -9,8 +9,8 @@ use Rattle.program_walk.specs.declared.found.Found.{Found}
 use Rattle.program_walk.specs.States.{types_in, subtype_there, word_of, with_found}
 use Rattle.bodies.specs.Typed.{parameters_there}
 
--- The objects of the subprogram are those of its body now: it joins the subprograms with these parameters, and no object
--- is left over.
+-- The objects of the subprogram are those of its body now: it joins the subprograms with these parameters, and no
+-- object is left over.
 abbrev pub with_body : Tables → Found → Option ℕ → List Parameter → tree.Block → State → State
 with_body k f generic qs b s = record s {
   words = [];

@@ -5,7 +5,7 @@ ghost use Rattle.ada_syntax.specs.declared.name.Identifier.{Identifier};
 ghost use Rattle.ada_rules.specs.Entities.{Region};
 ghost use Rattle.ada_rules.specs.Subprograms.{to_complete};
 ghost use Rattle.ada_entities.specs.EntityViews.{Tables, entity_of};
-ghost use Rattle.symbol_table.specs.Changes.{ChangesInside, IsOpen};
+ghost use Rattle.symbol_table.specs.Changes.{ChangesInside, Continues, IsOpen};
 ghost use Rattle.specifications.specs.Completions.{Completes, RefusesBody};
 ghost use Rattle.specifications.specs.Profiles.{completing};
 
@@ -49,6 +49,7 @@ pub fn complete(
     ensures completed { IfOk result (Completes symbols.old symbols.new name.now) }
     ensures inside { OnOk result (IsOpen symbols.old → ChangesInside symbols.old symbols.new) }
     ensures refused { IfErr result (RefusesBody symbols.old name.now) }
+    ensures continues { Continues symbols.old symbols.new }
 {
     match symbols.find_inside(alloc, name)? {
         None => {

@@ -1,6 +1,6 @@
 use Rattle.std.proofs.Common.{◌<◌, false, unwrap_or, length, sym, ap, ◌∙◌, subst}
 use Rattle.ada_entities.specs.EntityViews.{region_of}
-use Rattle.ada_entities.specs.RegionCode.{innermost, enclosing}
+use Rattle.ada_entities.specs.RegionCode.{innermost}
 use Rattle.ada_rules.specs.Entities.{key, redefined, routine}
 use Rattle.ada_rules.specs.Subprograms.{routine_of}
 use Rattle.specifications.specs.Profiles.{profile_of}

@@ -1,4 +1,4 @@
-use Rattle.std.proofs.Common.{◌≡◌, Ok, refl, sym, ap, ◌∙◌, subst}
+use Rattle.std.proofs.Common.{refl, sym, ap, ◌∙◌, subst}
 use Rattle.std.proofs.lemmas.Result.{err_from_is_err_and}
 use Rattle.ada_rules.specs.Environment.{given, with_local}
 use Rattle.ada_rules.specs.Subprograms.{completed}
@@ -8,7 +8,7 @@ use Rattle.ada_entities.specs.RegionCode.{innermost, enclosing}
 use Rattle.ada_phrases.proofs.Parts.{refused_as}
 use Rattle.program_walk.specs.declared.walk.Walk.{Walk}
 use Rattle.program_walk.specs.States.{state_of}
-use Rattle.program_walk.specs.Walks.{Begins, StandsAt}
+use Rattle.program_walk.specs.Walks.{Begins}
 use Rattle.declarations.specs.Going.{region_in}
 use Rattle.declarations.proofs.GoingLaws.{region_is, stays_behind, refused_behind}
 use Rattle.declarations.proofs.HidingLaws.{with_symbols, stays_there, symbols_stay, stands_behind}
@@ -142,7 +142,7 @@ returns-clause-goes c sound =
     let inside = c.in_ok-declaration.ensures.inside sound.open_now in
     let enters = c.in_ok-profile.ensures.enters in
     let entered = c.in_ok-enter_body.ensures (enters.symbols.known (inside.known sound.known))
-        (opens_inside s second.symbols (stays_open w.symbols s inside) enters.symbols) in
+    (opens_inside s second.symbols (stays_open w.symbols s inside) enters.symbols) in
     record {
       symbols =
           opens_round w.symbols entered.round last _

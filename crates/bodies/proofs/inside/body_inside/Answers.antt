@@ -1,4 +1,4 @@
-use Rattle.std.proofs.Common.{map, Ok, refl, sym, ap, ◌∙◌}
+use Rattle.std.proofs.Common.{map, Ok, sym, ap, ◌∙◌}
 use Rattle.std.proofs.lemmas.Result.{err_from_is_err_and}
 use Rattle.ada_meaning.specs.Tree as tree
 use Rattle.ada_tree.specs.Programs.{unfolded_block}
@@ -92,7 +92,7 @@ returns-clause-comes c k env before region name q h b ps =
     let block = block_of (made_of k c.in_ok-made.made.items) (frame_there k c.in_ok-frame.frame) in
     let made = body_made env before q block (state_of k third) in
     let same = ap (λ ds. unfolded_block (types_in k) (tree.block (map view.declaration_of ds) (view.statements_of c.in_ok-frame.frame.statements.items)
-        (view.handlers_of c.in_ok-frame.frame.handlers.items))) c.from.ensures in
+    (view.handlers_of c.in_ok-frame.frame.handlers.items))) c.from.ensures in
     statements_pass env before x region name q (state_of k w) (declared_in k second c.in_ok-made.made.items)
     (rw (sym c.as_slice.ensures) (c.in_ok-made.ensures.comes x.specification.pos k (inside_body env region name q) h middle))
     (given (frame_there k c.in_ok-frame.frame) (state_of k third))

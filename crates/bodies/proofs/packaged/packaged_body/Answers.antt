@@ -13,7 +13,7 @@ use Rattle.declarations.proofs.InsideLaws.{grows_itself}
 use Rattle.subprogram_specifications.proofs.AloneLaws.{emptied_walk, emptied_continues, restored}
 use Rattle.bodies.specs.Contexts.{IsBodyContext}
 use Rattle.bodies.specs.Going.{IsSound}
-use Rattle.bodies.proofs.GoingLaws.{region_left, sound_there, into_open}
+use Rattle.bodies.proofs.GoingLaws.{region_left, into_open}
 use Rattle.bodies.proofs.HeadLaws.{body_refused, body_passes}
 use Rattle.bodies.proofs.packaged.packaged_body.Goals as goal
 
@@ -81,7 +81,7 @@ returns-clause-comes c k env h b =
     let has = c.in_ok-head.ensures.comes k env (grown c.args.context.now w emptied (grows_itself w.symbols) k env h (into.continues k middle)) middle in
     let is = subst (λ n. IsBodyContext c.args.context.now n c.in_ok-head.head.returning c.body_context-inside.result) (c.as_slice.ensures.value ∙ c.in_ok-name.ensures) c.body_context-inside.ensures in
     let outside =
-        ap (λ rs. region_of k (innermost rs)) (c.close.ensures.closed.regions ∙ ap enclosing advances.symbols.regions) ∙ has.outside in
+    ap (λ rs. region_of k (innermost rs)) (c.close.ensures.closed.regions ∙ ap enclosing advances.symbols.regions) ∙ has.outside in
     let counted = restored k w third c.close.new.self c.replace-words.result c.replace-words.ensures.value in
     body_passes env (state_of k w) x has.region has.is_completed (given has.profile (state_of k second)) has.is_specified has.is_conforming
     (declared_only (state_of k w) (state_of k third))

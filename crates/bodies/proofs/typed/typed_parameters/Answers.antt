@@ -1,4 +1,4 @@
-use Rattle.std.proofs.Common.{◌++◌, refl, sym, ap, ◌∙◌}
+use Rattle.std.proofs.Common.{◌++◌, sym, ap, ◌∙◌}
 use Rattle.ada_meaning.specs.Types.{here}
 use Rattle.ada_rules.specs.Subprograms.{typed_parameters}
 use Rattle.specifications.specs.Profiles.{parameters_of}
