@@ -13,7 +13,7 @@ use ada_demands::Instances;
 use ada_entities::{Interface, Refusal, Region};
 use ada_syntax::{Formal, PackageSpecification};
 use cov_base::{Failure, Seq};
-use packages::all_items as package_items;
+use bodies::package_items;
 use program_walk::Walk;
 use specifications::closed_by;
 use std::alloc::{AllocError, Global};

@@ -34,9 +34,9 @@ returns-in_err-formals_declared-clause-passes c between =
     let open_now = entered_open old first c.args.seen [] entered in
     entered_stays old first second c.args.seen [] c.in_err-formals_declared.field-0.0 entered (c.in_err-formals_declared.ensures.goes open_now))
 
-pub returns-in_err-all_items-clause-comes : goal.returns-in_err-all_items-clause-comes
-returns-in_err-all_items-clause-comes c p between k world before begins =
-    let e = err_from_is_err_and c.from_residual-in_err-all_items.result c.from_residual-in_err-all_items.ensures.1 in
+pub returns-in_err-package_items-clause-comes : goal.returns-in_err-package_items-clause-comes
+returns-in_err-package_items-clause-comes c p between k world before begins =
+    let e = err_from_is_err_and c.from_residual-in_err-package_items.result c.from_residual-in_err-package_items.ensures.1 in
     rw (e.1, e.2) (let at = c.args.place in
     let old = c.args.walk.now in
     let first = c.enter_unit.new.walk in
@@ -49,16 +49,16 @@ returns-in_err-all_items-clause-comes c p between k world before begins =
     let kept = c.in_ok-formals.ensures.kept known in
     let third : Walk = record second { symbols = copied } in
     let third_open = kept_open second.symbols copied kept in
-    let fourth = c.all_items.new.walk in
+    let fourth = c.package_items.new.walk in
     refused_at_items at.step at.library.now c.args.instances.now at.unit at.unit_name.now c.context.result c.package_context-context.result c.context.ensures
     c.generic_at-generic.result c.package_context-context.ensures old first second c.args.seen entered c.args.specification.now
     c.generic_at-generic.ensures c.formals_in.result.now c.formals_in.ensures k world before tt goes
     c.in_ok-formals_declared.ensures.comes copied kept fourth c.as_slice.result.now c.as_slice.ensures p
-    c.in_err-all_items.field-0.0 (c.in_err-all_items.ensures.goes third_open) begins c.in_err-all_items.ensures.comes)
+    c.in_err-package_items.field-0.0 (c.in_err-package_items.ensures.goes third_open) begins c.in_err-package_items.ensures.comes)
 
-pub returns-in_err-all_items-clause-passes : goal.returns-in_err-all_items-clause-passes
-returns-in_err-all_items-clause-passes c between =
-    let e = err_from_is_err_and c.from_residual-in_err-all_items.result c.from_residual-in_err-all_items.ensures.1 in
+pub returns-in_err-package_items-clause-passes : goal.returns-in_err-package_items-clause-passes
+returns-in_err-package_items-clause-passes c between =
+    let e = err_from_is_err_and c.from_residual-in_err-package_items.result c.from_residual-in_err-package_items.ensures.1 in
     rw (e.1, e.2) (let old = c.args.walk.now in
     let first = c.enter_unit.new.walk in
     let second = c.formals_declared.new.walk in
@@ -70,9 +70,9 @@ returns-in_err-all_items-clause-passes c between =
     let kept = c.in_ok-formals.ensures.kept known in
     let third : Walk = record second { symbols = copied } in
     let third_open = kept_open second.symbols copied kept in
-    let fourth = c.all_items.new.walk in
-    items_stay old first second fourth c.args.seen entered goes copied kept c.in_err-all_items.field-0.0
-    (c.in_err-all_items.ensures.goes third_open))
+    let fourth = c.package_items.new.walk in
+    items_stay old first second fourth c.args.seen entered goes copied kept c.in_err-package_items.field-0.0
+    (c.in_err-package_items.ensures.goes third_open))
 
 pub returns-in_err-closed_by-clause-comes : goal.returns-in_err-closed_by-clause-comes
 returns-in_err-closed_by-clause-comes c p between k world before begins =
@@ -89,13 +89,13 @@ returns-in_err-closed_by-clause-comes c p between k world before begins =
     let kept = c.in_ok-formals.ensures.kept known in
     let third : Walk = record second { symbols = copied } in
     let third_open = kept_open second.symbols copied kept in
-    let fourth = c.all_items.new.walk in
-    let goes_on = c.in_ok-all_items.ensures.goes third_open in
+    let fourth = c.package_items.new.walk in
+    let goes_on = c.in_ok-package_items.ensures.goes third_open in
     refused_at_end at.step at.library.now c.args.instances.now at.unit at.unit_name.now c.context.result c.package_context-context.result c.context.ensures
     c.generic_at-generic.result c.package_context-context.ensures old first second c.args.seen entered c.args.specification.now
     c.generic_at-generic.ensures c.formals_in.result.now c.formals_in.ensures k world before tt goes
     c.in_ok-formals_declared.ensures.comes copied kept fourth c.as_slice.result.now c.as_slice.ensures goes_on begins
-    c.in_ok-all_items.ensures.comes p c.in_err-closed_by.field-0.0 c.in_err-closed_by.ensures)
+    c.in_ok-package_items.ensures.comes p c.in_err-closed_by.field-0.0 c.in_err-closed_by.ensures)
 
 pub returns-in_err-closed_by-clause-passes : goal.returns-in_err-closed_by-clause-passes
 returns-in_err-closed_by-clause-passes c between =
@@ -111,8 +111,8 @@ returns-in_err-closed_by-clause-passes c between =
     let kept = c.in_ok-formals.ensures.kept known in
     let third : Walk = record second { symbols = copied } in
     let third_open = kept_open second.symbols copied kept in
-    let fourth = c.all_items.new.walk in
-    let goes_on = c.in_ok-all_items.ensures.goes third_open in
+    let fourth = c.package_items.new.walk in
+    let goes_on = c.in_ok-package_items.ensures.goes third_open in
     items_stay old first second fourth c.args.seen entered goes copied kept c.in_err-closed_by.field-0.0
     (goes_stay third fourth c.in_err-closed_by.field-0.0 goes_on))
 
@@ -130,8 +130,8 @@ returns-clause-comes c p between k world before begins =
     let kept = c.in_ok-formals.ensures.kept known in
     let third : Walk = record second { symbols = copied } in
     let third_open = kept_open second.symbols copied kept in
-    let fourth = c.all_items.new.walk in
-    let goes_on = c.in_ok-all_items.ensures.goes third_open in
+    let fourth = c.package_items.new.walk in
+    let goes_on = c.in_ok-package_items.ensures.goes third_open in
     let left = c.leave_unit-region.new.symbols in
     let grew = text_left old first second fourth c.args.seen entered goes copied kept goes_on left c.leave_unit-region.ensures.left in
     let known_now = text_known old first second fourth c.args.seen entered goes copied kept goes_on left c.leave_unit-region.ensures.left
@@ -148,7 +148,7 @@ returns-clause-comes c p between k world before begins =
     (passes_end at.step at.library.now c.args.instances.now at.unit at.unit_name.now c.context.result c.package_context-context.result c.context.ensures
     c.generic_at-generic.result c.package_context-context.ensures old first second c.args.seen entered c.args.specification.now
     c.generic_at-generic.ensures c.formals_in.result.now c.formals_in.ensures k world before tt goes c.in_ok-formals_declared.ensures.comes copied kept fourth c.as_slice.result.now c.as_slice.ensures goes_on b_fourth
-    c.in_ok-all_items.ensures.comes q c.in_ok-closed_by.ensures))
+    c.in_ok-package_items.ensures.comes q c.in_ok-closed_by.ensures))
     p
 
 pub returns-clause-passes : goal.returns-clause-passes
@@ -164,8 +164,8 @@ returns-clause-passes c between =
     let kept = c.in_ok-formals.ensures.kept known in
     let third : Walk = record second { symbols = copied } in
     let third_open = kept_open second.symbols copied kept in
-    let fourth = c.all_items.new.walk in
-    let goes_on = c.in_ok-all_items.ensures.goes third_open in
+    let fourth = c.package_items.new.walk in
+    let goes_on = c.in_ok-package_items.ensures.goes third_open in
     let left = c.leave_unit-region.new.symbols in
     let grew = text_left old first second fourth c.args.seen entered goes copied kept goes_on left c.leave_unit-region.ensures.left in
     let known_now = text_known old first second fourth c.args.seen entered goes copied kept goes_on left c.leave_unit-region.ensures.left
