@@ -1,5 +1,7 @@
 -- Units that others see, one behind the other, of the rules' definitions.
 use Rattle.std.proofs.Common.{◌≡◌, ℕ, ◌+◌, ◌<◌, ◌≤◌, List, [], ◌∷◌, length, drop, get_or, slice_get, Option, Some, None, Result, Ok, Err, refl, sym, ap, ◌∙◌, subst}
+use Rattle.std.specs.Borrow.{Bor}
+use Rattle.std.specs.Option.{option_copied}
 use Rattle.std.proofs.lemmas.List.{at_drop_all, at_drop_more}
 use Rattle.cov_base.specs.declared.position.Pos.{Pos}
 use Rattle.cov_base.specs.declared.failure.Failure.{Failure}
@@ -143,34 +145,33 @@ module _ (step : rules.Step) (x : Library) (l : RulesLibrary) (facts : List Fact
   abbrev here_now : Walked
   here_now = record { world = r.world; next = state_of k middle }
 
-  rest_at : (n : ℕ) → i < length order → n ≡ get_or order i n
-      → (all_interfaces step l first order).answer ≡ (all_interfaces step l here_now (n ∷ drop (i + 1) order)).answer
-  rest_at n less e =
-      r.comes
-      ∙ (at_drop_more (λ ns. (all_interfaces step l here_now ns).answer) order i n less
-      ∙ ap (λ m. (all_interfaces step l here_now (m ∷ drop (i + 1) order)).answer) (sym e))
+  rest_at : (d : ℕ) → i < length order
+      → (all_interfaces step l first order).answer ≡ (all_interfaces step l here_now (get_or order i d ∷ drop (i + 1) order)).answer
+  rest_at d less = r.comes ∙ at_drop_more (λ ns. (all_interfaces step l here_now ns).answer) order i d less
 
-  pub reached_next : (n : ℕ) (u : LibraryUnit) (new : Walk) (after : List Facts) → i < length order → n ≡ get_or order i n → slice_get l.units n ≡ Some u
-      → IsWalked x after new k (interface_judged step l r.world (state_of k middle) n u u.item).answer
+  pub reached_next : (d : ℕ) (u : LibraryUnit) (new : Walk) (after : List Facts) → i < length order → slice_get l.units (get_or order i d) ≡ Some u
+      → IsWalked x after new k (interface_judged step l r.world (state_of k middle) (get_or order i d) u u.item).answer
       → Reached step x l after new k first order (drop (i + 1) order)
-  reached_next n u new after less e found w = record {
+  reached_next d u new after less found w = record {
     world = w.world;
     stands = w.stands;
-    comes = rest_at n less e ∙ unit_passes step l here_now n (drop (i + 1) order) u (record { world = w.world; next = state_of k new }) found w.comes;
+    comes = rest_at d less
+        ∙ unit_passes step l here_now (get_or order i d) (drop (i + 1) order) u (record { world = w.world; next = state_of k new }) found w.comes;
   }
 
-  pub reached_none : (n : ℕ) → i < length order → n ≡ get_or order i n → slice_get l.units n ≡ None
+  pub reached_none : (d : ℕ) → i < length order → slice_get l.units (get_or order i d) ≡ None
       → Reached step x l facts middle k first order (drop (i + 1) order)
-  reached_none n less e none = record {
+  reached_none d less none = record {
     world = r.world;
     stands = r.stands;
-    comes = rest_at n less e ∙ no_unit step l here_now n (drop (i + 1) order) none;
+    comes = rest_at d less ∙ no_unit step l here_now (get_or order i d) (drop (i + 1) order) none;
   }
 
-  pub reached_refused : (n : ℕ) (u : LibraryUnit) (f : Failure Refusal) → i < length order → n ≡ get_or order i n → slice_get l.units n ≡ Some u
-      → Refuses (interface_judged step l r.world (state_of k middle) n u u.item).answer f → Refuses (all_interfaces step l first order).answer f
-  reached_refused n u f less e found h =
-      refused_as _ _ f (rest_at n less e) (unit_refused step l here_now n (drop (i + 1) order) u f found h)
+  pub reached_refused : (d : ℕ) (u : LibraryUnit) (f : Failure Refusal) → i < length order → slice_get l.units (get_or order i d) ≡ Some u
+      → Refuses (interface_judged step l r.world (state_of k middle) (get_or order i d) u u.item).answer f
+      → Refuses (all_interfaces step l first order).answer f
+  reached_refused d u f less found h =
+      refused_as _ _ f (rest_at d less) (unit_refused step l here_now (get_or order i d) (drop (i + 1) order) u f found h)
 
   pub reached_last : length order ≤ i → IsWalked x facts middle k (all_interfaces step l first order).answer
   reached_last none = record {
@@ -184,3 +185,12 @@ pub in_order : {A : Type 0} (step : rules.Step) (x : Library) (l : RulesLibrary)
     (order : List ℕ) (o : Result A (Failure Refusal)) → order ≡ l.order → WalkedAs x facts new k (all_interfaces step l first order).answer o
     → WalkedAs x facts new k (all_interfaces step l first l.order).answer o
 in_order step x l facts new k first order o e h = subst (λ ns. WalkedAs x facts new k (all_interfaces step l first ns).answer o) e h
+
+pub refused_in_order : (step : rules.Step) (l : RulesLibrary) (first : Walked) (order : List ℕ) (f : Failure Refusal) → order ≡ l.order
+    → Refuses (all_interfaces step l first order).answer f → Refuses (all_interfaces step l first l.order).answer f
+refused_in_order step l first order f e h = subst (λ ns. Refuses (all_interfaces step l first ns).answer f) e h
+
+-- what the list of units has under a number
+pub unit_there : (all units : List LibraryUnit) (n : ℕ) (o r : Option (Bor LibraryUnit)) → all ≡ units → option_copied o ≡ slice_get all n → o ≡ r
+    → slice_get units n ≡ option_copied r
+unit_there all units n o r same found is = ap (λ us. slice_get us n) (sym same) ∙ (sym found ∙ ap option_copied is)

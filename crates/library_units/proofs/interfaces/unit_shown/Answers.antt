@@ -1,5 +1,5 @@
 use Rattle.std.proofs.Common.{refl, sym, ap, ◌∙◌, subst}
-use Rattle.ada_rules.specs.Entities.{hidden, unit}
+use Rattle.ada_rules.specs.Entities.{key}
 use Rattle.ada_entities.specs.declared.entity.Entity.TheVariants as entity
 use Rattle.ada_entities.specs.EntityViews.{region_of}
 use Rattle.ada_library.specs.Seeing.{IsSeen}
@@ -18,7 +18,7 @@ returns-in-Package-clause-comes c all l idle k world before begins =
     let own = entity.Unit n in
     let seen : IsSeen x w.symbols.units u own region = subst (λ us. IsSeen x us u own region) c.units.ensures c.in_ok-seen-in-Package.ensures in
     walked_as x _ _ k _ _ _
-    (package_as (step_of c.args.step) l world (state_of k w) n u _ (c.as_slice.ensures.value ∙ c.in_ok-name.ensures) (region_of k region)
+    (package_as (step_of c.args.step) l world (state_of k w) n u _ (c.as_slice.ensures.value ∙ (c.in_ok-name.ensures ∙ ap key c.item_name.ensures)) (region_of k region)
     c.in-Package.package c.in-Package.is (seen_there x all l w idle c.args.instances.now k world before u own region seen))
     (c.package_shown.ensures.comes u.item_pos (between x all l w idle u own region (unit_known w n) seen) k world before begins)
 
@@ -43,7 +43,7 @@ returns-in-Instance-clause-comes c all l idle k world before begins =
     let own = entity.Hidden in
     let seen : IsSeen x w.symbols.units u own region = subst (λ us. IsSeen x us u own region) c.units-in-Instance.ensures c.in_ok-seen-in-Instance.ensures in
     walked_as x _ _ k _ _ _
-    (instance_as (step_of c.args.step) l world (state_of k w) n u _ (c.as_slice.ensures.value ∙ c.in_ok-name.ensures) (region_of k region)
+    (instance_as (step_of c.args.step) l world (state_of k w) n u _ (c.as_slice.ensures.value ∙ (c.in_ok-name.ensures ∙ ap key c.item_name.ensures)) (region_of k region)
     c.in-Instance.instance c.instance_number-own.result c.in-Instance.is (c.instance_number-own.ensures all l idle.library) (seen_there x all l w idle c.args.instances.now k world before u own region seen))
     (c.instance_shown.ensures.comes (between x all l w idle u own region (hidden_known w) seen) k world before begins)
 
@@ -68,7 +68,7 @@ returns-in-Subprogram-clause-comes c all l idle k world before begins =
     let own = entity.Hidden in
     let seen : IsSeen x w.symbols.units u own region = subst (λ us. IsSeen x us u own region) c.units-in-Subprogram.ensures c.in_ok-seen-in-Subprogram.ensures in
     walked_as x _ _ k _ _ _
-    (subprogram_as (step_of c.args.step) l world (state_of k w) n u _ (c.as_slice.ensures.value ∙ c.in_ok-name.ensures) (region_of k region)
+    (subprogram_as (step_of c.args.step) l world (state_of k w) n u _ (c.as_slice.ensures.value ∙ (c.in_ok-name.ensures ∙ ap key c.item_name.ensures)) (region_of k region)
     c.in-Subprogram.body c.in-Subprogram.is (seen_there x all l w idle c.args.instances.now k world before u own region seen))
     (c.subprogram_shown.ensures.comes (between x all l w idle u own region (hidden_known w) seen) k world before begins)
 
