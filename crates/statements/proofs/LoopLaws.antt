@@ -1,5 +1,5 @@
 -- The beginning of a for loop, of the rules' definitions.
-use Rattle.std.proofs.Common.{◌≡◌, ℕ, ◌+◌, true, List, [], ◌∷◌, map, reverse, Some, Result, Ok, Err, if◌then◌else◌, refl, sym, ap, ◌∙◌, subst}
+use Rattle.std.proofs.Common.{◌≡◌, ℕ, ◌+◌, List, [], ◌∷◌, map, reverse, Some, Result, Ok, Err, if◌then◌else◌, refl, sym, ap, ◌∙◌, subst}
 use Rattle.std.proofs.lemmas.Cmp.{nat_list_eq_equiv}
 use Rattle.cov_base.specs.declared.position.Pos.{Pos}
 use Rattle.cov_base.specs.declared.failure.Failure.{Failure}
@@ -8,7 +8,7 @@ use Rattle.ada_syntax.specs.declared.name.Identifier.{Identifier}
 use Rattle.ada_tree.specs.declared.types.Subtype.{Subtype as TreeSubtype}
 use Rattle.ada_rules.specs.Plan.{Plan, ◌>>=◌, rule, answer_at}
 use Rattle.ada_rules.specs.Types.{AdaSubtype, subtype_in_tree}
-use Rattle.ada_rules.specs.Entities.{key, same_name, Entity, hidden, Region, redefined}
+use Rattle.ada_rules.specs.Entities.{key, Entity, hidden, Region, redefined}
 use Rattle.ada_rules.specs.Environment.{State, Given, given, Env, beginning_state, hide, with_local, opened}
 use Rattle.ada_rules.specs.Statements.{Turns, turned, one_object_more, loop_parameter}
 use Rattle.ada_entities.specs.declared.fault.Refusal.{Refusal}

@@ -1,5 +1,5 @@
 -- Statements, branches, alternatives in a row, of the rules' definitions.
-use Rattle.std.proofs.Common.{◌≡◌, List, [], ◌∷◌, map, Result, Ok, refl, ap, ◌∙◌}
+use Rattle.std.proofs.Common.{◌≡◌, List, [], ◌∷◌, map, Result, Ok}
 use Rattle.cov_base.specs.declared.position.Pos.{Pos}
 use Rattle.cov_base.specs.declared.failure.Failure.{Failure}
 use Rattle.ada_syntax.specs.StatementTree as text
@@ -12,7 +12,6 @@ use Rattle.ada_rules.specs.Statements.{Chosen, Arm}
 use Rattle.ada_entities.specs.declared.fault.Refusal.{Refusal}
 use Rattle.ada_entities.specs.Answers.{Refuses, refused_at, no_memory}
 use Rattle.ada_entities.specs.EntityViews.{Tables}
-use Rattle.ada_phrases.specs.Answers.{before}
 use Rattle.statement_parts.specs.declared.selectors.Selector.{Selector}
 use Rattle.statement_parts.specs.Selectors.{selector_in}
 use Rattle.statement_parts.proofs.Walks.{IsWalk}

@@ -1,5 +1,5 @@
 -- What the walk over statements makes, as the rules have it.
-use Rattle.std.specs.Prelude.{◌≡◌, Bool, ◌&&◌, nat_eq, length, List, [], ◌∷◌, ◌++◌, map, Option, Some, None, Result, Ok, Err}
+use Rattle.std.specs.Prelude.{◌≡◌, Bool, ◌&&◌, nat_eq, length, List, [], ◌++◌, map, Option, Some, None, Result, Ok, Err}
 use Rattle.std.specs.declared.vec.Vec.{Vec}
 use Rattle.std.specs.declared.alloc.Global.{Global}
 use Rattle.cov_base.specs.declared.failure.Failure.{Failure}
@@ -24,8 +24,8 @@ use Rattle.ada_rules.specs.Statements as rules
 use Rattle.ada_entities.specs.declared.fault.Refusal.{Refusal}
 use Rattle.ada_entities.specs.EntityViews.{Tables}
 use Rattle.type_trees.specs.Trees.{shapes_in_tree}
-use Rattle.statement_parts.specs.Cases.{arm_in, arms_in}
-use Rattle.statement_parts.specs.Simple.{in_tree, in_program}
+use Rattle.statement_parts.specs.Cases.{arms_in}
+use Rattle.statement_parts.specs.Simple.{in_program}
 use Rattle.statements.specs.declared.nested.Frame.{Frame}
 use Rattle.statements.specs.Handling.{Caught, handler_once}
 use Rattle.statements.specs.Nested.{all_in_tree, branch_in, branched_once, arm_once}

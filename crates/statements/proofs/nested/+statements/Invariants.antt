@@ -1,5 +1,4 @@
-use Rattle.std.proofs.Common.{◌≡◌, ◌+◌, ◌*◌, ◌∷◌, drop, map}
-use Rattle.cov_base.specs.declared.position.Pos.{Pos}
+use Rattle.std.proofs.Common.{◌+◌, ◌*◌, ◌∷◌, drop, map}
 use Rattle.ada_syntax.specs.StatementTree.{statement_size, statements_size, branches_size, alternatives_size, handlers_size, handled_size}
 use Rattle.ada_syntax.specs.StatementView.{statements_of, branches_of, alternatives_of, handlers_of}
 use Rattle.statement_parts.specs.Cases.{arm_in}

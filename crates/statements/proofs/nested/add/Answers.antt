@@ -1,6 +1,5 @@
-use Rattle.std.proofs.Common.{[], ◌∷◌, sym, ap, ◌∙◌}
-use Rattle.std.proofs.lemmas.List.{map-append, append-nil}
-use Rattle.statement_parts.specs.Simple.{in_tree}
+use Rattle.std.proofs.Common.{sym}
+use Rattle.std.proofs.lemmas.List.{append-nil}
 use Rattle.statements.specs.Nested.{all_in_tree}
 use Rattle.statements.proofs.nested.add.Goals as goal
 
