@@ -3,8 +3,8 @@
 ghost use Rattle.library_units.specs.Interfaces.{ComesToUnit, ComesToUnits, PassesUnits};
 
 use crate::instances::instance_shown;
-use crate::shown_packages::package_shown;
 use crate::place::UnitPlace;
+use crate::shown_packages::package_shown;
 use crate::subprograms::subprogram_shown;
 use ada_demands::Instances;
 use ada_entities::{Entity, Refusal, key};

@@ -1,4 +1,10 @@
-//! What other units see of library units (Ada RM 2012, 7.1, 10.1.1, 12.3), as the rules say it.
+//! Library units (Ada RM 2012, 7.1, 10.1, 12.3): what others see of each, as the rules say it.
+//!
+//! Between units no region is open, and a world has what the walk keeps (unit_walk). [`all_shown`] looks at
+//! the units in the order in which they depend on each other, and each is seen by others from there on: a
+//! package with its declarations, a generic with its formals too, an instance by its number in the text, a
+//! subprogram with its profile. The rules then come to a world that has what the walk keeps
+//! (`specs/Walked.antt`), or refuse at the place that is answered.
 #![tactic(auto)]
 
 mod instances;

@@ -54,35 +54,38 @@ returns-in_err-unit_shown-clause-passes c all l idle =
     (c.in_err-unit_shown.ensures.passes all l now))
 
 pub loop-number-preserved : goal.loop-number-preserved
-loop-number-preserved c = elim c.match-get.branch [ in-Some+in_ok-unit_shown w ↦ rw (w.instances-is, w.walk-is) (record {
-  rest = λ all l idle same k world before b.
-      let step = step_of c.args.step in
-      let x = c.args.library.now in
-      let order = c.order-number-items.result.now in
-      let middle = c.loop-number.walk in
-      let first : Walked = record { world = world; next = state_of k c.args.walk.now } in
-      let now = still_idle x all l c.args.walk.now middle idle (c.loop-number.invariant.goes all l idle) in
-      let passes = w.in_ok-unit_shown.ensures.passes all l now in
-      let r = c.loop-number.invariant.rest all l idle same k world before (passes.continues k b) in
-      reached_next step x l c.loop-number.instances middle k first order c.loop-number.number-index r _ w.in-Some.unit.now w.unit_shown.new.walk
-      w.unit_shown.new.instances c.loop-number-test.true
-      (unit_there c.args.units.now l.units _ c.get.result (Some w.in-Some.unit) same
-      (copied_get c.args.units.now _ c.get.result c.get.ensures.lookup.1 c.get.ensures.lookup.3) w.in-Some.is)
-      (w.in_ok-unit_shown.ensures.comes all l now k r.world r.stands b);
-  goes = λ all l idle.
-      let goes = c.loop-number.invariant.goes all l idle in
-      let now = still_idle c.args.library.now all l c.args.walk.now c.loop-number.walk idle goes in
-      then_behind c.args.walk.now c.loop-number.walk w.unit_shown.new.walk goes (w.in_ok-unit_shown.ensures.passes all l now);
-}) | in_default w ↦ rw (w.instances-is, w.walk-is) (record {
-  rest = λ all l idle same k world before b.
-      let step = step_of c.args.step in
-      let x = c.args.library.now in
-      let order = c.order-number-items.result.now in
-      let middle = c.loop-number.walk in
-      let first : Walked = record { world = world; next = state_of k c.args.walk.now } in
-      let r = c.loop-number.invariant.rest all l idle same k world before b in
-      reached_none step x l c.loop-number.instances middle k first order c.loop-number.number-index r _ c.loop-number-test.true
-      (unit_there c.args.units.now l.units _ c.get.result None same
-      (copied_get c.args.units.now _ c.get.result c.get.ensures.lookup.1 c.get.ensures.lookup.3) w.in_default.is);
-  goes = c.loop-number.invariant.goes;
-}) ]
+loop-number-preserved c = elim c.match-get.branch [
+  | in-Some+in_ok-unit_shown w ↦ rw (w.instances-is, w.walk-is) (record {
+    rest = λ all l idle same k world before b.
+        let step = step_of c.args.step in
+        let x = c.args.library.now in
+        let order = c.order-number-items.result.now in
+        let middle = c.loop-number.walk in
+        let first : Walked = record { world = world; next = state_of k c.args.walk.now } in
+        let now = still_idle x all l c.args.walk.now middle idle (c.loop-number.invariant.goes all l idle) in
+        let passes = w.in_ok-unit_shown.ensures.passes all l now in
+        let r = c.loop-number.invariant.rest all l idle same k world before (passes.continues k b) in
+        reached_next step x l c.loop-number.instances middle k first order c.loop-number.number-index r _ w.in-Some.unit.now w.unit_shown.new.walk
+        w.unit_shown.new.instances c.loop-number-test.true
+        (unit_there c.args.units.now l.units _ c.get.result (Some w.in-Some.unit) same
+        (copied_get c.args.units.now _ c.get.result c.get.ensures.lookup.1 c.get.ensures.lookup.3) w.in-Some.is)
+        (w.in_ok-unit_shown.ensures.comes all l now k r.world r.stands b);
+    goes = λ all l idle.
+        let goes = c.loop-number.invariant.goes all l idle in
+        let now = still_idle c.args.library.now all l c.args.walk.now c.loop-number.walk idle goes in
+        then_behind c.args.walk.now c.loop-number.walk w.unit_shown.new.walk goes (w.in_ok-unit_shown.ensures.passes all l now);
+  })
+  | in_default w ↦ rw (w.instances-is, w.walk-is) (record {
+    rest = λ all l idle same k world before b.
+        let step = step_of c.args.step in
+        let x = c.args.library.now in
+        let order = c.order-number-items.result.now in
+        let middle = c.loop-number.walk in
+        let first : Walked = record { world = world; next = state_of k c.args.walk.now } in
+        let r = c.loop-number.invariant.rest all l idle same k world before b in
+        reached_none step x l c.loop-number.instances middle k first order c.loop-number.number-index r _ c.loop-number-test.true
+        (unit_there c.args.units.now l.units _ c.get.result None same
+        (copied_get c.args.units.now _ c.get.result c.get.ensures.lookup.1 c.get.ensures.lookup.3) w.in_default.is);
+    goes = c.loop-number.invariant.goes;
+  })
+]
