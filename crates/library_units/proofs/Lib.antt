@@ -3,3 +3,4 @@ pub mod InstanceLaws
 pub mod SubprogramLaws
 pub mod PackageLaws
 pub mod InterfaceLaws
+pub mod BodyLaws

@@ -1,0 +1,34 @@
+//! Bodies of library subprograms (Ada RM 2012, 6.3, 10.1).
+
+ghost use Rattle.library_units.specs.Bodies.{PassesBody, ComesToSubprogram};
+
+use crate::place::UnitPlace;
+use ada_demands::Instances;
+use ada_entities::{Refusal, Region};
+use ada_syntax::SubprogramBody;
+use bodies::library_body;
+use cov_base::Failure;
+use program_walk::Walk;
+use std::alloc::Global;
+use unit_walk::{enter_unit, leave_unit};
+
+/// The body of a library subprogram, which declares no object of the library level. Refused at the
+/// rules' own place.
+#[tactic(auto, using(declarations::proofs::GoingLaws::parts))]
+pub fn subprogram_body(
+    alloc: Global,
+    place: UnitPlace<'_>,
+    instances: &Instances,
+    walk: &mut Walk,
+    seen: Region,
+    body: &SubprogramBody,
+) -> Result<(), Failure<Refusal>>
+    ensures comes { ComesToSubprogram place.entry instances.now walk.old walk.new seen body.now result }
+    ensures passes { PassesBody walk.old walk.new seen result }
+{
+    let context = place.context(instances).inside();
+    enter_unit(alloc, walk, seen, Region::new(alloc))?;
+    library_body(alloc, &context, walk, body)?;
+    leave_unit(alloc, &mut walk.symbols);
+    Ok(())
+}
