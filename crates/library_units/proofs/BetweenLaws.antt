@@ -1,8 +1,8 @@
 -- Walks between units: what enters a unit, leaves it and lets others see it is as it was.
-use Rattle.std.proofs.Common.{◌≡◌, ℕ, ◌<◌, arith, length, List, [], ◌∷◌, set, Result, Ok, Err, refl, sym, ap, ◌∙◌, subst}
+use Rattle.std.proofs.Common.{◌≡◌, ℕ, ◌<◌, arith, length, List, [], ◌∷◌, set, refl, sym, ap, ◌∙◌, subst}
 use Rattle.cov_base.specs.declared.failure.Failure.{Failure}
 use Rattle.cov_base.specs.declared.failure.Failure.TheVariants.{Fault, WantOfMemory}
-use Rattle.ada_rules.specs.Environment.{World, Env}
+use Rattle.ada_rules.specs.Environment.{World}
 use Rattle.ada_rules.specs.Statics.{Facts}
 use Rattle.ada_rules.specs.Units.{env_of}
 use Rattle.ada_entities.specs.declared.entity.Entity.{Entity}
@@ -18,7 +18,6 @@ use Rattle.ada_phrases.specs.Scopes.{step_of}
 use Rattle.symbol_table.specs.declared.symbols.Symbols.{Symbols}
 use Rattle.symbol_table.specs.Alike.{IsKnownRegion}
 use Rattle.symbol_table.specs.Changes.{IsOpen, Becomes, Grows, ShowsUnit, Closes, Reopens}
-use Rattle.symbol_table.specs.SymbolViews as symbols
 use Rattle.symbol_table.specs.SymbolViews.{IsKnown}
 use Rattle.symbol_table.proofs.PlaceLaws.{region_stays}
 use Rattle.symbol_table.proofs.RegionChanges.{innermost_known}

@@ -1,5 +1,5 @@
 -- Instances, as other units see them, of the rules' definitions.
-use Rattle.std.proofs.Common.{◌≡◌, ℕ, List, [], Option, Result, Ok, Err, refl, sym, ap, ◌∙◌, subst}
+use Rattle.std.proofs.Common.{◌≡◌, ℕ, List, [], Option, Result, Ok, refl, sym, ap, ◌∙◌, subst}
 use Rattle.cov_base.specs.declared.position.Pos.{Pos}
 use Rattle.cov_base.specs.declared.failure.Failure.{Failure}
 use Rattle.cov_base.specs.declared.failure.Failure.TheVariants.{Fault, WantOfMemory}
@@ -7,7 +7,7 @@ use Rattle.ada_syntax.specs.declared.unit.Instance.{Instance}
 use Rattle.ada_rules.specs.Entities.{Actual}
 use Rattle.ada_rules.specs.Environment.{World, State, Given, given, Env}
 use Rattle.ada_rules.specs.Statics.{Facts}
-use Rattle.ada_rules.specs.Units.{Walked, at_unit, env_of, instance_judged, with_instance}
+use Rattle.ada_rules.specs.Units.{env_of, instance_judged, with_instance}
 use Rattle.ada_entities.specs.Answers.{Refuses, refused_at, no_memory}
 use Rattle.ada_entities.specs.declared.entity.Entity.{Entity}
 use Rattle.ada_entities.specs.declared.fault.Refusal.{Refusal}
@@ -22,14 +22,13 @@ use Rattle.static_parts.specs.declared.place.Notes.{Notes}
 use Rattle.static_parts.specs.declared.place.Place.{Place}
 use Rattle.static_parts.specs.Places as places
 use Rattle.symbol_table.specs.declared.symbols.Symbols.{Symbols}
-use Rattle.symbol_table.specs.Changes.{Becomes, ShowsUnit}
 use Rattle.symbol_table.specs.SymbolViews as symbols
 use Rattle.symbol_table.specs.Sites.{HoldsUnits}
 use Rattle.symbol_table.proofs.PlaceLaws.{units_stay}
 use Rattle.program_walk.specs.declared.context.Context.{Context}
 use Rattle.program_walk.specs.declared.walk.Walk.{Walk}
 use Rattle.program_walk.specs.States.{kept_state, state_of}
-use Rattle.program_walk.specs.Walks.{Begins, StandsAt, IsPlaceOf}
+use Rattle.program_walk.specs.Walks.{Begins, IsPlaceOf}
 use Rattle.specifications.specs.Actuals.{actuals_in}
 use Rattle.declarations.specs.Going.{Stays}
 use Rattle.unit_walk.specs.declared.instantiation.Instantiated.{Instantiated}
@@ -37,7 +36,7 @@ use Rattle.unit_walk.specs.Standing.{StandsBefore}
 use Rattle.unit_walk.specs.Entering.{IsUnitContext, IsEntered, Leaves}
 use Rattle.unit_walk.specs.Instantiating.{instantiated_of, instance_part, judged_from, behind_instance, Makes, KeepsSymbols, SeesInstance}
 use Rattle.unit_walk.proofs.InstantiatingLaws.{judged}
-use Rattle.library_units.specs.Walked.{GoesBehind, IsWalked}
+use Rattle.library_units.specs.Walked.{IsWalked}
 use Rattle.library_units.proofs.BetweenLaws.{left_becomes, as_entered, stands_in_unit}
 
 -- an instance is refused where its generic or its actuals are

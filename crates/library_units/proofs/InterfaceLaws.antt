@@ -1,5 +1,5 @@
 -- Units that others see, one behind the other, of the rules' definitions.
-use Rattle.std.proofs.Common.{◌≡◌, ℕ, ◌+◌, ◌<◌, ◌≤◌, List, [], ◌∷◌, length, drop, get_or, slice_get, Option, Some, None, Result, Ok, Err, refl, sym, ap, ◌∙◌, subst}
+use Rattle.std.proofs.Common.{◌≡◌, ℕ, ◌+◌, ◌<◌, ◌≤◌, List, ◌∷◌, length, drop, get_or, slice_get, Option, Some, None, Result, Ok, Err, refl, sym, ap, ◌∙◌, subst}
 use Rattle.std.specs.Borrow.{Bor}
 use Rattle.std.specs.Option.{option_copied}
 use Rattle.std.proofs.lemmas.List.{at_drop_all, at_drop_more}
@@ -25,12 +25,10 @@ use Rattle.ada_entities.specs.declared.entity.Entity.TheVariants as entity
 use Rattle.ada_entities.specs.declared.fault.Refusal.{Refusal}
 use Rattle.ada_entities.specs.EntityViews.{Tables, entity_of, region_of}
 use Rattle.ada_library.specs.declared.library.Library.{Library}
-use Rattle.ada_library.specs.LibraryView.{IsLibrary}
-use Rattle.ada_library.specs.Seeing.{IsSeen, Stands}
+use Rattle.ada_library.specs.Seeing.{IsSeen}
 use Rattle.ada_phrases.proofs.Parts.{passes_on, in_part, refused_as}
 use Rattle.program_walk.specs.declared.walk.Walk.{Walk}
 use Rattle.program_walk.specs.States.{state_of}
-use Rattle.program_walk.specs.Walks.{Begins}
 use Rattle.unit_walk.specs.Standing.{StandsBefore, IsKnownEntity}
 use Rattle.unit_walk.proofs.SeenLaws.{seen_known}
 use Rattle.library_units.specs.Interfaces.{IsIdle}

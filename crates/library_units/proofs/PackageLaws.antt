@@ -5,7 +5,7 @@ use Rattle.cov_base.specs.declared.failure.Failure.{Failure}
 use Rattle.ada_syntax.specs.declared.unit.Formal.{Formal}
 use Rattle.ada_syntax.specs.declared.unit.PackageItem.{PackageItem}
 use Rattle.ada_syntax.specs.declared.unit.PackageSpecification.{PackageSpecification}
-use Rattle.ada_rules.specs.Plan.{Plan, ◌>>=◌, rule, outcome_after, answer_at}
+use Rattle.ada_rules.specs.Plan.{Plan, ◌>>=◌, rule, answer_at}
 use Rattle.ada_rules.specs.Entities.{Actual, Region}
 use Rattle.ada_rules.specs.Environment.{World, State, beginning_state, Given, given, Env}
 use Rattle.ada_rules.specs.Instances.{formals_declared}

@@ -2,14 +2,13 @@
 use Rattle.std.proofs.Common.{◌≡◌, ℕ, List, [], Some, None, Result, Ok, unwrap_or, refl, sym, ap, ◌∙◌, subst}
 use Rattle.cov_base.specs.declared.position.Pos.{Pos}
 use Rattle.cov_base.specs.declared.failure.Failure.{Failure}
-use Rattle.ada_syntax.specs.declared.name.Identifier.{Identifier}
 use Rattle.ada_syntax.specs.declared.unit.SubprogramBody.{SubprogramBody}
 use Rattle.ada_rules.specs.Plan.{Plan, rule, outcome_after, answer_at}
 use Rattle.ada_rules.specs.Entities.{key}
 use Rattle.ada_rules.specs.Environment.{World, State, Given, Env, subprogram_interface}
 use Rattle.ada_rules.specs.Statics.{Facts}
 use Rattle.ada_rules.specs.Subprograms.{Profile, specified, body_number, declared_only}
-use Rattle.ada_rules.specs.Units.{Walked, at_unit, env_of, with_subprogram, library_routine, library_subprogram}
+use Rattle.ada_rules.specs.Units.{Walked, env_of, with_subprogram, library_routine, library_subprogram}
 use Rattle.ada_entities.specs.Answers.{Refuses}
 use Rattle.ada_entities.specs.declared.entity.Completion.TheVariants as completion
 use Rattle.ada_entities.specs.declared.entity.Entity.{Entity}
@@ -22,10 +21,8 @@ use Rattle.ada_phrases.specs.declared.scope.Step.{Step}
 use Rattle.ada_phrases.specs.Scopes.{step_of}
 use Rattle.ada_phrases.proofs.Parts.{passes_on, in_part, refused_as}
 use Rattle.symbol_table.specs.declared.symbols.Symbols.{Symbols}
-use Rattle.symbol_table.specs.Changes.{Becomes, Grows, ShowsUnit}
-use Rattle.symbol_table.specs.SymbolViews as symbols
+use Rattle.symbol_table.specs.Changes.{Becomes, ShowsUnit}
 use Rattle.specifications.specs.declared.conformance.Profile.{Profile as CodeProfile}
-use Rattle.specifications.specs.Profiles.{profile_of}
 use Rattle.program_walk.specs.declared.context.Context.{Context}
 use Rattle.program_walk.specs.declared.walk.Walk.{Walk}
 use Rattle.program_walk.specs.States.{state_of}

@@ -1,5 +1,5 @@
 -- All units of a library, as others see them, one behind the other.
-use Rattle.std.specs.Prelude.{◌≡◌, ℕ, List, [], Option, Result, Ok, Err}
+use Rattle.std.specs.Prelude.{◌≡◌, ℕ, List, [], Result}
 use Rattle.cov_base.specs.declared.position.Pos.{Pos}
 use Rattle.cov_base.specs.declared.failure.Failure.{Failure}
 use Rattle.ada_syntax.specs.declared.unit.Unit.{Unit as LibraryUnit}
@@ -16,9 +16,9 @@ use Rattle.ada_phrases.specs.Scopes.{step_of}
 use Rattle.symbol_table.specs.SymbolViews.{IsKnown}
 use Rattle.program_walk.specs.declared.walk.Walk.{Walk}
 use Rattle.program_walk.specs.States.{state_of}
-use Rattle.program_walk.specs.Walks.{Begins, Continues}
+use Rattle.program_walk.specs.Walks.{Begins}
 use Rattle.unit_walk.specs.Standing.{StandsBefore}
-use Rattle.library_units.specs.Walked.{GoesBehind, PassesUnit, WalkedAs}
+use Rattle.library_units.specs.Walked.{PassesUnit, WalkedAs}
 
 -- a walk between units of this library, where no region is open
 pub record IsIdle (x : Library) (all : List LibraryUnit) (l : RulesLibrary) (w : Walk) : Type 0 where

@@ -1,4 +1,4 @@
-use Rattle.std.proofs.Common.{[], refl, sym, ap, ◌∙◌, subst}
+use Rattle.std.proofs.Common.{[], refl, sym, ◌∙◌, subst}
 use Rattle.std.proofs.lemmas.Result.{err_from_is_err_and}
 use Rattle.ada_entities.specs.declared.units.Interface.TheVariants as interface
 use Rattle.ada_demands.specs.SpanViews as spans
@@ -6,7 +6,7 @@ use Rattle.program_walk.specs.declared.walk.Walk.{Walk}
 use Rattle.program_walk.specs.Walks.{Begins}
 use Rattle.symbol_table.specs.Changes.{Becomes}
 use Rattle.symbol_table.specs.SymbolViews as symbols
-use Rattle.library_units.proofs.BetweenLaws.{is_entered, as_entered, left_becomes, entered_continues, entered_stays, shown_behind, goes_behind}
+use Rattle.library_units.proofs.BetweenLaws.{is_entered, as_entered, left_becomes, shown_behind, goes_behind}
 use Rattle.library_units.proofs.InstanceLaws.{instance_refused, instance_walked, notes_stay}
 use Rattle.library_units.proofs.instances.instance_shown.Goals as goal
 

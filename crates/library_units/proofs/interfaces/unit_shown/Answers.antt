@@ -1,4 +1,4 @@
-use Rattle.std.proofs.Common.{refl, sym, ap, ◌∙◌, subst}
+use Rattle.std.proofs.Common.{ap, ◌∙◌, subst}
 use Rattle.ada_rules.specs.Entities.{key}
 use Rattle.ada_entities.specs.declared.entity.Entity.TheVariants as entity
 use Rattle.ada_entities.specs.EntityViews.{region_of}

@@ -1,4 +1,4 @@
-use Rattle.std.proofs.Common.{[], None, ap, ◌∙◌}
+use Rattle.std.proofs.Common.{[], ap, ◌∙◌}
 use Rattle.std.proofs.lemmas.Result.{err_from_is_err_and}
 use Rattle.ada_entities.specs.declared.units.Interface.TheVariants as interface
 use Rattle.ada_demands.specs.SpanViews.{listed}
