@@ -1,0 +1,3 @@
+pub mod ConditionPlaces
+pub mod BodyTexts
+pub mod Choices
