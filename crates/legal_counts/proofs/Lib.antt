@@ -1,0 +1,8 @@
+mod DecidedExpressions
+mod DecidedParts
+mod DecidedStatements
+mod DecidedBodies
+mod Tests
+mod ConditionExpressions
+mod ConditionStatements
+pub mod ConditionUnits
