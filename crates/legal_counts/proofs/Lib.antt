@@ -6,3 +6,4 @@ mod Tests
 mod ConditionExpressions
 mod ConditionStatements
 pub mod ConditionUnits
+mod HeldDecisions

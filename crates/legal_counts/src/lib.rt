@@ -7,10 +7,10 @@
 //! The functions here do nothing: each carries a law of the definitions as its contract.
 #![tactic(auto)]
 
-ghost use Rattle.std.specs.Prelude.{true, List, map, ℕ, ◌≡◌};
+ghost use Rattle.std.specs.Prelude.{true, length, List, map, ℕ, ◌<◌, ◌≡◌};
 ghost use Rattle.cov_base.specs.Expr.{negates_once};
 ghost use Rattle.cov_base.specs.Lists.{Everywhere};
-ghost use Rattle.ada_meaning.specs.Collected.{condition_places, decisions_of};
+ghost use Rattle.ada_meaning.specs.Collected.{condition_places, decisions_of, labels_of};
 ghost use Rattle.ada_meaning.specs.Program.{Program};
 ghost use Rattle.ada_meaning.specs.Tree.{shape_of};
 ghost use Rattle.ada_rules.specs.Library.{Library};
@@ -26,3 +26,11 @@ pub fn conditions_stand_in_the_text()
     ensures once { (l : Library) (main : List ℕ) (p : Program) → IsLegal l main p → IsWholeStandard l.standard
         → Everywhere (λ h. negates_once (shape_of h.test) ≡ true) (decisions_of p.subprograms) }
 {}
+
+/// Each decision of a legal program is held by one of its statement obligations.
+pub fn statements_hold_decisions()
+    ensures { (l : Library) (main : List ℕ) (p : Program) → IsLegal l main p
+        → Everywhere (λ h. h.statement < length (labels_of p.subprograms)) (decisions_of p.subprograms) }
+{
+    legal_programs::obligations_are_numbered();
+}
