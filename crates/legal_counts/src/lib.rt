@@ -7,16 +7,21 @@
 //! The functions here do nothing: each carries a law of the definitions as its contract.
 #![tactic(auto)]
 
-ghost use Rattle.std.specs.Prelude.{true, length, List, map, ℕ, ◌<◌, ◌≡◌};
+ghost use Rattle.std.specs.Prelude.{true, length, List, map, sum_by, ℕ, ◌<◌, ◌≤◌, ◌≡◌};
 ghost use Rattle.cov_base.specs.Expr.{negates_once};
 ghost use Rattle.cov_base.specs.Lists.{Everywhere};
+ghost use Rattle.ada_syntax.specs.Nodes.{unit_nodes};
 ghost use Rattle.ada_meaning.specs.Collected.{condition_places, decisions_of, labels_of};
 ghost use Rattle.ada_meaning.specs.Program.{Program};
 ghost use Rattle.ada_meaning.specs.Tree.{shape_of};
 ghost use Rattle.ada_rules.specs.Library.{Library};
 ghost use Rattle.legal_programs.specs.Walked.{IsLegal};
 ghost use Rattle.legal_programs.specs.WholeWorld.{IsWholeStandard};
+ghost use Rattle.legal_counts.specs.BodyTexts.{bodies_in};
+ghost use Rattle.legal_counts.specs.Choices.{UnitsHaveChoices};
 ghost use Rattle.legal_counts.specs.ConditionPlaces.{units_conditions};
+ghost use Rattle.legal_counts.specs.Sizes.{subprogram_nodes};
+ghost use Rattle.legal_counts.specs.Within.{AreWithin};
 
 /// The conditions of each decision of a legal program stand where those of its units stand, decisions in
 /// the order of the text; and no `not` stands directly in another.
@@ -34,3 +39,12 @@ pub fn statements_hold_decisions()
 {
     legal_programs::obligations_are_numbered();
 }
+
+/// The subprograms of a legal program are those of the bodies of its units, in the order of the text, and a
+/// body has no more nodes than its text has tokens that count.
+pub fn each_node_of_a_body_has_a_token()
+    ensures bodies { (l : Library) (main : List ℕ) (p : Program) → IsLegal l main p → IsWholeStandard l.standard
+        → UnitsHaveChoices l.units → AreWithin p.subprograms (bodies_in l.units) }
+    ensures program { (l : Library) (main : List ℕ) (p : Program) → IsLegal l main p → IsWholeStandard l.standard
+        → UnitsHaveChoices l.units → sum_by subprogram_nodes p.subprograms ≤ sum_by unit_nodes l.units }
+{}
