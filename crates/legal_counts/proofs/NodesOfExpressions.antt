@@ -1,5 +1,5 @@
 -- Names and expressions come to no more nodes than they have tokens that count.
-use Rattle.std.proofs.Common.{◌≡◌, ◌≤◌, ◌+◌, ℕ, suc, nat_eq, nat_lt, Bool, true, false, if◌then◌else◌, List, [], ◌∷◌, length, Option, Some, None, option_map, IfSome, Result, Ok, Err, IfOk, is_some, refl, sym, ap, ◌∙◌, subst, arith}
+use Rattle.std.proofs.Common.{◌≡◌, ◌≤◌, ◌+◌, ℕ, suc, nat_eq, nat_lt, Bool, true, false, if◌then◌else◌, List, [], ◌∷◌, length, Option, Some, None, option_map, IfSome, Result, Ok, Err, IfOk, is_some, refl, sym, subst, arith}
 use Rattle.std.specs.Prelude.{◌&&◌, not}
 use Rattle.std.specs.Option.{option_and_then}
 use Rattle.std.proofs.lemmas.Bool.{false≢true}
@@ -21,11 +21,11 @@ use Rattle.ada_rules.specs.Types.{AdaType, integer_type, enumeration, formal_typ
 use Rattle.ada_rules.specs.Entities.{key, Variable, Parameter, Routine, Entity, hidden, mark, literal, object, formal_object, routine, raisable, component, test_io, unit, entity_of, found, visible}
 use Rattle.ada_rules.specs.Environment.{typing, typed_rule, State, Given, given, Env, regions_of, decision_label, decided}
 use Rattle.ada_rules.specs.Denoted.{Form, plain, test_form, Judged, any_judged, valued, Denoted, a_mark, a_value, a_variable, a_routine, a_call, a_unit, the_test_io, a_thing, denoted_of, followed_by, part_of, field_among, field_of, component_of, attribute_of_type, attribute_of_object, static_attribute, object_attribute, is_attribute, attribute_of, converts, conversion_of, element_of, written, by_name, by_value, passed_as, actuals_for, called, complemented, complement_of, signed, sign_of, operator_of, operation_of, relation_of, relation_with, circuit_of, negated, test_of_expr, test_of, expr_of_form, expr_of, numeral_of, standing_at, enclosed, unary_of, binary_of, related, neutral_of, joined, tested, value_of, applied_to}
-use Rattle.ada_rules.specs.Expressions.{Role, itself, operand, role_under, is_circuit, opens, entered, closed, measured, part_of_unit, named, selection, attribution, typed_as, denoted, judged, all_judged, decision}
+use Rattle.ada_rules.specs.Expressions.{Role, itself, operand, is_circuit, opens, entered, closed, measured, part_of_unit, named, selection, attribution, typed_as, denoted, judged, all_judged, decision}
 use Rattle.legal_laws.proofs.Passing.{IfPassed, if_map, if_then, if_test, if_not, if_either, answered, part_so, typed_so, both_ok, any_answer, some_so}
 use Rattle.legal_programs.specs.Deciding.{IsWhole, IsWholeEnv}
 use Rattle.legal_counts.proofs.DecidedExpressions.{any_of, entity_whole, found_whole, shown_whole, part_whole}
-use Rattle.legal_counts.specs.Sizes as size
+use Rattle.statement_code.specs.Sizes as size
 
 -- the nodes of what an expression comes to; a test has one more, of the decision that it will be
 abbrev pub form_nodes : Form → ℕ

@@ -1,10 +1,10 @@
 -- Declarations and statements come to no more nodes than they have tokens that count.
-use Rattle.std.proofs.Common.{◌≡◌, ◌≤◌, ◌+◌, ℕ, suc, nat_eq, Bool, true, false, if◌then◌else◌, List, [], ◌∷◌, ◌++◌, length, Option, Some, None, option_map, IfSome, IfOk, refl, sym, ap, ◌∙◌, subst, arith}
+use Rattle.std.proofs.Common.{◌≡◌, ◌≤◌, ◌+◌, ℕ, suc, nat_eq, Bool, true, false, if◌then◌else◌, List, [], ◌∷◌, ◌++◌, length, Option, Some, None, option_map, IfSome, IfOk, refl, sym, ap, subst, arith}
 use Rattle.std.specs.Prelude.{◌&&◌, not, is_none, sum_by}
 use Rattle.std.specs.Option.{option_and_then}
 use Rattle.std.proofs.lemmas.List.Sums.{sum_by-cons}
 use Rattle.cov_base.specs.declared.position.Pos.{Pos}
-use Rattle.ada_syntax.specs.Nodes.{if_present, expr_nodes, name_nodes, bounds_nodes, range_nodes, indication_nodes, initial_nodes, constancy_nodes, kind_nodes, declaration_nodes, choice_nodes, exception_choice_nodes, direction_nodes, statement_nodes, statements_nodes, else_nodes, branches_nodes, alternatives_nodes, handlers_nodes, handled_nodes, exception_part_nodes, declare_nodes}
+use Rattle.ada_syntax.specs.Nodes.{if_present, expr_nodes, name_nodes, bounds_nodes, range_nodes, indication_nodes, initial_nodes, constancy_nodes, kind_nodes, declaration_nodes, choice_nodes, exception_choice_nodes, direction_nodes, statement_nodes, statements_nodes, else_nodes, branches_nodes, alternatives_nodes, handlers_nodes, handled_nodes, exception_part_nodes}
 use Rattle.ada_syntax.specs.StatementTree as text
 use Rattle.ada_syntax.specs.Tree as source
 use Rattle.ada_syntax.specs.Tree.{expr_pos, name_pos}
@@ -24,12 +24,12 @@ use Rattle.ada_syntax.specs.declared.statement.ExceptionChoice.TheVariants as ta
 use Rattle.ada_syntax.specs.declared.statement.LoopScheme.TheVariants as scheme
 use Rattle.ada_meaning.specs.Tree as tree
 use Rattle.ada_rules.specs.Plan.{◌>>=◌, rule}
-use Rattle.ada_rules.specs.Types.{integer_type, enumeration, formal_type, array_type, record_type, AdaSubtype, of_type, type_in, range_in, is_discrete, is_scalar, fits, common, subtype_in_tree}
+use Rattle.ada_rules.specs.Types.{integer_type, enumeration, formal_type, array_type, record_type, AdaSubtype, of_type, type_in, range_in, is_discrete, fits, common, subtype_in_tree}
 use Rattle.ada_rules.specs.Entities.{key, Variable, Parameter, Region}
 use Rattle.ada_rules.specs.Environment.{typing, Returning, no_result, result_of, typed_rule, State, Given, given, Env, with_local, opened, in_loop, in_handler, new_identity, one_type_more, hide, hide_all, statement_label, started}
 use Rattle.ada_rules.specs.Denoted.{Judged, Denoted, a_routine, a_call, a_variable, an_exception, expr_of}
-use Rattle.ada_rules.specs.Expressions.{itself, is_circuit, denoted, judged, decision, scalar_mark}
-use Rattle.ada_rules.specs.Declarations.{indicated, defined, NewValue, new_value, any_value, initial_pos, known_of, value_for, Declared, may_be_bare, one_name, bare_declarations, known_constant, lying_in, local_bare, local_set, objects_declared, exceptions_from, type_declared, subtype_declared, kind_declared, declared, all_declared}
+use Rattle.ada_rules.specs.Expressions.{itself, denoted, judged, decision, scalar_mark}
+use Rattle.ada_rules.specs.Declarations.{indicated, defined, NewValue, new_value, any_value, initial_pos, known_of, value_for, Declared, may_be_bare, one_name, bare_declarations, local_bare, local_set, objects_declared, exceptions_from, type_declared, subtype_declared, kind_declared, declared, all_declared}
 use Rattle.ada_rules.specs.Statements.{stmts_of, one, any_variable, writable, target, call_of, Chosen, branches_of, Selector, any_selector, selector_of, selector, chosen, all_chosen, Arm, alternatives_of, ends_with_others, case_of, Turns, any_turns, turns_between, turns_over, turned, loop_parameter, one_object_more, is_reverse, returned, returned_value, exception_of, where_allowed, caught, all_caught, is_last, declarations_in, Frame, block_of, typed_stmt, stated, all_stated, branched, all_arms, all_handlers, all_handled}
 use Rattle.legal_laws.proofs.KnownObjects.{of_one}
 use Rattle.legal_laws.proofs.NumberedObjects.{exceptions_made, inside_only, mapped_any}
@@ -37,7 +37,7 @@ use Rattle.legal_laws.proofs.Passing.{IfPassed, if_map, if_then, if_test, if_not
 use Rattle.legal_programs.specs.Deciding.{IsWholeRegion, IsWholeEnv}
 use Rattle.legal_programs.proofs.WholeRegions.{local_whole, opened_whole, loop_whole, handler_whole, hidden_whole, all_hidden_whole, RegionWhole, declared_whole}
 use Rattle.legal_counts.specs.Choices.{IsFilled, HasChoices, HaveChoices, BranchesHaveChoices, AlternativesHaveChoices, HandlersHaveChoices, HandledHasChoices}
-use Rattle.legal_counts.specs.Sizes as size
+use Rattle.statement_code.specs.Sizes as size
 use Rattle.legal_counts.proofs.DecidedExpressions.{any_of}
 use Rattle.legal_counts.proofs.NodesOfExpressions.{FewIn, NameIn, expr_in, denoted_few, judged_few, DecisionIn, decision_few}
 

@@ -3,7 +3,7 @@ use Rattle.std.specs.Prelude.{◌≤◌, ◌+◌, List, [], ◌∷◌, length, s
 use Rattle.ada_syntax.specs.Nodes.{declaration_nodes, handled_nodes, parameter_nodes}
 use Rattle.ada_syntax.specs.declared.unit.SubprogramBody.{SubprogramBody}
 use Rattle.ada_meaning.specs.Program.{Subprogram}
-use Rattle.legal_counts.specs.Sizes.{block_nodes}
+use Rattle.statement_code.specs.Sizes.{block_nodes}
 
 -- a parameter is a token of the specification, and a node of the body one of its declarations, statements and handlers
 pub record IsWithin (s : Subprogram) (b : SubprogramBody) : Type 0 where

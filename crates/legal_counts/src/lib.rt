@@ -20,7 +20,7 @@ ghost use Rattle.legal_programs.specs.WholeWorld.{IsWholeStandard};
 ghost use Rattle.legal_counts.specs.BodyTexts.{bodies_in};
 ghost use Rattle.legal_counts.specs.Choices.{UnitsHaveChoices};
 ghost use Rattle.legal_counts.specs.ConditionPlaces.{units_conditions};
-ghost use Rattle.legal_counts.specs.Sizes.{subprogram_nodes};
+ghost use Rattle.statement_code.specs.Sizes.{subprogram_nodes};
 ghost use Rattle.legal_counts.specs.Within.{AreWithin};
 
 /// The conditions of each decision of a legal program stand where those of its units stand, decisions in
