@@ -11,3 +11,5 @@ pub mod HeldDecisions
 mod NodesOfExpressions
 mod NodesOfStatements
 pub mod NodesOfUnits
+pub mod WordsOfTypes
+pub mod WordsOfSubprograms

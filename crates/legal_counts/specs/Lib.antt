@@ -2,3 +2,4 @@ pub mod ConditionPlaces
 pub mod BodyTexts
 pub mod Choices
 pub mod Within
+pub mod Bounded
