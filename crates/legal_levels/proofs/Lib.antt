@@ -2,3 +2,4 @@ pub mod InnerDeclarations
 pub mod InnerStatements
 pub mod InnerBodies
 pub mod SubprogramUnits
+pub mod OwnInterfaces

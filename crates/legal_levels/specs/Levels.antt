@@ -10,7 +10,7 @@ use Rattle.ada_syntax.specs.declared.unit.LibraryItem.TheVariants as library
 use Rattle.ada_syntax.specs.declared.unit.SubprogramBody.{SubprogramBody}
 use Rattle.ada_syntax.specs.declared.unit.Unit.{Unit as LibraryUnit}
 use Rattle.ada_meaning.specs.Program.{Subprogram}
-use Rattle.ada_rules.specs.Environment.{State}
+use Rattle.ada_rules.specs.Environment.{Interface, no_interface, package_interface, generic_interface, instance_interface, subprogram_interface, World, State}
 use Rattle.ada_rules.specs.Statements.{declarations_in}
 
 -- declarations of no exception (RM 11.1)
@@ -68,3 +68,14 @@ pub record Keeps (s t : State) : Type 0 where
 -- all subprograms stand in no generic
 abbrev pub AreInNoGeneric : List Subprogram → Type 0
 AreInNoGeneric ss = Everywhere (λ s. s.generic ≡ None) ss
+
+-- what other units see of a unit that is no package, no generic and no instance
+abbrev pub IsOwnInterface : Interface → Type 0
+IsOwnInterface no_interface = Unit {0}
+IsOwnInterface (subprogram_interface r) = Unit {0}
+IsOwnInterface (package_interface region) = ⊥
+IsOwnInterface (generic_interface formals region) = ⊥
+IsOwnInterface (instance_interface g k actuals) = ⊥
+
+abbrev pub AreOwnInterfaces : World → Type 0
+AreOwnInterfaces w = Everywhere IsOwnInterface w.interfaces

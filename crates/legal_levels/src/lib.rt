@@ -4,11 +4,13 @@
 //! carries a law of the definitions as its contract.
 #![tactic(auto)]
 
-ghost use Rattle.std.specs.Prelude.{◌≡◌, ℕ, List, []};
+ghost use Rattle.std.specs.Prelude.{◌≡◌, ℕ, List, [], Ok};
 ghost use Rattle.ada_meaning.specs.Program.{Program};
+ghost use Rattle.ada_rules.specs.Environment.{Step};
 ghost use Rattle.ada_rules.specs.Library.{Library};
+ghost use Rattle.ada_rules.specs.Units.{Walked, judged_in};
 ghost use Rattle.legal_programs.specs.Walked.{IsLegal};
-ghost use Rattle.legal_levels.specs.Levels.{AreInNoGeneric, AreSubprogramUnits};
+ghost use Rattle.legal_levels.specs.Levels.{AreInNoGeneric, AreOwnInterfaces, AreSubprogramUnits};
 
 /// A legal program whose units are subprograms that declare no exception has no object of the library
 /// level and no exception of its own, and each of its subprograms stands in no generic.
@@ -19,4 +21,10 @@ pub fn programs_of_subprograms_have_no_library_level()
         → p.declared ≡ [] }
     ensures generics { (l : Library) (main : List ℕ) (p : Program) → IsLegal l main p → AreSubprogramUnits l.units
         → AreInNoGeneric p.subprograms }
+{}
+
+/// Behind the walk over such units none of them is a package, a generic or an instance of one.
+pub fn units_of_subprograms_are_no_generics()
+    ensures { (step : Step) (l : Library) (main : List ℕ) (x : Walked) → (judged_in step l main).answer ≡ Ok x
+        → AreSubprogramUnits l.units → AreOwnInterfaces x.world }
 {}
