@@ -34,7 +34,7 @@ ghost use Rattle.legal_programs.specs.WholeWorld.{IsWholeStandard};
 ghost use Rattle.legal_counts.specs.BodyTexts.{bodies_in};
 ghost use Rattle.legal_counts.specs.Choices.{UnitsHaveChoices};
 ghost use Rattle.legal_counts.specs.ConditionPlaces.{units_conditions};
-ghost use Rattle.statement_code.specs.Sizes.{subprogram_nodes};
+ghost use Rattle.statement_code.specs.Sizes.{block_nodes, subprogram_nodes};
 ghost use Rattle.legal_counts.specs.Within.{AreWithin};
 
 /// The conditions of each decision of a legal program stand where those of its units stand, decisions in
@@ -61,6 +61,9 @@ pub fn each_node_of_a_body_has_a_token()
         → UnitsHaveChoices l.units → AreWithin p.subprograms (bodies_in l.units) }
     ensures program { (l : Library) (main : List ℕ) (p : Program) → IsLegal l main p → IsWholeStandard l.standard
         → UnitsHaveChoices l.units → sum_by subprogram_nodes p.subprograms ≤ sum_by unit_nodes l.units }
+    ensures each { (l : Library) (main : List ℕ) (p : Program) → IsLegal l main p → IsWholeStandard l.standard
+        → UnitsHaveChoices l.units → (limit : ℕ) → sum_by unit_nodes l.units ≤ limit
+        → Everywhere (λ s. block_nodes s.body ≤ limit) p.subprograms }
 {}
 
 /// The objects of each subprogram of a legal program take no more words than the limit, in each instance in
