@@ -35,7 +35,7 @@ first_in a b c h = omega (arith, h)
 second_in : (a b c : ℕ) → a + b ≤ c → b ≤ c
 second_in a b c h = omega (arith, h)
 
-within_limit : (n : ℕ) → n ≤ word_limit → limited n ≡ Some n
+pub within_limit : (n : ℕ) → n ≤ word_limit → limited n ≡ Some n
 within_limit n h = by_test (nat_le n word_limit) refl
   where
     by_test : (b : Bool) → nat_le n word_limit ≡ b → (if b then Some n else None) ≡ Some n

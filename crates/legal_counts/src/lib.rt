@@ -19,11 +19,13 @@ ghost use Rattle.ada_meaning.specs.Collected.{condition_places, decisions_of, la
 ghost use Rattle.ada_meaning.specs.Bodies.{StandsIn};
 ghost use Rattle.ada_meaning.specs.Program.{Program, Subprogram};
 ghost use Rattle.ada_meaning.specs.Statics.{values_of};
+ghost use Rattle.ada_resolved.specs.Library.{program_size};
 ghost use Rattle.ada_resolved.specs.Sizes.{type_size};
+ghost use Rattle.legal_counts.specs.LibraryWords.{library_words, words_of_units};
 ghost use Rattle.ada_rules.specs.Entities.{Standard};
 ghost use Rattle.ada_rules.specs.Types.{AdaSubtype, AdaType, subtype_in_tree};
 ghost use Rattle.legal_laws.specs.Known.{IsKnownSubtype, IsOneOf};
-ghost use Rattle.ada_rules.specs.Limits.{most_words_of_subprogram, sum_in, words_in};
+ghost use Rattle.ada_rules.specs.Limits.{most_words_of_library, most_words_of_subprogram, sum_in, words_in};
 ghost use Rattle.ada_syntax.specs.declared.unit.Unit.{Unit as LibraryUnit};
 ghost use Rattle.legal_instances.specs.InOrder.{UnitsRise};
 ghost use Rattle.legal_counts.specs.Bounded.{IsBounded, words_of_objects};
@@ -83,6 +85,21 @@ pub fn words_are_within_limits()
         → (m inst : ℕ) (s : Subprogram) → slice_get p.subprograms m ≡ Some s → StandsIn p s.generic inst
         → Everywhere (IsBounded p inst) s.objects
         → Everywhere (λ t. type_size (values_of p) inst t ≡ Some (words_in is.walked.world.instances inst t)) s.objects }
+{
+    legal_instances::instances_have_their_facts();
+}
+
+/// The words of the objects of the library level of a legal program, counted by units, are no more than the
+/// limit. Where those by the instances in which they stand are within it too, and the bounds of their types
+/// are known there, the library has a size, which is these words.
+pub fn library_words_are_within_limits()
+    ensures units { (l : Library) (main : List ℕ) (p : Program) → (is : IsLegal l main p)
+        → words_of_units is.walked.world is.walked.next.unit_words 0 l.units ≤ most_words_of_library }
+    ensures sized { (standard : Standard) (units : List LibraryUnit) (main : List ℕ) (p : Program)
+        → (is : IsLegal (library_of standard units) main p) → UnitsRise units
+        → Everywhere (λ o. (i : ℕ) → StandsIn p o.generic i → IsBounded p i o.subtype) p.objects
+        → library_words p is.walked.world.instances ≤ most_words_of_library
+        → program_size p ≡ Some (library_words p is.walked.world.instances) }
 {
     legal_instances::instances_have_their_facts();
 }
