@@ -13,3 +13,4 @@ mod NodesOfStatements
 pub mod NodesOfUnits
 pub mod WordsOfTypes
 pub mod WordsOfSubprograms
+pub mod WordsOfLibrary

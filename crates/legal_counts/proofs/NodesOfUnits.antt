@@ -423,3 +423,19 @@ few_nodes l main p is standard filled =
     let bodies = all_few p.subprograms (bodies_in l.units) (subprograms_within l main p is standard filled) in
     let units = units_few l.units in
     omega (arith, bodies, units)
+
+-- so where the text has few, each body has
+each_of_sum : (limit : ℕ) (ss : List Subprogram) → sum_by size.subprogram_nodes ss ≤ limit → Everywhere (λ s. size.block_nodes s.body ≤ limit) ss
+each_of_sum limit [] few = tt
+each_of_sum limit (s ∷ ss) few =
+    let sum = sum_by-cons size.subprogram_nodes s ss in
+    let rest : sum_by size.subprogram_nodes ss ≤ limit = omega (arith, sum, few) in
+    (body_in (length s.parameters) (size.block_nodes s.body) (sum_by size.subprogram_nodes ss) (sum_by size.subprogram_nodes (s ∷ ss)) sum few, each_of_sum limit ss rest)
+  where
+    body_in : (n b rest all : ℕ) → all ≡ suc (n + b) + rest → all ≤ limit → b ≤ limit
+    body_in n b rest all e h = omega (arith, e, h)
+
+pub each_few : (l : Library) (main : List ℕ) (p : Program) → IsLegal l main p → IsWholeStandard l.standard → UnitsHaveChoices l.units → (limit : ℕ)
+    → sum_by unit_nodes l.units ≤ limit → Everywhere (λ s. size.block_nodes s.body ≤ limit) p.subprograms
+each_few l main p is standard filled limit few =
+    let all = few_nodes l main p is standard filled in each_of_sum limit p.subprograms (omega (arith, all, few))

@@ -1,5 +1,5 @@
 -- The objects of each subprogram of a legal program take no more words than the limit, in each instance in which it stands.
-use Rattle.std.proofs.Common.{◌≡◌, ◌≤◌, ◌+◌, ℕ, zero, suc, nat_le, Bool, true, false, if◌then◌else◌, List, [], ◌∷◌, ◌++◌, map, reverse, Option, Some, None, IfOk, slice_get, refl, sym, ap, ◌∙◌, subst, arith, inl, inr}
+use Rattle.std.proofs.Common.{◌≡◌, ◌≤◌, ◌+◌, ℕ, zero, suc, nat_le, Bool, true, false, if◌then◌else◌, List, [], ◌∷◌, map, reverse, Option, Some, None, IfOk, slice_get, refl, sym, ◌∙◌, subst, arith, inl, inr}
 use mathlib.Core.List.{reverse-cons}
 use Rattle.std.proofs.lemmas.Bool.Decides.{nat_tests}
 use Rattle.cov_base.specs.Lists.{Everywhere, Somewhere}
@@ -19,7 +19,7 @@ use Rattle.ada_meaning.specs.Program.{Subprogram, Program}
 use Rattle.ada_rules.specs.Plan.{Plan, ◌>>=◌, rule}
 use Rattle.ada_rules.specs.Denoted.{nowhere}
 use Rattle.ada_rules.specs.Entities.{key, hidden, unit, Region}
-use Rattle.ada_rules.specs.Environment.{Step, typing, typed_rule, Words, Declares, World, interface_of, State, beginning_state, Given, given, Env, with_local}
+use Rattle.ada_rules.specs.Environment.{typing, typed_rule, Words, Declares, World, interface_of, State, beginning_state, Given, given, Env, with_local}
 use Rattle.ada_rules.specs.Declarations.{Declared, declared, all_declared}
 use Rattle.ada_rules.specs.Instances.{formals_declared, generic_named, formals_of, actuals_judged}
 use Rattle.ada_rules.specs.Library.{Library, unit_named, instance_number}
@@ -31,7 +31,7 @@ use Rattle.ada_rules.specs.Units.{Walked, all_interfaces, world_before, formals_
 use Rattle.legal_laws.proofs.Passing.{IfPassed, if_test, answered, part_so, typed_either, every_end, any_answer}
 use Rattle.legal_programs.specs.Growing.{Adds}
 use Rattle.legal_programs.specs.Walked.{IsLegal}
-use Rattle.legal_programs.proofs.Adding.{adds_none, adds_both, Add, AddsOn, declaration_adds, declarations_add}
+use Rattle.legal_programs.proofs.Adding.{adds_both, Add, AddsOn, declaration_adds, declarations_add}
 use Rattle.legal_programs.proofs.AddingStatements.{handled_add}
 use Rattle.legal_programs.proofs.Extending.{specified_adds, subprogram_adds, items_add, formals_add}
 use Rattle.legal_programs.proofs.ExtendingUnits.{actuals_add, adds_at_unit}

@@ -15,7 +15,7 @@ use Rattle.ada_resolved.specs.Forms.{sized, known_shape}
 use Rattle.ada_resolved.specs.Sizes.{word_limit, limited, words, all_words, array_size, with_component, type_size, components_size}
 use Rattle.ada_rules.specs.Limits.{length_of, words_in, words_in_fields, sum_in}
 use Rattle.ada_rules.specs.Statics.{Facts, bounds_in}
-use Rattle.ada_rules.specs.Types.{AdaType, integer_type, enumeration, formal_type, array_type, record_type, AdaSubtype, of_type, Fields, no_field, and_field, range_in, subtype_in_tree, type_in_tree, fields_in_tree}
+use Rattle.ada_rules.specs.Types.{AdaType, integer_type, enumeration, formal_type, array_type, record_type, AdaSubtype, of_type, Fields, no_field, and_field, subtype_in_tree, type_in_tree, fields_in_tree}
 use Rattle.legal_laws.specs.Known.{IsKnownType, IsKnownSubtype, AreKnownFields}
 use Rattle.legal_laws.specs.Valued.{AreOrdered, HaveFacts}
 use Rattle.legal_laws.proofs.Values.{range_alike}
@@ -35,7 +35,7 @@ first_in a b c h = omega (arith, h)
 second_in : (a b c : ℕ) → a + b ≤ c → b ≤ c
 second_in a b c h = omega (arith, h)
 
-within_limit : (n : ℕ) → n ≤ word_limit → limited n ≡ Some n
+pub within_limit : (n : ℕ) → n ≤ word_limit → limited n ≡ Some n
 within_limit n h = by_test (nat_le n word_limit) refl
   where
     by_test : (b : Bool) → nat_le n word_limit ≡ b → (if b then Some n else None) ≡ Some n

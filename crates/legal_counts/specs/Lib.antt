@@ -3,3 +3,4 @@ pub mod BodyTexts
 pub mod Choices
 pub mod Within
 pub mod Bounded
+pub mod LibraryWords

@@ -19,11 +19,13 @@ ghost use Rattle.ada_meaning.specs.Collected.{condition_places, decisions_of, la
 ghost use Rattle.ada_meaning.specs.Bodies.{StandsIn};
 ghost use Rattle.ada_meaning.specs.Program.{Program, Subprogram};
 ghost use Rattle.ada_meaning.specs.Statics.{values_of};
+ghost use Rattle.ada_resolved.specs.Library.{program_size};
 ghost use Rattle.ada_resolved.specs.Sizes.{type_size};
+ghost use Rattle.legal_counts.specs.LibraryWords.{library_words, words_of_units};
 ghost use Rattle.ada_rules.specs.Entities.{Standard};
 ghost use Rattle.ada_rules.specs.Types.{AdaSubtype, AdaType, subtype_in_tree};
 ghost use Rattle.legal_laws.specs.Known.{IsKnownSubtype, IsOneOf};
-ghost use Rattle.ada_rules.specs.Limits.{most_words_of_subprogram, sum_in, words_in};
+ghost use Rattle.ada_rules.specs.Limits.{most_words_of_library, most_words_of_subprogram, sum_in, words_in};
 ghost use Rattle.ada_syntax.specs.declared.unit.Unit.{Unit as LibraryUnit};
 ghost use Rattle.legal_instances.specs.InOrder.{UnitsRise};
 ghost use Rattle.legal_counts.specs.Bounded.{IsBounded, words_of_objects};
@@ -34,7 +36,7 @@ ghost use Rattle.legal_programs.specs.WholeWorld.{IsWholeStandard};
 ghost use Rattle.legal_counts.specs.BodyTexts.{bodies_in};
 ghost use Rattle.legal_counts.specs.Choices.{UnitsHaveChoices};
 ghost use Rattle.legal_counts.specs.ConditionPlaces.{units_conditions};
-ghost use Rattle.statement_code.specs.Sizes.{subprogram_nodes};
+ghost use Rattle.statement_code.specs.Sizes.{block_nodes, subprogram_nodes};
 ghost use Rattle.legal_counts.specs.Within.{AreWithin};
 
 /// The conditions of each decision of a legal program stand where those of its units stand, decisions in
@@ -61,6 +63,9 @@ pub fn each_node_of_a_body_has_a_token()
         → UnitsHaveChoices l.units → AreWithin p.subprograms (bodies_in l.units) }
     ensures program { (l : Library) (main : List ℕ) (p : Program) → IsLegal l main p → IsWholeStandard l.standard
         → UnitsHaveChoices l.units → sum_by subprogram_nodes p.subprograms ≤ sum_by unit_nodes l.units }
+    ensures each { (l : Library) (main : List ℕ) (p : Program) → IsLegal l main p → IsWholeStandard l.standard
+        → UnitsHaveChoices l.units → (limit : ℕ) → sum_by unit_nodes l.units ≤ limit
+        → Everywhere (λ s. block_nodes s.body ≤ limit) p.subprograms }
 {}
 
 /// The objects of each subprogram of a legal program take no more words than the limit, in each instance in
@@ -80,6 +85,21 @@ pub fn words_are_within_limits()
         → (m inst : ℕ) (s : Subprogram) → slice_get p.subprograms m ≡ Some s → StandsIn p s.generic inst
         → Everywhere (IsBounded p inst) s.objects
         → Everywhere (λ t. type_size (values_of p) inst t ≡ Some (words_in is.walked.world.instances inst t)) s.objects }
+{
+    legal_instances::instances_have_their_facts();
+}
+
+/// The words of the objects of the library level of a legal program, counted by units, are no more than the
+/// limit. Where those by the instances in which they stand are within it too, and the bounds of their types
+/// are known there, the library has a size, which is these words.
+pub fn library_words_are_within_limits()
+    ensures units { (l : Library) (main : List ℕ) (p : Program) → (is : IsLegal l main p)
+        → words_of_units is.walked.world is.walked.next.unit_words 0 l.units ≤ most_words_of_library }
+    ensures sized { (standard : Standard) (units : List LibraryUnit) (main : List ℕ) (p : Program)
+        → (is : IsLegal (library_of standard units) main p) → UnitsRise units
+        → Everywhere (λ o. (i : ℕ) → StandsIn p o.generic i → IsBounded p i o.subtype) p.objects
+        → library_words p is.walked.world.instances ≤ most_words_of_library
+        → program_size p ≡ Some (library_words p is.walked.world.instances) }
 {
     legal_instances::instances_have_their_facts();
 }
