@@ -13,7 +13,12 @@ mod KeptUnits
 mod BodyWalk
 mod OrderOnce
 mod SeenRegions
-mod SubprogramNumbers
-mod SubprogramBodies
-mod SubprogramWorlds
-mod SubprogramPrograms
+mod PlainNumbers
+mod PlainBodies
+mod PlainWorlds
+mod PlainPrograms
+mod LibraryItems
+mod LibraryWords
+mod ObjectsSeen
+mod DeclaredTypes
+mod PackageItems

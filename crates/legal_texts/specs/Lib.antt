@@ -1,3 +1,4 @@
 pub mod UnitTexts
 pub mod Leading
 pub mod Subprograms
+pub mod Plain

@@ -4,8 +4,8 @@
 //!
 //! - what units see of each other only grows, so that a specification that is looked at twice says
 //!   the same (`Leading`);
-//! - in a program of library subprograms alone (`Subprograms`) each unit makes the subprogram that
-//!   the others see.
+//! - where no package declares a subprogram, and there is no generic (`Plain`), all that units see
+//!   of each other is known: declarations of packages, and the subprograms that bodies make.
 //!
 //! The functions here do nothing: each carries a law of the definitions as its contract.
 #![tactic(auto)]
@@ -20,13 +20,24 @@ ghost use Rattle.legal_instances.specs.Worked.{worked_units};
 ghost use Rattle.legal_programs.specs.DecisionPlaces.{units_decisions};
 ghost use Rattle.legal_programs.specs.InText.{Rise};
 ghost use Rattle.legal_programs.specs.TextPlaces.{units_places};
+ghost use Rattle.legal_texts.specs.Plain.{ArePlain};
 ghost use Rattle.legal_texts.specs.Subprograms.{AreSubprograms};
 ghost use Rattle.legal_texts.specs.UnitTexts.{AreUnitTexts};
 
 use legal_instances::orders_of_legal_programs_are_whole;
 
-/// A program of library subprograms alone that the rules of the whole language accept is well-formed, where
-/// its statements and its conditions stand in the order of the text.
+/// A program of library subprograms, and of packages that declare types, subtypes, objects and exceptions, that
+/// the rules of the whole language accept is well-formed, where its statements and its conditions stand in the
+/// order of the text.
+pub fn programs_of_plain_packages_are_well_formed()
+    ensures { (units : List LibraryUnit) (main : List ℕ) (p : Program)
+        → checked_with whole_standard units main ≡ legal p → ArePlain units → Rise (units_places units)
+        → Rise (units_decisions units) → AreUnitTexts units → IsWellFormed p }
+{
+    orders_of_legal_programs_are_whole();
+}
+
+/// So is a program of library subprograms alone.
 pub fn programs_of_subprograms_are_well_formed()
     ensures { (units : List LibraryUnit) (main : List ℕ) (p : Program)
         → checked_with whole_standard units main ≡ legal p → AreSubprograms units → Rise (units_places units)

@@ -1,5 +1,6 @@
--- In a program of library subprograms alone each unit makes the subprogram with its number, with the parameters and the result of its specification.
-use Rattle.std.proofs.Common.{◌≡◌, ◌<◌, ◌+◌, ℕ, nat_eq, Bool, true, false, List, [], ◌∷◌, length, reverse, Some, None, IfSome, Ok, slice_get, refl, sym, ap, ◌∙◌, subst, arith}
+-- In a program of library subprograms and of packages without bodies each body makes the subprogram with its number, with the parameters and the
+-- result of its specification.
+use Rattle.std.proofs.Common.{◌≡◌, ◌<◌, ◌+◌, ℕ, suc, nat_eq, Bool, true, false, List, [], ◌∷◌, length, reverse, Some, None, IfSome, Ok, slice_get, refl, sym, ap, ◌∙◌, subst, arith}
 use Rattle.std.proofs.lemmas.Bool.{eqb-true, eq-eqb, false≢true}
 use Rattle.ada_syntax.specs.declared.unit.LibraryItem.{LibraryItem}
 use Rattle.ada_syntax.specs.declared.unit.LibraryItem.TheVariants as library
@@ -9,7 +10,7 @@ use Rattle.ada_meaning.specs.Declared.{is_function}
 use Rattle.ada_meaning.specs.Program.{Subprogram, Program}
 use Rattle.ada_rules.specs.Entities.{key}
 use Rattle.ada_rules.specs.Environment.{typing, World, interface_of, State, Given, Env}
-use Rattle.ada_rules.specs.Library.{Library}
+use Rattle.ada_rules.specs.Library.{Library, bodies_of_item}
 use Rattle.ada_rules.specs.Plan.{◌>>=◌, rule}
 use Rattle.ada_rules.specs.Subprograms.{Profile, specified, returning_of, typed_parameters, body_judged}
 use Rattle.ada_rules.specs.Units.{env_of, at_unit, seen_in, subprogram_body, routine_entity, bodies_judged}
@@ -22,10 +23,11 @@ use Rattle.legal_programs.proofs.Extending.{specified_adds}
 use Rattle.legal_programs.proofs.ExtendingUnits.{adds_at_unit}
 use Rattle.legal_programs.proofs.MainUnit.{made_stays, made_last}
 use Rattle.legal_programs.proofs.Passed.{of_ok, passed_part, passed_rule}
-use Rattle.legal_texts.specs.Subprograms.{IsSubprogramItem, AreSubprograms}
+use Rattle.legal_texts.specs.Plain.{IsPlainUnit, ArePlain}
 use Rattle.legal_texts.proofs.BodyWalk.{IsAtBody}
 use Rattle.legal_texts.proofs.InterfaceWalk.{same_some}
 use Rattle.legal_texts.proofs.MadeBodies.{IsMade, judged_made}
+use Rattle.legal_texts.proofs.PlainNumbers.{bodies_before, before_next}
 
 -- where a body of a library subprogram stands
 abbrev pub body_env : Library → World → ℕ → LibraryUnit → SubprogramBody → Env
@@ -54,7 +56,7 @@ body_at env step b s t h =
           (judged_made env step s b [] [] q (adds_both s (at_unit s) q.next (adds_at_unit s) adds));
     }
 
-module _ (l : Library) (main : List ℕ) (p : Program) (is : IsLegal l main p) (subs : AreSubprograms l.units) where
+module _ (l : Library) (main : List ℕ) (p : Program) (is : IsLegal l main p) (plain : ArePlain l.units) where
   abbrev w : World
   w = is.walk.seen.world
 
@@ -67,7 +69,7 @@ module _ (l : Library) (main : List ℕ) (p : Program) (is : IsLegal l main p) (
     pub profile : Given Profile
     pub specifies : (specified (body_env l w n u b) (at_unit before) b.specification).answer ≡ Ok profile
     pub sub : Subprogram
-    pub here : slice_get p.subprograms n ≡ Some sub
+    pub here : slice_get p.subprograms (bodies_before n l.units) ≡ Some sub
     pub stands : sub.generic ≡ None
     pub parameters : typed_parameters 0 profile.value.parameters ≡ sub.parameters
     pub gives : is_function sub ≡ returns_value (returning_of profile.value.result)
@@ -81,17 +83,21 @@ module _ (l : Library) (main : List ℕ) (p : Program) (is : IsLegal l main p) (
       (ap (λ ss. slice_get (reverse ss) (length s.subprograms)) same ∙ made_last made s.subprograms))
 
   pub record AreBodies (n : ℕ) (s : State) : Type 0 where
-    pub counted : length s.subprograms ≡ n
+    pub counted : length s.subprograms ≡ bodies_before n l.units
     pub bodies : (k : ℕ) (u : LibraryUnit) (b : SubprogramBody) → slice_get l.units k ≡ Some u → u.item ≡ library.Subprogram b → k < n → HasBody k u b
 
-  pub item_at : (n : ℕ) (u : LibraryUnit) → slice_get l.units n ≡ Some u → IsSubprogramItem u.item
-  item_at n u there = subst (λ o. IfSome o (λ v. IsSubprogramItem v.item)) there (every_at (λ v. IsSubprogramItem v.item) l.units n subs)
+  pub item_at : (n : ℕ) (u : LibraryUnit) → slice_get l.units n ≡ Some u → IsPlainUnit u.item
+  item_at n u there = subst (λ o. IfSome o (λ v. IsPlainUnit v.item)) there (every_at (λ v. IsPlainUnit v.item) l.units n plain)
 
   abbrev body_or : SubprogramBody → LibraryItem → SubprogramBody
   body_or b (library.Subprogram c) = c
   body_or b i = b
 
-  by_item : (s : State) (n : ℕ) (u : LibraryUnit) (t : State) (i : LibraryItem) → u.item ≡ i → IsSubprogramItem i → IsAtBody l w last s n u t
+  abbrev is_subprogram : LibraryItem → Bool
+  is_subprogram (library.Subprogram b) = true
+  is_subprogram i = false
+
+  by_item : (s : State) (n : ℕ) (u : LibraryUnit) (t : State) (i : LibraryItem) → u.item ≡ i → IsPlainUnit i → IsAtBody l w last s n u t
       → (bodies_judged typing l w s n u i).answer ≡ Ok t → AreBodies n s → AreBodies (n + 1) t
   by_item s n u t (library.Subprogram b) item sub at judged h =
       let body = body_at (body_env l w n u b) refl b s t judged in
@@ -101,15 +107,18 @@ module _ (l : Library) (main : List ℕ) (p : Program) (is : IsLegal l main p) (
         profile = body.profile;
         specifies = body.specifies;
         sub = m.made;
-        here = made_here n s t m.made m.is_made at.extends h.counted;
+        here = made_here (bodies_before n l.units) s t m.made m.is_made at.extends h.counted;
         stands = m.stands;
         parameters = m.parameters;
         gives = m.gives;
       } in
       let count = h.counted in
       let more = ap length m.is_made in
+      let behind = before_next n l.units u at.there in
+      let one : length (bodies_of_item u.item) ≡ 1 = ap (λ i. length (bodies_of_item i)) item in
+      let next : n + 1 ≡ suc n = omega (arith) in
       record {
-        counted = omega (arith, count, more);
+        counted = more ∙ (omega (arith, count, behind, one) ∙ ap (λ k. bodies_before k l.units) (sym next));
         bodies = λ k v c there is_item less. by_number k v c (nat_eq k n) refl there is_item less own;
       }
     where
@@ -126,7 +135,28 @@ module _ (l : Library) (main : List ℕ) (p : Program) (is : IsLegal l main p) (
         where
           below : (x y : ℕ) → x < y + 1 → (x ≡ y → ⊥) → x < y
           below x y f g = omega (arith, f, g)
-  by_item s n u t (library.Package x) item sub at judged h = absurd sub
+  by_item s n u t (library.Package x) item sub at judged h =
+      let same : s ≡ t = same_some (passed_rule u.pos (Some s) t judged) in
+      let count = h.counted in
+      let behind = before_next n l.units u at.there in
+      let none : length (bodies_of_item u.item) ≡ 0 = ap (λ i. length (bodies_of_item i)) item in
+      let next : n + 1 ≡ suc n = omega (arith) in
+      record {
+        counted = ap (λ y. length y.subprograms) (sym same) ∙ (omega (arith, count, behind, none) ∙ ap (λ k. bodies_before k l.units) (sym next));
+        bodies = λ k v c there is_item less. by_number k v c (nat_eq k n) refl there is_item less;
+      }
+    where
+      by_number : (k : ℕ) (v : LibraryUnit) (c : SubprogramBody) (z : Bool) → nat_eq k n ≡ z → slice_get l.units k ≡ Some v → v.item ≡ library.Subprogram c → k < n + 1
+          → HasBody k v c
+      by_number k v c true e there is_item less =
+          let unit_is : u ≡ v = same_some (sym at.there ∙ (ap (slice_get l.units) (sym (eqb-true k n e)) ∙ there)) in
+          absurd (false≢true (ap is_subprogram (sym item ∙ (ap (λ y. y.item) unit_is ∙ is_item))))
+      by_number k v c false e there is_item less =
+          let other : k ≡ n → ⊥ = λ same. false≢true (sym e ∙ eq-eqb k n same) in
+          h.bodies k v c there is_item (below k n less other)
+        where
+          below : (x y : ℕ) → x < y + 1 → (x ≡ y → ⊥) → x < y
+          below x y f g = omega (arith, f, g)
   by_item s n u t (library.PackageBody x) item sub at judged h = absurd sub
   by_item s n u t (library.Instance x) item sub at judged h = absurd sub
 

@@ -1,5 +1,5 @@
--- In a library of subprograms alone the body of each unit has the number of its unit.
-use Rattle.std.proofs.Common.{◌≡◌, ◌+◌, ℕ, zero, suc, Bool, true, false, if◌then◌else◌, List, [], ◌∷◌, ◌++◌, Option, Some, None, slice_get, refl, sym, ap, ◌∙◌, subst, arith}
+-- In a library of subprograms and of packages without bodies each body has the number of those before it.
+use Rattle.std.proofs.Common.{◌≡◌, ◌+◌, ℕ, zero, suc, Bool, true, false, if◌then◌else◌, List, [], ◌∷◌, ◌++◌, length, Option, Some, None, slice_get, refl, sym, ap, ◌∙◌, subst, arith}
 use Rattle.std.specs.Prelude.{◌&&◌, not}
 use Rattle.std.proofs.lemmas.Bool.{eqb-true, false≢true}
 use Rattle.ada_syntax.specs.declared.unit.LibraryItem.{LibraryItem}
@@ -13,7 +13,7 @@ use Rattle.ada_rules.specs.Subprograms.{place_among}
 use Rattle.legal_laws.proofs.Passing.{both_true}
 use Rattle.legal_programs.specs.Homes.{AreHeaded}
 use Rattle.legal_programs.proofs.MainUnit.{name_is, name_same}
-use Rattle.legal_texts.specs.Subprograms.{IsSubprogramItem, AreSubprograms}
+use Rattle.legal_texts.specs.Plain.{IsPlainUnit, ArePlain}
 use Rattle.legal_texts.proofs.InterfaceWalk.{same_some}
 
 first_is : (n : ℕ) (o : Option ℕ) → is_first_name n o ≡ true → o ≡ Some n
@@ -22,6 +22,18 @@ first_is n (Some m) h = ap Some (eqb-true m n h)
 
 none_is_some : {X : Type 0} {x : X} → None ≡ Some x → ⊥
 none_is_some e = cc
+
+-- so many bodies stand in the units before a place
+abbrev pub bodies_before : ℕ → List LibraryUnit → ℕ
+bodies_before zero us = 0
+bodies_before (suc k) [] = 0
+bodies_before (suc k) (u ∷ us) = length (bodies_of_item u.item) + bodies_before k us
+
+pub before_next : (k : ℕ) (us : List LibraryUnit) (u : LibraryUnit) → slice_get us k ≡ Some u → bodies_before (suc k) us ≡ bodies_before k us + length (bodies_of_item u.item)
+before_next zero [] u there = absurd (none_is_some there)
+before_next (suc k) [] u there = absurd (none_is_some there)
+before_next zero (v ∷ us) u there = let same = ap (λ x. length (bodies_of_item x.item)) (same_some there) in omega (arith, same)
+before_next (suc k) (v ∷ us) u there = let rest = before_next k us u there in omega (arith, rest)
 
 module _ (l : Library) where
   named_as : (n : ℕ) (b : SubprogramBody) → is_declared_well l n (library.Subprogram b) ≡ true → unit_named l.names (key b.specification.name) ≡ Some n
@@ -54,9 +66,9 @@ module _ (l : Library) where
     place_if : (b : Bool) (m : ℕ) (rest : List BodyName) → b ≡ false → (if b then Some m else place_among name name (m + 1) rest) ≡ place_among name name (m + 1) rest
     place_if b m rest e = ap (λ c. if c then Some m else place_among name name (m + 1) rest) e
 
-    place_past : (n k m : ℕ) (i : LibraryItem) (rest : List BodyName) → IsSubprogramItem i → is_declared_well l n i ≡ true → unit_named l.names name ≡ Some (n + suc k)
-        → place_among name name m (bodies_of_item i ++ rest) ≡ place_among name name (m + 1) rest
-    place_past n k m (library.Subprogram c) rest sub well named = place_if _ m rest (by_test (same_name (key c.specification.name) name) refl)
+    place_past : (n k m : ℕ) (i : LibraryItem) (rest : List BodyName) → IsPlainUnit i → is_declared_well l n i ≡ true → unit_named l.names name ≡ Some (n + suc k)
+        → place_among name name m (bodies_of_item i ++ rest) ≡ place_among name name (m + length (bodies_of_item i)) rest
+    place_past n k m (library.Subprogram c) rest plain well named = place_if _ m rest (by_test (same_name (key c.specification.name) name) refl)
       where
         by_test : (b : Bool) → same_name (key c.specification.name) name ≡ b → (b && b) ≡ false
         by_test true e =
@@ -67,9 +79,9 @@ module _ (l : Library) where
             never : (x y : ℕ) → x ≡ x + suc y → ⊥
             never x y h = omega (arith, h)
         by_test false e = refl
-    place_past n k m (library.Package x) rest sub well named = absurd sub
-    place_past n k m (library.PackageBody x) rest sub well named = absurd sub
-    place_past n k m (library.Instance x) rest sub well named = absurd sub
+    place_past n k m (library.Package x) rest plain well named = let none : m ≡ m + 0 = omega (arith) in ap (λ j. place_among name name j rest) none
+    place_past n k m (library.PackageBody x) rest plain well named = absurd plain
+    place_past n k m (library.Instance x) rest plain well named = absurd plain
 
     place_here : (m : ℕ) (i : LibraryItem) (b : SubprogramBody) (rest : List BodyName) → i ≡ library.Subprogram b → name ≡ key b.specification.name
         → place_among name name m (bodies_of_item i ++ rest) ≡ Some m
@@ -77,18 +89,19 @@ module _ (l : Library) where
         subst (λ j. place_among name name m (bodies_of_item j ++ rest) ≡ Some m) (sym item)
         (ap (λ c. if c && c then Some m else place_among name name (m + 1) rest) (ap (λ x. same_name x name) (sym same) ∙ name_same name))
 
-    pub place_at : (n m k : ℕ) (us : List LibraryUnit) (u : LibraryUnit) (b : SubprogramBody) → AreHeaded l n us → AreSubprograms us → slice_get us k ≡ Some u
-        → u.item ≡ library.Subprogram b → name ≡ key b.specification.name → unit_named l.names name ≡ Some (n + k) → place_among name name m (all_bodies us) ≡ Some (m + k)
-    place_at n m k [] u b headed subs there item same named = absurd (none_of k there)
+    pub place_at : (n m k : ℕ) (us : List LibraryUnit) (u : LibraryUnit) (b : SubprogramBody) → AreHeaded l n us → ArePlain us → slice_get us k ≡ Some u
+        → u.item ≡ library.Subprogram b → name ≡ key b.specification.name → unit_named l.names name ≡ Some (n + k)
+        → place_among name name m (all_bodies us) ≡ Some (m + bodies_before k us)
+    place_at n m k [] u b headed plain there item same named = absurd (none_of k there)
       where
         none_of : (j : ℕ) → slice_get [] j ≡ Some u → ⊥
         none_of zero e = none_is_some e
         none_of (suc j) e = none_is_some e
-    place_at n m zero (v ∷ us) u b headed subs there item same named =
+    place_at n m zero (v ∷ us) u b headed plain there item same named =
         let none : m ≡ m + 0 = omega (arith) in
         place_here m v.item b (all_bodies us) (ap (λ x. x.item) (same_some there) ∙ item) same ∙ ap Some none
-    place_at n m (suc k) (v ∷ us) u b headed subs there item same named =
+    place_at n m (suc k) (v ∷ us) u b headed plain there item same named =
         let count : (n + 1) + k ≡ n + suc k = omega (arith) in
-        let counted : (m + 1) + k ≡ m + suc k = omega (arith) in
-        place_past n k m v.item (all_bodies us) subs.0 headed.0.0 named
-        ∙ (place_at (n + 1) (m + 1) k us u b headed.1 subs.1 there item same (named ∙ ap Some (sym count)) ∙ ap Some counted)
+        let counted : (m + length (bodies_of_item v.item)) + bodies_before k us ≡ m + bodies_before (suc k) (v ∷ us) = omega (arith) in
+        place_past n k m v.item (all_bodies us) plain.0 headed.0.0 named
+        ∙ (place_at (n + 1) (m + length (bodies_of_item v.item)) k us u b headed.1 plain.1 there item same (named ∙ ap Some (sym count)) ∙ ap Some counted)
