@@ -1,0 +1,6 @@
+mod Ascii
+mod Declared
+mod Stated
+mod Bodies
+mod Units
+pub mod Programs

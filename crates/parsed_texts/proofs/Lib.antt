@@ -1,0 +1,12 @@
+pub mod Places
+pub mod Skips
+pub mod Gathered
+pub mod Nested
+pub mod Files
+pub mod Statements
+pub mod Decisions
+pub mod Conditions
+pub mod Few
+pub mod Texts
+pub mod Choices
+pub mod Spelling
