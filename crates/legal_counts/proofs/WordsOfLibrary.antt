@@ -18,7 +18,7 @@ use Rattle.ada_rules.specs.Statics.{Facts}
 use Rattle.legal_laws.specs.Valued.{HaveFacts}
 use Rattle.legal_programs.specs.Walked.{IsLegal}
 use Rattle.legal_programs.proofs.Limited.{both_none}
-use Rattle.legal_counts.specs.Bounded.{IsBounded}
+use Rattle.legal_laws.specs.Bounded.{IsBounded}
 use Rattle.legal_counts.specs.LibraryWords.{words_at, words_of_instances, library_words, words_of_units}
 use Rattle.legal_counts.proofs.WordsOfTypes.{within_limit, size_is}
 

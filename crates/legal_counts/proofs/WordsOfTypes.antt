@@ -15,11 +15,10 @@ use Rattle.ada_resolved.specs.Forms.{sized, known_shape}
 use Rattle.ada_resolved.specs.Sizes.{word_limit, limited, words, all_words, array_size, with_component, type_size, components_size}
 use Rattle.ada_rules.specs.Limits.{length_of, words_in, words_in_fields, sum_in}
 use Rattle.ada_rules.specs.Statics.{Facts, bounds_in}
-use Rattle.ada_rules.specs.Types.{AdaType, integer_type, enumeration, formal_type, array_type, record_type, AdaSubtype, of_type, Fields, no_field, and_field, subtype_in_tree, type_in_tree, fields_in_tree}
-use Rattle.legal_laws.specs.Known.{IsKnownType, IsKnownSubtype, AreKnownFields}
 use Rattle.legal_laws.specs.Valued.{AreOrdered, HaveFacts}
 use Rattle.legal_laws.proofs.Values.{range_alike}
-use Rattle.legal_counts.specs.Bounded.{IsBounded, AreBounded, words_of_objects}
+use Rattle.legal_counts.specs.ObjectWords.{words_of_objects}
+use Rattle.legal_laws.specs.Bounded.{IsBounded, AreBounded}
 
 -- numbers
 some_values : (low high : ℤ) → int_le low high ≡ true → 1 ≤ count_between low high
@@ -118,20 +117,3 @@ module _ (p : Program) (facts : List Facts) (has : HaveFacts p.instances facts) 
       let this = words_in facts inst t in
       let rest = sum_in facts inst ts in
       (size_is inst t h.0 (first_in this rest word_limit few), sizes_of_objects inst ts h.1 (second_in this rest word_limit few))
-
--- what the rules know of a type
-module _ (p : Program) (inst : ℕ) (declared : AdaType → Type 0) where
-  mutual
-    pub known_bounded : (t : AdaSubtype) → IsKnownSubtype p inst declared t → IsBounded p inst (subtype_in_tree t)
-    known_bounded (of_type t r) h = type_bounded t r h.0 h.1
-
-    type_bounded : (t : AdaType) (r : Range) → AreOrdered (static_bounds (values_of p) inst r) → IsKnownType p inst declared t → IsBounded p inst (type_in_tree t r)
-    type_bounded (integer_type i) r h k = h
-    type_bounded (enumeration i n) r h k = h
-    type_bounded (formal_type i n b) r h k = h
-    type_bounded (array_type i (of_type x q) c) r h k = (k.1.0.0, known_bounded c k.1.1.1.1)
-    type_bounded (record_type i fs) r h k = fields_bounded fs k.1.1
-
-    fields_bounded : (fs : Fields) → AreKnownFields p inst declared fs → AreBounded p inst (fields_in_tree fs)
-    fields_bounded no_field h = tt
-    fields_bounded (and_field name t fs) h = (known_bounded t h.0, fields_bounded fs h.1)

@@ -2,5 +2,5 @@ pub mod ConditionPlaces
 pub mod BodyTexts
 pub mod Choices
 pub mod Within
-pub mod Bounded
+pub mod ObjectWords
 pub mod LibraryWords

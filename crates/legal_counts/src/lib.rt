@@ -5,7 +5,7 @@
 //!   another (`ConditionPlaces`); statement obligations hold the decisions;
 //! - each node has a token (`Within`), where alternatives and handlers have choices (`Choices`);
 //! - the words of objects keep to their limit in each instance, and are those that the rules count where
-//!   bounds are known (`Bounded`).
+//!   bounds are known (`ObjectWords`).
 //!
 //! The functions here do nothing: each carries a law of the definitions as its contract, some of them by a
 //! call of one whose law they cite.
@@ -23,12 +23,11 @@ ghost use Rattle.ada_resolved.specs.Library.{program_size};
 ghost use Rattle.ada_resolved.specs.Sizes.{type_size};
 ghost use Rattle.legal_counts.specs.LibraryWords.{library_words, words_of_units};
 ghost use Rattle.ada_rules.specs.Entities.{Standard};
-ghost use Rattle.ada_rules.specs.Types.{AdaSubtype, AdaType, subtype_in_tree};
-ghost use Rattle.legal_laws.specs.Known.{IsKnownSubtype, IsOneOf};
 ghost use Rattle.ada_rules.specs.Limits.{most_words_of_library, most_words_of_subprogram, sum_in, words_in};
 ghost use Rattle.ada_syntax.specs.declared.unit.Unit.{Unit as LibraryUnit};
 ghost use Rattle.legal_instances.specs.InOrder.{UnitsRise};
-ghost use Rattle.legal_counts.specs.Bounded.{IsBounded, words_of_objects};
+ghost use Rattle.legal_counts.specs.ObjectWords.{words_of_objects};
+ghost use Rattle.legal_laws.specs.Bounded.{IsBounded};
 ghost use Rattle.ada_meaning.specs.Tree.{shape_of};
 ghost use Rattle.ada_rules.specs.Library.{Library, library_of};
 ghost use Rattle.legal_programs.specs.Walked.{IsLegal};
@@ -103,9 +102,3 @@ pub fn library_words_are_within_limits()
 {
     legal_instances::instances_have_their_facts();
 }
-
-/// A subtype that is known in an instance has bounds there, in each of its parts.
-pub fn known_types_are_bounded()
-    ensures { (p : Program) (inst : ℕ) (types : List AdaType) (t : AdaSubtype)
-        → IsKnownSubtype p inst (IsOneOf types) t → IsBounded p inst (subtype_in_tree t) }
-{}

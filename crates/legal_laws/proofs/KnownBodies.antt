@@ -13,7 +13,7 @@ use Rattle.ada_meaning.specs.Program as program
 use Rattle.ada_meaning.specs.Resolved.{shape_in}
 use Rattle.ada_meaning.specs.Shape.{Shape, word}
 use Rattle.ada_meaning.specs.Tree as tree
-use Rattle.ada_meaning.specs.WellFormed.{IsType, IsFrame, most_parameters, StartSees, IsSubprogram, behind_all}
+use Rattle.ada_meaning.specs.WellFormed.{IsType, IsFrame, most_parameters, StartSees, behind_all, IsSubprogram}
 use Rattle.ada_rules.specs.Plan.{◌>>=◌, outcome_after}
 use Rattle.ada_rules.specs.Types.{AdaType, subtype_in_tree}
 use Rattle.ada_rules.specs.Entities.{Parameter, Region}
@@ -22,7 +22,8 @@ use Rattle.ada_rules.specs.Declarations.{Declared, all_declared}
 use Rattle.ada_rules.specs.Statements.{stmts_of, Frame, block_of, all_handled, frame_returns}
 use Rattle.ada_rules.specs.Statics.{Facts}
 use Rattle.ada_rules.specs.Subprograms.{Profile, returning_of, may_end, typed_parameters, body_made, inside_body, body_judged, closed_by}
-use Rattle.legal_laws.specs.Served.{Serves, AreShaped, AreListed, IsFinal}
+use Rattle.legal_laws.specs.Bounded.{IsBounded}
+use Rattle.legal_laws.specs.Served.{Serves, AreShaped, AreListed, IsFinal, IsFormed}
 use Rattle.legal_laws.specs.Standing.{with_types, Stands, ReturnsAs}
 use Rattle.legal_laws.specs.Valued.{AreFactsInBase, HaveFacts}
 use Rattle.legal_laws.specs.Written.{AreWritten, IsHandledText}
@@ -60,6 +61,10 @@ every_reversed P (x ∷ xs) h =
 every_mapped : {X Y : Type 0} (P : Y → Type 0) (f : X → Y) (xs : List X) → Everywhere (λ x. P (f x)) xs → Everywhere P (map f xs)
 every_mapped P f [] h = tt
 every_mapped P f (x ∷ xs) h = (h.0, every_mapped P f xs h.1)
+
+every_weaker : {X : Type 0} (P Q : X → Type 0) → ((x : X) → P x → Q x) → (xs : List X) → Everywhere P xs → Everywhere Q xs
+every_weaker P Q f [] h = tt
+every_weaker P Q f (x ∷ xs) h = (f x h.0, every_weaker P Q f xs h.1)
 
 -- an item behind others, by their number
 item_at : {X Y : Type 0} (f : X → Y) (xs ys : List X) (x : X) → slice_get (map f (xs ++ x ∷ ys)) (length xs) ≡ Some (f x)
@@ -169,7 +174,7 @@ module _ (p : Program) (facts : List Facts) (has : HaveFacts p.instances facts) 
     abbrev pub IsBodyOf : State → Type 0
     IsBodyOf t =
         (rest : List Subprogram) → t.subprograms ≡ sub ∷ rest → Serves facts inst env.generic t
-        → AreListed facts inst p shapes env.generic t.exceptions_declared → IsSubprogram p inst sub
+        → AreListed facts inst p shapes env.generic t.exceptions_declared → IsFormed p inst sub
 
     body_formed : (x : Declared) (f : Given Frame) → AreDeclarationsOf x → IsFrameOf x f → may_end b q.value.result ≡ true → IsBodyOf (made x f)
     body_formed x f h k ends rest same serves listed =
@@ -188,17 +193,26 @@ module _ (p : Program) (facts : List Facts) (has : HaveFacts p.instances facts) 
         let body = counts_joined q.next x.next f.next (map number_of x.made) (all_objects (stmts_of f.value.statements) ++ handler_objects f.value.handlers) h.counts k.counts in
         let gives : block_gives (block_of x.made f.value) ≡ function = k.gives ∙ gives_as b q.value.result ends in
         let giving : is_function sub ≡ function = ap block_gives (sym body_is) ∙ gives in
-        record {
+        let typed = k.typed at_x all (h.typed at_x is.typed) in
+        let formed : IsSubprogram p inst sub = record {
           numbered = all_numbered x f body counted objects_are body_is parameters_are;
           types = subst (Everywhere IsType) (sym (ap (map (shape_in p inst)) (sym objects_are) ∙ mapped_more (reverse f.next.words) ∙ ap (map shape_of_words) (sym_nil (reverse f.next.words))))
               (every_mapped IsType shape_of_words (reverse f.next.words)
-              (every_reversed (λ w. IsType (shape_of_words w)) f.next.words (k.typed at_x all (h.typed at_x is.typed))));
+              (every_reversed (λ w. IsType (shape_of_words w)) f.next.words
+              (every_weaker (λ w. IsType (shape_of_words w) × IsBounded p inst w.subtype) (λ w. IsType (shape_of_words w)) (λ w t. t.0) f.next.words typed)));
           profile = subst (Everywhere IsProfiled) parameters_are (parameter_shapes 0 q.value.parameters is.shapes_are);
           few = subst (λ n. n ≤ most_parameters) (sym (parameter_count 0 q.value.parameters) ∙ ap length parameters_are) is.few;
           given = λ g. subst (Everywhere (λ r. r.mode ≡ in_mode)) parameters_are
               (parameter_modes 0 q.value.parameters (is.given (sym giving ∙ g)));
           frame = subst (λ c. IsFrame p inst shapes c Starts false false sub.body) (sym giving)
               (subst (λ c. IsFrame p inst shapes function Starts false false c) body_is ((h.made at_x).made, k.frame at_x all));
+        } in
+        record {
+          is = formed;
+          bounded = subst (Everywhere (IsBounded p inst)) objects_are
+              (every_mapped (IsBounded p inst) (λ w. w.subtype) (reverse f.next.words)
+              (every_reversed (λ w. IsBounded p inst w.subtype) f.next.words
+              (every_weaker (λ w. IsType (shape_of_words w) × IsBounded p inst w.subtype) (λ w. IsBounded p inst w.subtype) (λ w t. t.1) f.next.words typed)));
         }
       where
         sym_nil : (xs : List Words) → xs ++ [] ≡ xs

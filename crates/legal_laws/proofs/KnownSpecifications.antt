@@ -33,6 +33,7 @@ use Rattle.legal_laws.proofs.KnownBodies.{AreOfShape}
 use Rattle.legal_laws.proofs.KnownExpressions.{mark_part_known}
 use Rattle.legal_laws.proofs.KnownObjects.{HaveShape, AreSeen, counted_shapes}
 use Rattle.legal_laws.proofs.KnownRegions.{all_hidden_known, redefined_known, local_known, opened_known}
+use Rattle.legal_laws.proofs.KnownBounds.{known_bounded}
 use Rattle.legal_laws.proofs.KnownTypes.{subtype_is_type}
 use Rattle.legal_laws.proofs.Leading.{Leads, leads_same, leads_both, leads_decides, leads_objects}
 use Rattle.legal_laws.proofs.TypedObjects.{AreTyped, Typed, counted_typed}
@@ -196,7 +197,7 @@ module _ (p : Program) (facts : List Facts) (has : HaveFacts p.instances facts) 
         let more = knows (first, shape) all seen.1 in
         record {
           typed = λ ws. more.typed (counted_typed p facts has are inst shapes t.value.subtype q.names marked.words
-              (subtype_is_type p inst types apart t.value.subtype known)
+              (subtype_is_type p inst types apart t.value.subtype known, known_bounded p inst types t.value.subtype known)
               (subst (AreTyped p facts has are inst shapes) (sym (ap (λ x. x.words) kept)) ws));
           shapes_are = shapes_joined (mode_of q.mode) t.value s.objects (with_parameters q t).objects q.names rest.value.parameters ends
               (subst (λ n. HaveShape p inst shapes facts t.value.subtype n q.names) same shape) more.shapes_are;

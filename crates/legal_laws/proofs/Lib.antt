@@ -2,6 +2,7 @@ pub mod Passing
 pub mod Demands
 pub mod Values
 pub mod KnownTypes
+pub mod KnownBounds
 mod KnownNames
 pub mod KnownExpressions
 pub mod KeptExpressions

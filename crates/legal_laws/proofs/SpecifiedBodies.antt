@@ -7,7 +7,7 @@ use Rattle.ada_meaning.specs.Program.{Subprogram, Program}
 use Rattle.ada_meaning.specs.Program as program
 use Rattle.ada_meaning.specs.Shape.{Shape}
 use Rattle.ada_meaning.specs.Tree as tree
-use Rattle.ada_meaning.specs.WellFormed.{StartSees, IsSubprogram, most_parameters}
+use Rattle.ada_meaning.specs.WellFormed.{StartSees, most_parameters}
 use Rattle.ada_rules.specs.Plan.{◌>>=◌, outcome_after}
 use Rattle.ada_rules.specs.Types.{AdaType}
 use Rattle.ada_rules.specs.Entities.{Parameter, Region}
@@ -17,7 +17,7 @@ use Rattle.ada_rules.specs.Statements.{Frame, block_of, all_handled, frame_retur
 use Rattle.ada_rules.specs.Statics.{Facts}
 use Rattle.ada_rules.specs.Subprograms.{Profile, returning_of, may_end, typed_parameters, body_made, inside_body, body_judged, closed_by}
 use Rattle.legal_laws.specs.Known.{IsRegion}
-use Rattle.legal_laws.specs.Served.{Serves, AreListed, IsFinal}
+use Rattle.legal_laws.specs.Served.{Serves, AreListed, IsFinal, IsFormed}
 use Rattle.legal_laws.specs.Standing.{Stands}
 use Rattle.legal_laws.specs.Valued.{AreFactsInBase, HaveFacts}
 use Rattle.legal_laws.specs.Written.{AreWritten, IsHandledText}
@@ -139,13 +139,13 @@ module _ (p : Program) (facts : List Facts) (has : HaveFacts p.instances facts) 
           → length sub.parameters ≤ most_parameters
           → IfOk (body_judged env before b region name q).answer
           (λ t. (rest : List Subprogram) → t.subprograms ≡ sub ∷ rest → Serves facts inst env.generic t
-          → AreListed facts inst p shapes env.generic t.exceptions_declared → RegionKnown → IsSubprogram p inst sub)
+          → AreListed facts inst p shapes env.generic t.exceptions_declared → RegionKnown → IsFormed p inst sub)
       body_after c written few =
           weaker_ok
           (λ t. IsBehind t × ((is : IsSpecified p facts has are inst sub types env region name q)
           → IsBodyOf p facts has are inst sub types env before b region name q is written t))
           (λ t. (rest : List Subprogram) → t.subprograms ≡ sub ∷ rest → Serves facts inst env.generic t
-          → AreListed facts inst p shapes env.generic t.exceptions_declared → RegionKnown → IsSubprogram p inst sub)
+          → AreListed facts inst p shapes env.generic t.exceptions_declared → RegionKnown → IsFormed p inst sub)
           (body_judged env before b region name q).answer
           (both_ok IsBehind (λ t. (is : IsSpecified p facts has are inst sub types env region name q)
           → IsBodyOf p facts has are inst sub types env before b region name q is written t)

@@ -14,6 +14,7 @@ use Rattle.ada_meaning.specs.Program.{Program}
 use Rattle.ada_meaning.specs.Resolved.{shape_in}
 use Rattle.ada_meaning.specs.Shape.{Shape}
 use Rattle.ada_meaning.specs.Tree as tree
+use Rattle.ada_meaning.specs.Types.{Subtype}
 use Rattle.ada_meaning.specs.WellFormed.{IsType, behind, behind_all}
 use Rattle.ada_rules.specs.Plan.{◌>>=◌, rule}
 use Rattle.ada_rules.specs.Types.{AdaType, AdaSubtype, subtype_in_tree}
@@ -23,6 +24,7 @@ use Rattle.ada_rules.specs.Expressions.{itself, denoted, judged, decision}
 use Rattle.ada_rules.specs.Declarations.{indicated, defined, new_value, Declared, may_be_bare, one_name, known_constant, lying_in, word_of, counted, local_bare, local_set, objects_declared, exception_declared, exceptions_from, type_declared, subtype_declared, kind_declared, declared, all_declared}
 use Rattle.ada_rules.specs.Statements.{stmts_of, one, target, call_of, branches_of, Selector, selector, all_chosen, case_of, turned, loop_parameter, one_object_more, is_reverse, returned, returned_value, exception_of, where_allowed, all_caught, is_last, declarations_in, block_of, typed_stmt, stated, all_stated, branched, all_arms, all_handlers, all_handled, ends_with_others}
 use Rattle.ada_rules.specs.Statics.{Facts}
+use Rattle.legal_laws.specs.Bounded.{IsBounded}
 use Rattle.legal_laws.specs.Kept.{OnlyDecides, OnlyStatics}
 use Rattle.legal_laws.specs.Known.{IsKnownSubtype, IsRegion}
 use Rattle.legal_laws.specs.Served.{IsFinal}
@@ -36,6 +38,7 @@ use Rattle.legal_laws.proofs.KnownObjects.{constant_keeps}
 use Rattle.legal_laws.proofs.KnownRegions.{hidden_known, all_hidden_known, local_known}
 use Rattle.legal_laws.proofs.KnownStatements.{declared_texts, in_loop_stands, in_handler_stands, opened_stands, parameter_stands}
 use Rattle.legal_laws.proofs.KnownStatics.{IsIndicated, indicated_known}
+use Rattle.legal_laws.proofs.KnownBounds.{known_bounded}
 use Rattle.legal_laws.proofs.KnownTypes.{subtype_is_type}
 use Rattle.legal_laws.proofs.KnownValues.{AreTurns, turned_known}
 use Rattle.legal_laws.proofs.Leading.{Leads, leads_decides, leads_started, leads_objects, Lead, new_value_leads, set_leads, declaration_leads, declarations_lead}
@@ -59,8 +62,12 @@ module _ (p : Program) (facts : List Facts) (has : HaveFacts p.instances facts) 
   abbrev Ahead : {A : Type 0} → Option ℕ → State → Given A → Type 0
   Ahead o s g = Lead p facts are inst shape_of o s g
 
+  -- a type of the program, with bounds
+  abbrev pub IsOwnType : Subtype → Type 0
+  IsOwnType t = IsType (shape_in p inst t) × IsBounded p inst t
+
   abbrev pub AreTyped : List Words → Type 0
-  AreTyped ws = Everywhere (λ w. IsType (shape_in p inst w.subtype)) ws
+  AreTyped ws = Everywhere (λ w. IsOwnType w.subtype) ws
 
   abbrev pub Typed : State → State → Type 0
   Typed s t = AreTyped s.words → AreTyped t.words
@@ -71,7 +78,7 @@ module _ (p : Program) (facts : List Facts) (has : HaveFacts p.instances facts) 
   typed_statics : (s t : State) → OnlyStatics s t → Typed s t
   typed_statics s t only = typed_same s t (ap (λ x. x.words) only)
 
-  pub counted_typed : (t : AdaSubtype) (is : List Identifier) (ws : List Words) → IsType (shape_in p inst (subtype_in_tree t)) → AreTyped ws → AreTyped (counted t is ws)
+  pub counted_typed : (t : AdaSubtype) (is : List Identifier) (ws : List Words) → IsOwnType (subtype_in_tree t) → AreTyped ws → AreTyped (counted t is ws)
   counted_typed t [] ws h all = all
   counted_typed t (i ∷ is) ws h all = counted_typed t is (word_of t i ∷ ws) h (h, all)
 
@@ -87,8 +94,8 @@ module _ (p : Program) (facts : List Facts) (has : HaveFacts p.instances facts) 
     Indicated region h x =
         IsIndicated p facts has are inst types st.apart shape_of Sees (with_local env region) (local_known p inst types shape_of Sees env region st.place h) st.world s x
 
-    is_typed : (t : AdaSubtype) → IsKnownSubtype p inst types t → IsType (shape_in p inst (subtype_in_tree t))
-    is_typed t h = subtype_is_type p inst types st.apart t h
+    is_typed : (t : AdaSubtype) → IsKnownSubtype p inst types t → IsOwnType (subtype_in_tree t)
+    is_typed t h = (subtype_is_type p inst types st.apart t h, known_bounded p inst types t h)
 
     now : (t : State) → OnlyStatics s t → t.objects ≡ length t.words
     now t only = ap (λ x. x.objects) only ∙ st.counted ∙ sym (ap (λ x. length x.words) only)
@@ -313,7 +320,7 @@ module _ (p : Program) (facts : List Facts) (has : HaveFacts p.instances facts) 
         let here = led types Sees env (started s) t.next first go in
         let at_more = k.0.back ((leads_parameter p facts are inst shape_of env.generic q t.value.subtype t.next).counted here.counted) all in
         k.1 at_more all (
-          subtype_is_type p inst types st.apart t.value.subtype h.subtype,
+          (subtype_is_type p inst types st.apart t.value.subtype h.subtype, known_bounded p inst types t.value.subtype h.subtype),
           typed_statics (started s) t.next (decides_statics (started s) t.next h.only) ws,
         )))))
     stated_typed types Sees env s (text.exit q None) st written =

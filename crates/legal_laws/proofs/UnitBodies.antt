@@ -9,7 +9,7 @@ use Rattle.ada_meaning.specs.Declared.{object_shape}
 use Rattle.ada_meaning.specs.Program.{Subprogram, Program}
 use Rattle.ada_meaning.specs.Shape.{Shape}
 use Rattle.ada_meaning.specs.Tree as tree
-use Rattle.ada_meaning.specs.WellFormed.{StartSees, IsSubprogram, most_parameters}
+use Rattle.ada_meaning.specs.WellFormed.{StartSees, most_parameters}
 use Rattle.ada_rules.specs.Plan.{Plan, ◌>>=◌, rule, outcome_after}
 use Rattle.ada_rules.specs.Types.{AdaType}
 use Rattle.ada_rules.specs.Entities.{key, Entity, hidden, mark, literal, object, formal_object, routine, raisable, component, test_io, unit, Region, entity_of}
@@ -18,7 +18,7 @@ use Rattle.ada_rules.specs.Statics.{Facts}
 use Rattle.ada_rules.specs.Subprograms.{Profile, to_complete, completed, conforming, specified, body_judged, body_number, routine_of, with_routine, packaged_body}
 use Rattle.ada_rules.specs.Units.{at_unit, subprogram_body}
 use Rattle.legal_laws.specs.Known.{IsRegion, IsEnv}
-use Rattle.legal_laws.specs.Served.{Serves, AreListed}
+use Rattle.legal_laws.specs.Served.{Serves, AreListed, IsFormed}
 use Rattle.legal_laws.specs.Standing.{Stands}
 use Rattle.legal_laws.specs.Valued.{AreFactsInBase, HaveFacts}
 use Rattle.legal_laws.specs.Written.{AreWritten, IsHandledText}
@@ -43,7 +43,7 @@ module _ (p : Program) (facts : List Facts) (has : HaveFacts p.instances facts) 
   abbrev pub LastIsFormed : Option ℕ → State → Type 0
   LastIsFormed o t =
       (rest : List Subprogram) → t.subprograms ≡ sub ∷ rest → Serves facts inst o t → AreListed facts inst p shapes o t.exceptions_declared
-      → IsSubprogram p inst sub
+      → IsFormed p inst sub
 
   -- a body completes a declaration, or declares its subprogram
   completed_if : (region : Region) (i : Identifier) (o : Option Entity) → Regions region → IfSome (to_complete region i o) Regions
@@ -87,7 +87,7 @@ module _ (p : Program) (facts : List Facts) (has : HaveFacts p.instances facts) 
         (specified_known p facts has are inst sub types st.apart env (at_unit s) b.specification (outside (at_unit s) st))
         (λ q c. part_so
         (λ t. (rest : List Subprogram) → t.subprograms ≡ sub ∷ rest → Serves facts inst env.generic t
-        → AreListed facts inst p shapes env.generic t.exceptions_declared → RegionKnown p facts has are inst sub env s b [] [] q types (at_unit s) st → IsSubprogram p inst sub)
+        → AreListed facts inst p shapes env.generic t.exceptions_declared → RegionKnown p facts has are inst sub env s b [] [] q types (at_unit s) st → IsFormed p inst sub)
         (LastIsFormed env.generic) (body_judged env s b [] [] q).answer (λ next. rule (Some next))
         (body_after p facts has are inst sub env s b [] [] q types (at_unit s) st c written few)
         (λ t h rest same serves listed. h rest same serves listed (λ g e k. tt))))
@@ -110,7 +110,7 @@ module _ (p : Program) (facts : List Facts) (has : HaveFacts p.instances facts) 
         (λ u v. part_so
         (λ t. (rest : List Subprogram) → t.subprograms ≡ sub ∷ rest → Serves facts inst env.generic t
         → AreListed facts inst p shapes env.generic t.exceptions_declared
-        → RegionKnown p facts has are inst sub env s b (with_routine env region b.specification.name q.value) (key b.specification.name) q types s st → IsSubprogram p inst sub)
+        → RegionKnown p facts has are inst sub env s b (with_routine env region b.specification.name q.value) (key b.specification.name) q types s st → IsFormed p inst sub)
         (λ (g : Given Region). LastIsFormed env.generic g.next)
         (body_judged env s b (with_routine env region b.specification.name q.value) (key b.specification.name) q).answer
         (λ next. rule (Some (given (with_routine env region b.specification.name q.value) next)))

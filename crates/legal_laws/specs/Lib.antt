@@ -1,5 +1,6 @@
 pub mod Demanded
 pub mod Valued
+pub mod Bounded
 pub mod Known
 pub mod Kept
 pub mod Served

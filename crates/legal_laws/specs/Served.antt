@@ -10,6 +10,7 @@ use Rattle.ada_meaning.specs.Statics.{constants_of, within}
 use Rattle.ada_meaning.specs.Tree.{Object, local_object}
 use Rattle.ada_meaning.specs.Declared.{object_shape}
 use Rattle.ada_meaning.specs.WellFormed.{IsSubprogram}
+use Rattle.legal_laws.specs.Bounded.{IsBounded}
 use Rattle.ada_rules.specs.Environment.{Words, Declares, State}
 use Rattle.ada_rules.specs.Limits.{words_in, most_words_of_type}
 use Rattle.ada_rules.specs.Statics.{Demand, Facts, constant_in, value_in, bounds_in, holds}
@@ -56,9 +57,14 @@ module _ (facts : List Facts) (inst : ℕ) where
       pub shaped : AreShaped s.words
       pub listed : AreListed generic s.exceptions_declared
 
+-- a subprogram that is well-formed in an instance, where the types of its objects have bounds
+pub record IsFormed (p : Program) (inst : ℕ) (sub : Subprogram) : Type 0 where
+  pub is : IsSubprogram p inst sub
+  pub bounded : Everywhere (IsBounded p inst) sub.objects
+
 -- The subprogram that a walk over a body made last is this one: then it is well-formed in the instance, if the final
 -- program keeps the state behind the walk.
 abbrev pub IsFormedBy : List Facts → (inst : ℕ) → Program → Subprogram → Option ℕ → State → Type 0
 IsFormedBy facts inst p sub generic t =
     (rest : List Subprogram) → t.subprograms ≡ sub ∷ rest → Serves facts inst generic t
-    → AreListed facts inst p (object_shape p inst sub) generic t.exceptions_declared → IsSubprogram p inst sub
+    → AreListed facts inst p (object_shape p inst sub) generic t.exceptions_declared → IsFormed p inst sub

@@ -34,11 +34,12 @@ ghost use Rattle.ada_rules.specs.Expressions.{Role, denoted, judged};
 ghost use Rattle.ada_rules.specs.Statements.{all_stated, stmts_of};
 ghost use Rattle.ada_rules.specs.Statics.{Asked, Facts, Owed, first_unmet, holds, in_order, lies_in, value_in};
 ghost use Rattle.ada_rules.specs.Subprograms.{body_number, packaged_body};
-ghost use Rattle.ada_rules.specs.Types.{AdaType};
+ghost use Rattle.ada_rules.specs.Types.{AdaSubtype, AdaType, subtype_in_tree};
 ghost use Rattle.ada_rules.specs.Units.{at_unit, subprogram_body};
 ghost use Rattle.legal_laws.specs.Demanded.{AreMet};
 ghost use Rattle.legal_laws.specs.Kept.{OnlyDecides};
-ghost use Rattle.legal_laws.specs.Known.{AreApart, IsDenoted, IsEnv, IsJudged, IsOneOf};
+ghost use Rattle.legal_laws.specs.Bounded.{IsBounded};
+ghost use Rattle.legal_laws.specs.Known.{AreApart, IsDenoted, IsEnv, IsJudged, IsKnownSubtype, IsOneOf};
 ghost use Rattle.legal_laws.specs.LibraryLevel.{AreFormed, AreObjects};
 ghost use Rattle.legal_laws.specs.Served.{IsFinal, IsFormedBy};
 ghost use Rattle.legal_laws.specs.Standing.{ReturnsAs, Stands};
@@ -139,4 +140,10 @@ pub fn bodies_are_well_formed()
         → Stands p inst (object_shape p inst sub) (IsOneOf types) (StartSees p inst sub) (opened env) (at_unit s)
         → IsBodyText b → length sub.parameters ≤ most_parameters
         → IfOk (subprogram_body env s b).answer (IsFormedBy facts inst p sub env.generic) }
+{}
+
+/// A subtype that is known in an instance has bounds there, in each of its parts.
+pub fn known_types_are_bounded()
+    ensures { (p : Program) (inst : ℕ) (types : List AdaType) (t : AdaSubtype)
+        → IsKnownSubtype p inst (IsOneOf types) t → IsBounded p inst (subtype_in_tree t) }
 {}

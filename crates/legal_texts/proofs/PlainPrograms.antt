@@ -26,6 +26,8 @@ use Rattle.legal_laws.specs.Standing.{AreOlder, Stands}
 use Rattle.legal_laws.specs.Valued.{AreFactsOf}
 use Rattle.legal_laws.proofs.KnownBodies.{every_reversed}
 use Rattle.legal_laws.proofs.Predefined.{predefined_known, test_io_known, first_stands}
+use Rattle.legal_laws.specs.Bounded.{AreObjectsBounded}
+use Rattle.legal_laws.specs.Served.{IsFormed}
 use Rattle.legal_laws.proofs.UnitBodies.{LastIsFormed, subprogram_known}
 use Rattle.legal_programs.specs.DecisionPlaces.{units_decisions}
 use Rattle.legal_programs.specs.Homes.{AreHeaded}
@@ -87,16 +89,19 @@ every_of P [] h = tt
 every_of P (x ∷ xs) h = (h x (inl refl), every_of P xs (λ y there. h y (inr there)))
 
 -- a subprogram in each instance in which it stands
-abbrev IsFormed : Program → Subprogram → Type 0
-IsFormed p sub = (i : ℕ) → StandsIn p sub.generic i → IsSubprogram p i sub
+abbrev IsFormedThere : Program → Subprogram → Type 0
+IsFormedThere p sub = (i : ℕ) → StandsIn p sub.generic i → IsFormed p i sub
 
-pub bodies_formed : (p : Program) → Everywhere (IsFormed p) p.subprograms
+pub bodies_formed : (p : Program) → Everywhere (IsFormedThere p) p.subprograms
     → Everywhere (λ (b : Body). IfSome (slice_get p.subprograms b.subprogram) (IsSubprogram p b.instance)) (bodies_of p)
 bodies_formed p all =
     every_of (λ (b : Body). IfSome (slice_get p.subprograms b.subprogram) (IsSubprogram p b.instance)) (bodies_of p)
     (λ b there. let is = (bodies_law p b).0 there in
     subst (λ o. IfSome o (IsSubprogram p b.instance)) (sym is.is_declared)
-    (subst (λ o. IfSome o (IsFormed p)) is.is_declared (every_at (IsFormed p) p.subprograms b.subprogram all) b.instance is.stands))
+    (subst (λ o. IfSome o (IsFormedThere p)) is.is_declared (every_at (IsFormedThere p) p.subprograms b.subprogram all) b.instance is.stands).is)
+
+pub objects_bounded : (p : Program) → Everywhere (IsFormedThere p) p.subprograms → AreObjectsBounded p
+objects_bounded p all m inst sub at stands = (subst (λ o. IfSome o (IsFormedThere p)) at (every_at (IsFormedThere p) p.subprograms m all) inst stands).bounded
 
 module _ (l : Library) (main : List ℕ) (p : Program) (legal : IsLegal l main p) (plain : ArePlain l.units) (texts : AreUnitTexts l.units)
     (of_facts : AreFactsOf p legal.walked.world.instances) (standard : IsWholeStandard l.standard) where
@@ -177,7 +182,7 @@ module _ (l : Library) (main : List ℕ) (p : Program) (legal : IsLegal l main p
 
     pub record AreFormed (n : ℕ) (s : State) : Type 0 where
       pub words : s.objects ≡ length s.words
-      pub formed : Everywhere (IsFormed p) s.subprograms
+      pub formed : Everywhere (IsFormedThere p) s.subprograms
 
     text_at : (n : ℕ) (u : LibraryUnit) → slice_get l.units n ≡ Some u → IsItemText u.item
     text_at n u there = subst (λ o. IfSome o (λ v. IsItemText v.item)) there (every_at (λ v. IsItemText v.item) l.units n texts)
@@ -193,15 +198,15 @@ module _ (l : Library) (main : List ℕ) (p : Program) (legal : IsLegal l main p
         let few = short.few (kept.few at.few) in
         let count : length m.made.parameters ≡ length body.profile.value.parameters = sym (ap length m.parameters) ∙ typed_count 0 body.profile.value.parameters in
         let served = served_once l main p legal t at.extends in
-        let formed : IsSubprogram p 0 m.made =
+        let formed : IsFormed p 0 m.made =
         of_ok (LastIsFormed p facts of_facts.0 of_facts.1 0 m.made (IsOneOf seen.types) None) (subprogram_body env s b).answer t judged
         (subprogram_known p facts of_facts.0 of_facts.1 0 m.made (IsOneOf seen.types) env s b text (subst (λ k. k ≤ most_parameters) (sym count) few)
         (env_stands s n u b item at.there m.made h.words))
         s.subprograms m.is_made served.0 (served.1 (object_shape p 0 m.made)) in
         record {
           words = m.objects ∙ (h.words ∙ ap length (sym m.words));
-          formed = subst (Everywhere (IsFormed p)) (sym m.is_made)
-              (λ i stands. subst (λ j. IsSubprogram p j m.made) (sym (subst (λ g. StandsIn p g i) m.stands stands)) formed, h.formed);
+          formed = subst (Everywhere (IsFormedThere p)) (sym m.is_made)
+              (λ i stands. subst (λ j. IsFormed p j m.made) (sym (subst (λ g. StandsIn p g i) m.stands stands)) formed, h.formed);
         }
     by_item s n u t (library.Package x) item sub text at judged h =
         subst (AreFormed (n + 1)) (same_some (passed_rule u.pos (Some s) t judged)) (record { words = h.words; formed = h.formed })
@@ -211,13 +216,13 @@ module _ (l : Library) (main : List ℕ) (p : Program) (legal : IsLegal l main p
     formed_step : (s : State) (n : ℕ) (u : LibraryUnit) (t : State) → IsAtBody l final last s n u t → AreFormed n s → AreFormed (n + 1) t
     formed_step s n u t at h = by_item s n u t u.item refl (item_at l main p legal plain n u at.there) (text_at n u at.there) at at.judged h
 
-    pub all_formed : Everywhere (IsFormed p) p.subprograms
+    pub all_formed : Everywhere (IsFormedThere p) p.subprograms
     all_formed =
         let none = (states_of l main p legal).seen.subprograms in
         let behind = bodies_known l final last AreFormed formed_step legal.walk.seen.next 0 l.units last legal.walk.bodies from_start (have_homes l 0 l.units headed)
         no_excess (extends_same last)
-        (record { words = seen.counted; formed = subst (Everywhere (IsFormed p)) (sym none) tt }) in
-        subst (λ r. Everywhere (IsFormed p) r.subprograms) (sym legal.made) (every_reversed (IsFormed p) last.subprograms behind.formed)
+        (record { words = seen.counted; formed = subst (Everywhere (IsFormedThere p)) (sym none) tt }) in
+        subst (λ r. Everywhere (IsFormedThere p) r.subprograms) (sym legal.made) (every_reversed (IsFormedThere p) last.subprograms behind.formed)
 
     -- objects of the library level
     no_bodies : (us : List LibraryUnit) → ArePlain us → has_package_body us ≡ false
@@ -286,15 +291,18 @@ predefined_alone t (inr (inr e)) = absurd e
 
 -- whole programs
 pub plain_formed : (units : List LibraryUnit) (main : List ℕ) (p : Program) → checked_with whole_standard units main ≡ legal p
-    → IsWholeOrder (library_of whole_standard units) → ArePlain units → Rise (units_places units) → Rise (units_decisions units) → AreUnitTexts units → IsWellFormed p
+    → IsWholeOrder (library_of whole_standard units) → ArePlain units → Rise (units_places units) → Rise (units_decisions units) → AreUnitTexts units → IsWellFormed p × AreObjectsBounded p
 plain_formed units main p h whole plain statements decisions texts =
-    well_formed l main p is whole_is_whole
-    (record { statements = statements; decisions = subst Rise (sym (decisions_placed l main p is whole_is_whole)) decisions })
-    (record {
-      resolved = nothing_to_resolve l main p is (no_instances units plain);
-      library = all_objects l main p is plain texts of_facts whole_is_whole bodies seen (none_made l main p is (no_instances units plain));
-      bodies = bodies_formed p (all_formed l main p is plain texts of_facts whole_is_whole bodies seen);
-    })
+    let formed = all_formed l main p is plain texts of_facts whole_is_whole bodies seen in (
+      well_formed l main p is whole_is_whole
+          (record { statements = statements; decisions = subst Rise (sym (decisions_placed l main p is whole_is_whole)) decisions })
+          (record {
+            resolved = nothing_to_resolve l main p is (no_instances units plain);
+            library = all_objects l main p is plain texts of_facts whole_is_whole bodies seen (none_made l main p is (no_instances units plain));
+            bodies = bodies_formed p formed;
+          }),
+      objects_bounded p formed,
+    )
   where
     l : Library
     l = library_of whole_standard units
@@ -352,5 +360,5 @@ are_plain (u ∷ us) h = (of_item u.item h.0, are_plain us h.1)
     of_item (library.Instance x) k = absurd k
 
 pub subprograms_formed : (units : List LibraryUnit) (main : List ℕ) (p : Program) → checked_with whole_standard units main ≡ legal p
-    → IsWholeOrder (library_of whole_standard units) → AreSubprograms units → Rise (units_places units) → Rise (units_decisions units) → AreUnitTexts units → IsWellFormed p
+    → IsWholeOrder (library_of whole_standard units) → AreSubprograms units → Rise (units_places units) → Rise (units_decisions units) → AreUnitTexts units → IsWellFormed p × AreObjectsBounded p
 subprograms_formed units main p h whole subs statements decisions texts = plain_formed units main p h whole (are_plain units subs) statements decisions texts

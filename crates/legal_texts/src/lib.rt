@@ -17,6 +17,7 @@ ghost use Rattle.ada_rules.specs.Entities.{whole_standard};
 ghost use Rattle.ada_rules.specs.Legal.{checked_with, legal};
 ghost use Rattle.ada_syntax.specs.declared.unit.Unit.{Unit as LibraryUnit};
 ghost use Rattle.legal_instances.specs.Worked.{worked_units};
+ghost use Rattle.legal_laws.specs.Bounded.{AreObjectsBounded};
 ghost use Rattle.legal_programs.specs.DecisionPlaces.{units_decisions};
 ghost use Rattle.legal_programs.specs.InText.{Rise};
 ghost use Rattle.legal_programs.specs.TextPlaces.{units_places};
@@ -27,21 +28,27 @@ ghost use Rattle.legal_texts.specs.UnitTexts.{AreUnitTexts};
 use legal_instances::orders_of_legal_programs_are_whole;
 
 /// A program of library subprograms, and of packages that declare types, subtypes, objects and exceptions, that
-/// the rules of the whole language accept is well-formed, where its statements and its conditions stand in the
-/// order of the text.
+/// the rules of the whole language accept is well-formed, and the types of the objects of its subprograms have
+/// bounds, where its statements and its conditions stand in the order of the text.
 pub fn programs_of_plain_packages_are_well_formed()
-    ensures { (units : List LibraryUnit) (main : List ℕ) (p : Program)
+    ensures formed { (units : List LibraryUnit) (main : List ℕ) (p : Program)
         → checked_with whole_standard units main ≡ legal p → ArePlain units → Rise (units_places units)
         → Rise (units_decisions units) → AreUnitTexts units → IsWellFormed p }
+    ensures bounded { (units : List LibraryUnit) (main : List ℕ) (p : Program)
+        → checked_with whole_standard units main ≡ legal p → ArePlain units → Rise (units_places units)
+        → Rise (units_decisions units) → AreUnitTexts units → AreObjectsBounded p }
 {
     orders_of_legal_programs_are_whole();
 }
 
 /// So is a program of library subprograms alone.
 pub fn programs_of_subprograms_are_well_formed()
-    ensures { (units : List LibraryUnit) (main : List ℕ) (p : Program)
+    ensures formed { (units : List LibraryUnit) (main : List ℕ) (p : Program)
         → checked_with whole_standard units main ≡ legal p → AreSubprograms units → Rise (units_places units)
         → Rise (units_decisions units) → AreUnitTexts units → IsWellFormed p }
+    ensures bounded { (units : List LibraryUnit) (main : List ℕ) (p : Program)
+        → checked_with whole_standard units main ≡ legal p → AreSubprograms units → Rise (units_places units)
+        → Rise (units_decisions units) → AreUnitTexts units → AreObjectsBounded p }
 {
     orders_of_legal_programs_are_whole();
 }

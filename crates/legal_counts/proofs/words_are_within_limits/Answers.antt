@@ -1,7 +1,7 @@
 use Rattle.std.proofs.Common.{◌≡◌, ◌≤◌, ℕ, arith}
 use Rattle.ada_resolved.specs.Sizes.{word_limit}
 use Rattle.ada_rules.specs.Limits.{most_words_of_subprogram, sum_in}
-use Rattle.legal_counts.specs.Bounded.{words_of_objects}
+use Rattle.legal_counts.specs.ObjectWords.{words_of_objects}
 use Rattle.ada_rules.specs.Library.{library_of}
 use Rattle.legal_counts.proofs.WordsOfSubprograms.{few_words}
 use Rattle.legal_counts.proofs.WordsOfTypes.{objects_are, sizes_of_objects}

@@ -4,8 +4,14 @@ use Rattle.legal_programs.proofs.Passed.{is_legal}
 use Rattle.legal_texts.proofs.PlainPrograms.{plain_formed}
 use Rattle.legal_texts.proofs.programs_of_plain_packages_are_well_formed.Goals as goal
 
-pub returns : goal.returns
-returns c = λ units main p h plain statements decisions texts.
-    plain_formed units main p h
+pub returns-clause-formed : goal.returns-clause-formed
+returns-clause-formed c = λ units main p h plain statements decisions texts.
+    (plain_formed units main p h
     (c.orders_of_legal_programs_are_whole.ensures whole_standard units main p (is_legal (library_of whole_standard units) main p h))
-    plain statements decisions texts
+    plain statements decisions texts).0
+
+pub returns-clause-bounded : goal.returns-clause-bounded
+returns-clause-bounded c = λ units main p h plain statements decisions texts.
+    (plain_formed units main p h
+    (c.orders_of_legal_programs_are_whole.ensures whole_standard units main p (is_legal (library_of whole_standard units) main p h))
+    plain statements decisions texts).1

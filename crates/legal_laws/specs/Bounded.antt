@@ -1,10 +1,10 @@
--- Types whose bounds are known in an instance, and the words of objects of such types.
-use Rattle.std.specs.Prelude.{ℕ, ◌+◌, List, [], ◌∷◌}
-use Rattle.ada_meaning.specs.Program.{Program}
+-- Types whose bounds are known in an instance.
+use Rattle.std.specs.Prelude.{◌≡◌, ℕ, Some, slice_get}
+use Rattle.cov_base.specs.Lists.{Everywhere}
+use Rattle.ada_meaning.specs.Bodies.{StandsIn}
+use Rattle.ada_meaning.specs.Program.{Program, Subprogram}
 use Rattle.ada_meaning.specs.Statics.{static_bounds, values_of}
 use Rattle.ada_meaning.specs.Types.{Subtype, scalar, array, fields, subtype_of, Components, no_component, and_component}
-use Rattle.ada_resolved.specs.Forms.{known_shape}
-use Rattle.ada_resolved.specs.Sizes.{words}
 use Rattle.legal_laws.specs.Valued.{AreOrdered}
 
 module _ (p : Program) where
@@ -20,7 +20,6 @@ module _ (p : Program) where
     AreBounded inst no_component = Unit {0}
     AreBounded inst (and_component t cs) = IsBounded inst t × AreBounded inst cs
 
-  -- how many words objects of these types take in an instance
-  abbrev pub words_of_objects : ℕ → List Subtype → ℕ
-  words_of_objects inst [] = 0
-  words_of_objects inst (t ∷ ts) = words (known_shape p inst t) + words_of_objects inst ts
+  -- the objects of each subprogram have such types, in each instance in which it stands
+  abbrev pub AreObjectsBounded : Type 0
+  AreObjectsBounded = (m inst : ℕ) (s : Subprogram) → slice_get p.subprograms m ≡ Some s → StandsIn p s.generic inst → Everywhere (IsBounded inst) s.objects
