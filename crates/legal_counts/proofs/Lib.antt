@@ -14,3 +14,4 @@ pub mod NodesOfUnits
 pub mod WordsOfTypes
 pub mod WordsOfSubprograms
 pub mod WordsOfLibrary
+pub mod GenericsOfBodies

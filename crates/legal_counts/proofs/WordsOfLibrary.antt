@@ -1,5 +1,5 @@
 -- The words of units keep to their limit; and a library whose objects have known bounds has a size where its words do.
-use Rattle.std.proofs.Common.{◌≡◌, ◌≤◌, ◌+◌, ℕ, zero, suc, nat_eq, nat_le, Bool, true, false, if◌then◌else◌, List, [], ◌∷◌, length, Option, Some, None, option_map, slice_get, refl, sym, ap, ◌∙◌, subst, arith}
+use Rattle.std.proofs.Common.{◌≡◌, ◌≤◌, ◌+◌, ℕ, zero, suc, nat_le, Bool, true, false, if◌then◌else◌, List, [], ◌∷◌, length, Option, Some, None, option_map, slice_get, refl, ap, ◌∙◌, arith}
 use Rattle.std.specs.Option.{option_and_then}
 use Rattle.std.proofs.lemmas.Bool.{eqb-true, false≢true}
 use Rattle.std.proofs.lemmas.Bool.Decides.{nat_tests}
@@ -9,8 +9,8 @@ use Rattle.ada_syntax.specs.declared.unit.Unit.{Unit as LibraryUnit}
 use Rattle.ada_meaning.specs.Bodies.{StandsIn}
 use Rattle.ada_meaning.specs.Program.{Instance, LibraryObject, Program}
 use Rattle.ada_meaning.specs.Statics.{values_of}
-use Rattle.ada_resolved.specs.Library.{has_text, stands_in, with_object, with_objects, instance_size, with_instances, program_size}
-use Rattle.ada_resolved.specs.Sizes.{word_limit, limited, with_component, type_size}
+use Rattle.ada_resolved.specs.Library.{has_text, stands_in, with_objects, with_instances, program_size}
+use Rattle.ada_resolved.specs.Sizes.{word_limit, with_component, type_size}
 use Rattle.ada_rules.specs.Environment.{World, interface_of, UnitWords}
 use Rattle.ada_rules.specs.Library.{Library}
 use Rattle.ada_rules.specs.Limits.{words_in, words_by, earlier_of, first_place, first_declared, first_unit, most_words_of_type, most_words_of_subprogram, most_words_of_library}

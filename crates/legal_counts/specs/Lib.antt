@@ -4,3 +4,4 @@ pub mod Choices
 pub mod Within
 pub mod ObjectWords
 pub mod LibraryWords
+pub mod Generics

@@ -36,6 +36,7 @@ ghost use Rattle.legal_counts.specs.BodyTexts.{bodies_in};
 ghost use Rattle.legal_counts.specs.Choices.{UnitsHaveChoices};
 ghost use Rattle.legal_counts.specs.ConditionPlaces.{units_conditions};
 ghost use Rattle.statement_code.specs.Sizes.{block_nodes, subprogram_nodes};
+ghost use Rattle.legal_counts.specs.Generics.{generics_of};
 ghost use Rattle.legal_counts.specs.Within.{AreWithin};
 
 /// The conditions of each decision of a legal program stand where those of its units stand, decisions in
@@ -55,11 +56,13 @@ pub fn statements_hold_decisions()
     legal_programs::obligations_are_numbered();
 }
 
-/// The subprograms of a legal program are those of the bodies of its units, in the order of the text, and a
-/// body has no more nodes than its text has tokens that count.
+/// The subprograms of a legal program are those of the bodies of its units, in the order of the text and in
+/// the generics in whose text these stand, and a body has no more nodes than its text has tokens that count.
 pub fn each_node_of_a_body_has_a_token()
     ensures bodies { (l : Library) (main : List ℕ) (p : Program) → IsLegal l main p → IsWholeStandard l.standard
         → UnitsHaveChoices l.units → AreWithin p.subprograms (bodies_in l.units) }
+    ensures generics { (l : Library) (main : List ℕ) (p : Program) → (is : IsLegal l main p)
+        → map (λ s. s.generic) p.subprograms ≡ generics_of is.walked.world l l.units }
     ensures program { (l : Library) (main : List ℕ) (p : Program) → IsLegal l main p → IsWholeStandard l.standard
         → UnitsHaveChoices l.units → sum_by subprogram_nodes p.subprograms ≤ sum_by unit_nodes l.units }
     ensures each { (l : Library) (main : List ℕ) (p : Program) → IsLegal l main p → IsWholeStandard l.standard
