@@ -22,3 +22,5 @@ mod LibraryWords
 mod ObjectsSeen
 mod DeclaredTypes
 mod PackageItems
+mod BodyNumbers
+mod ToldDeclarations

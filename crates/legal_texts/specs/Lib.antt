@@ -2,3 +2,5 @@ pub mod UnitTexts
 pub mod Leading
 pub mod Subprograms
 pub mod Plain
+pub mod Numbers
+pub mod Told

@@ -5,24 +5,35 @@
 //! - what units see of each other only grows, so that a specification that is looked at twice says
 //!   the same (`Leading`);
 //! - where no package declares a subprogram, and there is no generic (`Plain`), all that units see
-//!   of each other is known: declarations of packages, and the subprograms that bodies make.
+//!   of each other is known: declarations of packages, and the subprograms that bodies make;
+//! - each body has a number of its own (`Numbers`), and marks are told by their identities, so that a
+//!   body has the parameters of the declaration that it completes (`Told`).
 //!
 //! The functions here do nothing: each carries a law of the definitions as its contract.
 #![tactic(auto)]
 
-ghost use Rattle.std.specs.Prelude.{List, ℕ, ◌≡◌};
+ghost use Rattle.std.specs.Prelude.{IfOk, IfSome, List, Some, true, ℕ, ◌≡◌};
+ghost use Rattle.cov_base.specs.Lists.{Everywhere};
+ghost use Rattle.ada_syntax.specs.declared.declaration.Declaration.{Declaration};
 ghost use Rattle.ada_meaning.specs.Program.{Program};
 ghost use Rattle.ada_meaning.specs.WellFormed.{IsWellFormed};
-ghost use Rattle.ada_rules.specs.Entities.{whole_standard};
+ghost use Rattle.ada_rules.specs.Declarations.{declared};
+ghost use Rattle.ada_rules.specs.Entities.{Routine, routine, whole_standard};
+ghost use Rattle.ada_rules.specs.Environment.{Env, State};
+ghost use Rattle.ada_rules.specs.Subprograms.{Profile, conforms};
 ghost use Rattle.ada_rules.specs.Legal.{checked_with, legal};
+ghost use Rattle.ada_rules.specs.Library.{Library, all_bodies};
 ghost use Rattle.ada_syntax.specs.declared.unit.Unit.{Unit as LibraryUnit};
 ghost use Rattle.legal_instances.specs.Worked.{worked_units};
 ghost use Rattle.legal_laws.specs.Bounded.{AreObjectsBounded};
 ghost use Rattle.legal_programs.specs.DecisionPlaces.{units_decisions};
 ghost use Rattle.legal_programs.specs.InText.{Rise};
 ghost use Rattle.legal_programs.specs.TextPlaces.{units_places};
+ghost use Rattle.legal_programs.specs.Walked.{IsLegal};
+ghost use Rattle.legal_texts.specs.Numbers.{AreNumbered};
 ghost use Rattle.legal_texts.specs.Plain.{ArePlain};
 ghost use Rattle.legal_texts.specs.Subprograms.{AreSubprograms};
+ghost use Rattle.legal_texts.specs.Told.{IsAsDeclared, IsOpen, IsTold, IsToldEntity, IsToldRegion, Table, TellsOn};
 ghost use Rattle.legal_texts.specs.UnitTexts.{AreUnitTexts};
 
 use legal_instances::orders_of_legal_programs_are_whole;
@@ -52,6 +63,22 @@ pub fn programs_of_subprograms_are_well_formed()
 {
     orders_of_legal_programs_are_whole();
 }
+
+/// In a legal program each body has a number of its own: no other one has its name in its package, so it stands
+/// at its place among all.
+pub fn bodies_have_numbers_of_their_own()
+    ensures { (l : Library) (main : List ℕ) (p : Program) → IsLegal l main p → AreNumbered (all_bodies l.units) }
+{}
+
+/// Where the marks of a region are told by their identities, they are so behind each declaration; and then a body
+/// that conforms to a declaration has its parameters and its result (RM 6.3.1).
+pub fn marks_are_told_by_their_identities()
+    ensures declarations { (table : Table) (env : Env) (s : State) (d : Declaration) → IsOpen table env s
+        → IsToldRegion table env.local → IfOk (declared env s d).answer (TellsOn table env) }
+    ensures conforming { (table : Table) (r : Routine) (q : Profile) → IsToldEntity table (routine r)
+        → Everywhere (IsTold table) q.parameters → IfSome q.result (IsTold table)
+        → conforms q (Some (routine r)) ≡ true → IsAsDeclared r q }
+{}
 
 /// The units of the worked program with an instance are written as the grammar ensures.
 pub fn a_worked_program_is_written_so()
