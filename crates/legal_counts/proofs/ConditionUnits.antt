@@ -39,7 +39,7 @@ use Rattle.legal_programs.proofs.DecidedPrograms.{none_declared}
 use Rattle.legal_programs.proofs.DecidedUnits.{Seen, env_whole, in_region, interface_whole, interfaces_seen, package_env_whole, region_whole, routine_whole, seen_more_whole}
 use Rattle.legal_programs.proofs.Passed.{of_ok}
 use Rattle.legal_counts.proofs.ConditionStatements.{DeclaresIn, declarations_placed, FrameAs, handled_placed, block_placed}
-use Rattle.legal_counts.proofs.ConditionExpressions.{IsOnce, At, at_as, at_joined, at_none}
+use Rattle.legal_counts.proofs.ConditionExpressions.{At, at_as, at_joined, at_none}
 use Rattle.legal_programs.proofs.WholeRegions.{local_whole, redefined_whole}
 
 -- the decisions of the subprograms that were made so far stand at these places, and behind a construct at these more

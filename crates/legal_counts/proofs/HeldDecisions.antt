@@ -7,10 +7,7 @@ use Rattle.ada_meaning.specs.Obligations.{numbers}
 use Rattle.ada_meaning.specs.Program.{Subprogram}
 use Rattle.ada_meaning.specs.Tree.{Label, Expr, literal, constant, attribute, read, signed, operation, relation, complement, conversion, call, decision, Parts, whole, component, element, Actuals, no_actual, by_expression, by_variable, by_composite, Test, condition, negation, operator, NewValue, scalar_value, composite_value, others_value, LoopRange, over_subtype, over_bounds, Declaration, initialized, without_value, Stmt, null_statement, assignment, procedure_call, if_statement, case_statement, bare_loop, while_loop, for_loop, exit_statement, exit_when, return_statement, return_value, raise_statement, raise_again, block_statement, Stmts, no_statement, and_statement, Branches, else_part, branch, Alternatives, no_alternative, alternative, Handlers, no_handler, handler, Block, block}
 use Rattle.legal_laws.proofs.Passing.{every_both}
-
-split : {X : Type 0} (P : X → Type 0) (xs ys : List X) → Everywhere P (xs ++ ys) → Everywhere P xs × Everywhere P ys
-split P [] ys h = (tt, h)
-split P (x ∷ xs) ys h = let rest = split P xs ys h.1 in ((h.0, rest.0), rest.1)
+use Rattle.legal_counts.proofs.Lists.{every_parts}
 
 module _ (bound : ℕ) where
   abbrev IsHeld : Decision → Type 0
@@ -101,38 +98,38 @@ module _ (bound : ℕ) where
     in_statements : (ss : Stmts) → AreBelow (all_labels ss) → AreHeld (in_stmts ss)
     in_statements no_statement h = tt
     in_statements (and_statement s ss) h =
-        let parts = split IsBelow (labels s) (all_labels ss) h in
+        let parts = every_parts IsBelow (labels s) (all_labels ss) h in
         both (in_stmt s) (in_stmts ss) (in_a_statement s parts.0) (in_statements ss parts.1)
 
     in_some_branches : (k : ℕ) → k < bound → (bs : Branches) → AreBelow (branch_labels bs) → AreHeld (in_branches k bs)
     in_some_branches k is (else_part ss) h = in_statements ss h
     in_some_branches k is (branch d t ss bs) h =
-        let parts = split IsBelow (all_labels ss) (branch_labels bs) h in
+        let parts = every_parts IsBelow (all_labels ss) (branch_labels bs) h in
         (is, both (in_test k t ++ in_stmts ss) (in_branches k bs) (both (in_test k t) (in_stmts ss) (in_a_test k is t) (in_statements ss parts.0)) (in_some_branches k is bs parts.1))
 
     in_some_alternatives : (rest : Alternatives) → AreBelow (alternative_labels rest) → AreHeld (in_alternatives rest)
     in_some_alternatives no_alternative h = tt
     in_some_alternatives (alternative cs ss rest) h =
-        let parts = split IsBelow (all_labels ss) (alternative_labels rest) h in
+        let parts = every_parts IsBelow (all_labels ss) (alternative_labels rest) h in
         both (in_stmts ss) (in_alternatives rest) (in_statements ss parts.0) (in_some_alternatives rest parts.1)
 
     in_some_handlers : (hs : Handlers) → AreBelow (handler_labels hs) → AreHeld (in_handlers hs)
     in_some_handlers no_handler h = tt
     in_some_handlers (handler cs ss hs) h =
-        let parts = split IsBelow (all_labels ss) (handler_labels hs) h in
+        let parts = every_parts IsBelow (all_labels ss) (handler_labels hs) h in
         both (in_stmts ss) (in_handlers hs) (in_statements ss parts.0) (in_some_handlers hs parts.1)
 
     in_a_block : (b : Block) → AreBelow (block_labels b) → AreHeld (in_block b)
     in_a_block (block ds ss hs) h =
-        let front = split IsBelow (declaration_labels ds ++ all_labels ss) (handler_labels hs) h in
-        let parts = split IsBelow (declaration_labels ds) (all_labels ss) front.0 in
+        let front = every_parts IsBelow (declaration_labels ds ++ all_labels ss) (handler_labels hs) h in
+        let parts = every_parts IsBelow (declaration_labels ds) (all_labels ss) front.0 in
         both (in_declarations ds ++ in_stmts ss) (in_handlers hs)
         (both (in_declarations ds) (in_stmts ss) (in_some_declarations ds parts.0) (in_statements ss parts.1)) (in_some_handlers hs front.1)
 
   in_subprograms : (ss : List Subprogram) → AreBelow (labels_of ss) → AreHeld (decisions_of ss)
   in_subprograms [] h = tt
   in_subprograms (s ∷ ss) h =
-      let parts = split IsBelow (block_labels s.body) (labels_of ss) h in
+      let parts = every_parts IsBelow (block_labels s.body) (labels_of ss) h in
       both (in_block s.body) (decisions_of ss) (in_a_block s.body parts.0) (in_subprograms ss parts.1)
 
 -- numbers in turn lie below their end

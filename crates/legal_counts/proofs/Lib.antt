@@ -1,3 +1,4 @@
+mod Lists
 mod DecidedExpressions
 mod DecidedParts
 mod DecidedStatements
@@ -6,4 +7,9 @@ mod Tests
 mod ConditionExpressions
 mod ConditionStatements
 pub mod ConditionUnits
-mod HeldDecisions
+pub mod HeldDecisions
+mod NodesOfExpressions
+mod NodesOfStatements
+pub mod NodesOfUnits
+pub mod WordsOfTypes
+pub mod WordsOfSubprograms

@@ -1,8 +1,7 @@
 -- What an operand comes to as a test: its conditions stand where they stand in the text, and no `not` stands directly in
 -- another.
-use Rattle.std.proofs.Common.{◌≡◌, ℕ, nat_lt, Bool, true, false, if◌then◌else◌, List, [], ◌∷◌, ◌++◌, Option, Some, None, option_map, IfSome, IfOk, is_some, refl, sym, ap, ◌∙◌, subst}
+use Rattle.std.proofs.Common.{◌≡◌, nat_lt, Bool, true, false, if◌then◌else◌, List, [], ◌∷◌, ◌++◌, Option, Some, None, option_map, IfSome, IfOk, is_some, refl, sym, ◌∙◌, subst}
 use Rattle.std.specs.Prelude.{◌&&◌, not}
-use Rattle.std.specs.Option.{option_and_then}
 use Rattle.cov_base.specs.Expr.{is_negation, negates_once}
 use Rattle.cov_base.specs.declared.position.Pos.{Pos}
 use Rattle.ada_syntax.specs.Tree as source
@@ -16,7 +15,7 @@ use Rattle.ada_rules.specs.Plan.{◌>>=◌, rule}
 use Rattle.ada_rules.specs.Types.{is_integral, is_discrete, is_boolean, common}
 use Rattle.ada_rules.specs.Environment.{typing, typed_rule, State, Given, given, Env}
 use Rattle.ada_rules.specs.Denoted.{Form, plain, test_form, Judged, any_judged, complement_of, complemented, signed, sign_of, operator_of, operation_of, relation_of, relation_with, circuit_of, negated, test_of_expr, test_of, numeral_of, standing_at, enclosed, unary_of, binary_of, related, neutral_of, joined, value_of}
-use Rattle.ada_rules.specs.Expressions.{Role, itself, operand, role_under, is_circuit, opens, entered, closed, typed_as, denoted, judged}
+use Rattle.ada_rules.specs.Expressions.{itself, operand, closed, typed_as, denoted, judged}
 use Rattle.legal_laws.proofs.Passing.{both_true, IfPassed, if_map, if_then, if_test, answered, part_so, typed_so, both_ok, weaker_ok, any_answer}
 use Rattle.legal_programs.specs.Deciding.{IsWholeEnv, IsPlain, JudgesFrom}
 use Rattle.legal_counts.proofs.DecidedExpressions.{any_of, judged_decides}

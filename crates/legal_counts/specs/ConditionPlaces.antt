@@ -1,5 +1,6 @@
 -- Where the conditions of each decision stand in the text: at the first tokens of the operands that are left without
--- short-circuit control forms, `not` and parentheses. An outer decision comes before those within it, as its place does.
+-- short-circuit control forms, `not` and parentheses. An outer decision comes before those within it, as in
+-- `units_decisions`.
 use Rattle.std.specs.Prelude.{Bool, true, false, List, [], ◌∷◌, ◌++◌, Option, Some, None, is_some, if◌then◌else◌}
 use Rattle.cov_base.specs.declared.position.Pos.{Pos}
 use Rattle.ada_syntax.specs.StatementTree as text

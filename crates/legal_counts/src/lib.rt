@@ -2,21 +2,40 @@
 //! `ada_syntax` alone:
 //!
 //! - the conditions of decisions stand where those of the units stand, and no `not` stands directly in
-//!   another (`ConditionPlaces`).
+//!   another (`ConditionPlaces`); statement obligations hold the decisions;
+//! - each node has a token (`Within`), where alternatives and handlers have choices (`Choices`);
+//! - the words of objects keep to their limit in each instance, and are those that the rules count where
+//!   bounds are known (`Bounded`).
 //!
-//! The functions here do nothing: each carries a law of the definitions as its contract.
+//! The functions here do nothing: each carries a law of the definitions as its contract, some of them by a
+//! call of one whose law they cite.
 #![tactic(auto)]
 
-ghost use Rattle.std.specs.Prelude.{true, length, List, map, ℕ, ◌<◌, ◌≡◌};
+ghost use Rattle.std.specs.Prelude.{true, length, slice_get, List, map, Some, sum_by, ℕ, ◌<◌, ◌≤◌, ◌≡◌};
 ghost use Rattle.cov_base.specs.Expr.{negates_once};
 ghost use Rattle.cov_base.specs.Lists.{Everywhere};
+ghost use Rattle.ada_syntax.specs.Nodes.{unit_nodes};
 ghost use Rattle.ada_meaning.specs.Collected.{condition_places, decisions_of, labels_of};
-ghost use Rattle.ada_meaning.specs.Program.{Program};
+ghost use Rattle.ada_meaning.specs.Bodies.{StandsIn};
+ghost use Rattle.ada_meaning.specs.Program.{Program, Subprogram};
+ghost use Rattle.ada_meaning.specs.Statics.{values_of};
+ghost use Rattle.ada_resolved.specs.Sizes.{type_size};
+ghost use Rattle.ada_rules.specs.Entities.{Standard};
+ghost use Rattle.ada_rules.specs.Types.{AdaSubtype, AdaType, subtype_in_tree};
+ghost use Rattle.legal_laws.specs.Known.{IsKnownSubtype, IsOneOf};
+ghost use Rattle.ada_rules.specs.Limits.{most_words_of_subprogram, sum_in, words_in};
+ghost use Rattle.ada_syntax.specs.declared.unit.Unit.{Unit as LibraryUnit};
+ghost use Rattle.legal_instances.specs.InOrder.{UnitsRise};
+ghost use Rattle.legal_counts.specs.Bounded.{IsBounded, words_of_objects};
 ghost use Rattle.ada_meaning.specs.Tree.{shape_of};
-ghost use Rattle.ada_rules.specs.Library.{Library};
+ghost use Rattle.ada_rules.specs.Library.{Library, library_of};
 ghost use Rattle.legal_programs.specs.Walked.{IsLegal};
 ghost use Rattle.legal_programs.specs.WholeWorld.{IsWholeStandard};
+ghost use Rattle.legal_counts.specs.BodyTexts.{bodies_in};
+ghost use Rattle.legal_counts.specs.Choices.{UnitsHaveChoices};
 ghost use Rattle.legal_counts.specs.ConditionPlaces.{units_conditions};
+ghost use Rattle.statement_code.specs.Sizes.{subprogram_nodes};
+ghost use Rattle.legal_counts.specs.Within.{AreWithin};
 
 /// The conditions of each decision of a legal program stand where those of its units stand, decisions in
 /// the order of the text; and no `not` stands directly in another.
@@ -34,3 +53,39 @@ pub fn statements_hold_decisions()
 {
     legal_programs::obligations_are_numbered();
 }
+
+/// The subprograms of a legal program are those of the bodies of its units, in the order of the text, and a
+/// body has no more nodes than its text has tokens that count.
+pub fn each_node_of_a_body_has_a_token()
+    ensures bodies { (l : Library) (main : List ℕ) (p : Program) → IsLegal l main p → IsWholeStandard l.standard
+        → UnitsHaveChoices l.units → AreWithin p.subprograms (bodies_in l.units) }
+    ensures program { (l : Library) (main : List ℕ) (p : Program) → IsLegal l main p → IsWholeStandard l.standard
+        → UnitsHaveChoices l.units → sum_by subprogram_nodes p.subprograms ≤ sum_by unit_nodes l.units }
+{}
+
+/// The objects of each subprogram of a legal program take no more words than the limit, in each instance in
+/// which it stands. Where the bounds of their types are known there, each has a size, and these are the words
+/// of their shapes.
+pub fn words_are_within_limits()
+    ensures counted { (standard : Standard) (units : List LibraryUnit) (main : List ℕ) (p : Program)
+        → (is : IsLegal (library_of standard units) main p) → UnitsRise units
+        → (m inst : ℕ) (s : Subprogram) → slice_get p.subprograms m ≡ Some s → StandsIn p s.generic inst
+        → sum_in is.walked.world.instances inst s.objects ≤ most_words_of_subprogram }
+    ensures declared { (standard : Standard) (units : List LibraryUnit) (main : List ℕ) (p : Program)
+        → IsLegal (library_of standard units) main p → UnitsRise units
+        → (m inst : ℕ) (s : Subprogram) → slice_get p.subprograms m ≡ Some s → StandsIn p s.generic inst
+        → Everywhere (IsBounded p inst) s.objects → words_of_objects p inst s.objects ≤ most_words_of_subprogram }
+    ensures sized { (standard : Standard) (units : List LibraryUnit) (main : List ℕ) (p : Program)
+        → (is : IsLegal (library_of standard units) main p) → UnitsRise units
+        → (m inst : ℕ) (s : Subprogram) → slice_get p.subprograms m ≡ Some s → StandsIn p s.generic inst
+        → Everywhere (IsBounded p inst) s.objects
+        → Everywhere (λ t. type_size (values_of p) inst t ≡ Some (words_in is.walked.world.instances inst t)) s.objects }
+{
+    legal_instances::instances_have_their_facts();
+}
+
+/// A subtype that is known in an instance has bounds there, in each of its parts.
+pub fn known_types_are_bounded()
+    ensures { (p : Program) (inst : ℕ) (types : List AdaType) (t : AdaSubtype)
+        → IsKnownSubtype p inst (IsOneOf types) t → IsBounded p inst (subtype_in_tree t) }
+{}

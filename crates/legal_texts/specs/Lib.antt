@@ -1,1 +1,3 @@
 pub mod UnitTexts
+pub mod Leading
+pub mod Subprograms

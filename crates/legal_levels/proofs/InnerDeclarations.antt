@@ -1,0 +1,311 @@
+-- Declarations inside a subprogram declare no object of the library level, in both steps.
+use Rattle.std.proofs.Common.{◌≡◌, ℕ, Bool, true, false, if◌then◌else◌, List, [], ◌∷◌, ◌++◌, Option, Some, None, option_map, IfSome, IfOk, refl, ap, ◌∙◌, true≢false}
+use Rattle.std.specs.Option.{option_and_then}
+use Rattle.cov_base.specs.declared.position.Pos.{Pos}
+use Rattle.ada_syntax.specs.Tree as source
+use Rattle.ada_syntax.specs.Tree.{expr_pos, name_pos}
+use Rattle.ada_syntax.specs.declared.declaration.Bounds.{Bounds}
+use Rattle.ada_syntax.specs.declared.declaration.Component.{Component}
+use Rattle.ada_syntax.specs.declared.declaration.Constancy.{Constancy}
+use Rattle.ada_syntax.specs.declared.declaration.Constancy.TheVariants as constancy
+use Rattle.ada_syntax.specs.declared.declaration.Declaration.{Declaration}
+use Rattle.ada_syntax.specs.declared.declaration.DeclarationKind.{DeclarationKind}
+use Rattle.ada_syntax.specs.declared.declaration.DeclarationKind.TheVariants as declares
+use Rattle.ada_syntax.specs.declared.declaration.DiscreteRange.{DiscreteRange}
+use Rattle.ada_syntax.specs.declared.declaration.DiscreteRange.TheVariants as discrete
+use Rattle.ada_syntax.specs.declared.declaration.Initial.{Initial}
+use Rattle.ada_syntax.specs.declared.declaration.SubtypeIndication.{SubtypeIndication}
+use Rattle.ada_syntax.specs.declared.declaration.TypeDefinition.{TypeDefinition}
+use Rattle.ada_syntax.specs.declared.declaration.TypeDefinition.TheVariants as definition
+use Rattle.ada_syntax.specs.declared.name.Identifier.{Identifier}
+use Rattle.ada_meaning.specs.Program.{GenericConstant}
+use Rattle.ada_meaning.specs.Types.{Static, static_number, static_formal, static_constant, static_first, static_last, static_length, static_sign, static_operation, static_of, Range}
+use Rattle.ada_rules.specs.Plan.{Plan, ◌>>=◌, rule}
+use Rattle.ada_rules.specs.Types.{Identity, integer_type, array_type, record_type, AdaSubtype, of_type, type_in, range_in, base, integer_subtype, Kind, is_integral, is_discrete, is_scalar, fits, common}
+use Rattle.ada_rules.specs.Entities.{component, Region}
+use Rattle.ada_rules.specs.Environment.{typed_rule, State, Given, given, map_given, Env, with_local, opened, new_identity, one_type_more, demanded, hide, hide_all, started}
+use Rattle.ada_rules.specs.Denoted.{Judged}
+use Rattle.ada_rules.specs.Expressions.{itself, judged, Valued, any_valued, value_named, static_known, accepted, static_part, Marked, mark_part, scalar_mark}
+use Rattle.ada_rules.specs.Declarations.{in_range, ordered, bounded, constrained, constraint_of, indicated, index_between, index_of, with_fields, all_as, fields_of, enumerated, unchanged, defined, value_for, any_value, initial_pos, known_of, NewValue, new_value, library_value, Declared, may_be_bare, one_name, numbered, known_constant, lying_in, with_objects, local_bare, local_set, library_declared, no_library_value, objects_declared, type_counted, type_declared, subtype_declared, kind_declared, declared, all_declared}
+use Rattle.ada_rules.specs.Statics.{Test, in_order}
+use Rattle.legal_laws.specs.Kept.{OnlyDecides}
+use Rattle.legal_laws.proofs.Passing.{IfPassed, if_test, answered, part_so, weaker_ok, typed_either, any_answer}
+use Rattle.legal_laws.proofs.KeptExpressions.{judged_behind, mark_part_behind, scalar_mark_behind}
+use Rattle.legal_levels.specs.Levels.{DeclaresNoException, DeclareNoException, Keeps}
+
+-- what a construct gives keeps them
+abbrev pub Keep : {A : Type 0} → State → Given A → Type 0
+Keep s g = Keeps s g.next
+
+abbrev pub KeepsOn : State → Declared → Type 0
+KeepsOn s x = Keeps s x.next
+
+pub keeps_both : (s t u : State) → Keeps s t → Keeps t u → Keeps s u
+keeps_both s t u h k = record { objects = k.objects ∙ h.objects; exceptions = k.exceptions ∙ h.exceptions }
+
+pub keeps_decides : (s t : State) → OnlyDecides s t → Keeps s t
+keeps_decides s t only = record { objects = ap (λ x. x.objects_declared) only; exceptions = ap (λ x. x.exceptions_declared) only }
+
+pub keeps_demanded : (env : Env) (q : Pos) (t : Test) (s : State) → Keeps s (demanded env q t s)
+keeps_demanded env q t s = record { objects = refl; exceptions = refl }
+
+keeps_constant_more : (s : State) (c : GenericConstant) → Keeps s (record s { constants_declared = c ∷ s.constants_declared })
+keeps_constant_more s c = record { objects = refl; exceptions = refl }
+
+pub keeps_same : (s : State) → Keeps s s
+keeps_same s = record { objects = refl; exceptions = refl }
+
+named_keeps : (g : ℕ) (e : Static) (s : State) → Keeps s (value_named g e s).next
+named_keeps g (static_number x) s = keeps_same s
+named_keeps g (static_formal k) s = keeps_same s
+named_keeps g (static_constant k) s = keeps_same s
+named_keeps g (static_first r) s = keeps_constant_more s _
+named_keeps g (static_last r) s = keeps_constant_more s _
+named_keeps g (static_length r) s = keeps_constant_more s _
+named_keeps g (static_sign op e) s =
+    keeps_both s (value_named g e s).next _ (named_keeps g e s) (keeps_constant_more (value_named g e s).next _)
+named_keeps g (static_operation op e f) s =
+    let x = value_named g e s in
+    let y = value_named g f x.next in
+    keeps_both s x.next _ (named_keeps g e s) (keeps_both x.next y.next _ (named_keeps g f x.next) (keeps_constant_more y.next _))
+named_keeps g (static_of i e) s = keeps_constant_more s _
+
+known_keeps : (o : Option ℕ) (env : Env) (e : Static) (s : State) → Keeps s (static_known (record env { generic = o }) e s).next
+known_keeps None env e s = keeps_same s
+known_keeps (Some g) env e s = named_keeps g e s
+
+static_known_keeps : (env : Env) (e : Static) (s : State) → Keeps s (static_known env e s).next
+static_known_keeps env e s = known_keeps env.generic env e s
+
+numbered_keeps : (o : Option ℕ) (r : Range) (e : Static) (f : Option Static) (s : State) → Keeps s (numbered o r e f s).next
+numbered_keeps None r e f s = keeps_same s
+numbered_keeps (Some g) r e f s =
+    keeps_both s (value_named g e s).next _ (named_keeps g e s) (keeps_constant_more (value_named g e s).next _)
+
+keeps_constant : (env : Env) (c : Constancy) (t : AdaSubtype) (f : Static → Option Static) (k : Option Static) (s : State)
+    → Keeps s (known_constant env c t f k s).next
+keeps_constant env constancy.Constant t f (Some e) s = numbered_keeps env.generic (range_in t) e (f e) s
+keeps_constant env constancy.Constant t f None s = keeps_same s
+keeps_constant env constancy.Variable t f k s = keeps_same s
+
+pub keeps_started : (s : State) → Keeps s (started s)
+keeps_started s = record { objects = refl; exceptions = refl }
+
+pub keeps_typed : (s : State) → Keeps s (one_type_more s)
+keeps_typed s = record { objects = refl; exceptions = refl }
+
+keeps_counted : (env : Env) (q : Pos) (t : AdaSubtype) (s : State) → Keeps s (type_counted env q t s)
+keeps_counted env q t s = record { objects = refl; exceptions = refl }
+
+pub keeps_objects : (t : AdaSubtype) (is : List Identifier) (s : State) → Keeps s (with_objects t is s)
+keeps_objects t is s = record { objects = refl; exceptions = refl }
+
+module _ (env : Env) where
+  pub expression_keeps : (s : State) (e : source.Expr) → IfOk (judged env itself s e).answer (Keep s)
+  expression_keeps s e = weaker_ok (λ x. OnlyDecides s x.next) (Keep s) (judged env itself s e).answer (judged_behind env itself s e) (λ x h. keeps_decides s x.next h)
+
+  accepted_keeps : (s t : State) (q : Pos) (accepts : Kind → Bool) (test : Static → Test) (x : Judged) (known : Option Static) → Keeps s t
+      → IfSome (option_and_then (accepted env t q accepts test x) known) (Keep s)
+  accepted_keeps s t q accepts test x None h = tt
+  accepted_keeps s t q accepts test x (Some e) h =
+      let asked = demanded env q (test e) t in
+      if_test (Keep s) (accepts x.kind) (Some (map_given (λ v. record { value = v; kind = x.kind }) (static_known env e asked)))
+      (λ b. keeps_both s asked (static_known env e asked).next (keeps_both s t asked h (keeps_demanded env q (test e) t))
+      (static_known_keeps env e asked))
+
+  pub static_keeps : (s : State) (accepts : Kind → Bool) (test : Static → Test) (e : source.Expr) → IfOk (static_part env s accepts test e).answer (Keep s)
+  static_keeps s accepts test e =
+      answered (Keep s) (expr_pos e) _
+      (part_so (Keep s) (Keep s) (judged env itself s e).answer
+      (λ x. typed_rule env.step (given any_valued x.next) (option_and_then (accepted env x.next (expr_pos e) accepts test x.value) x.value.known))
+      (expression_keeps s e)
+      (λ x h. typed_either (Keep s) env.step (given any_valued x.next) _ h (accepted_keeps s x.next (expr_pos e) accepts test x.value x.value.known h)))
+
+  bounded_keeps : (s : State) (accepts : Kind → Bool) (r : Range) (b : Bounds) → IfOk (bounded env s accepts r b).answer (Keep s)
+  bounded_keeps s accepts r b =
+      answered (Keep s) (expr_pos b.low) _
+      (part_so (Keep s) (Keep s) (static_part env s accepts (in_range r) b.low).answer
+      (λ low. static_part env low.next accepts (in_range r) b.high >>= (λ high. rule (Some (ordered env (expr_pos b.low) low.value.value high.value.value high.next))))
+      (static_keeps s accepts (in_range r) b.low)
+      (λ low h. part_so (Keep low.next) (Keep s) (static_part env low.next accepts (in_range r) b.high).answer
+      (λ high. rule (Some (ordered env (expr_pos b.low) low.value.value high.value.value high.next)))
+      (static_keeps low.next accepts (in_range r) b.high)
+      (λ high k. keeps_both s low.next _ h (keeps_both low.next high.next _ k
+      (keeps_demanded env (expr_pos b.low) (in_order low.value.value high.value.value) high.next)))))
+
+  constraint_keeps : (s : State) (m : Given Marked) (c : Option Bounds) → Keeps s m.next → IfPassed (constraint_of env m c).outcome (Keep s)
+  constraint_keeps s m None h = h
+  constraint_keeps s m (Some b) h =
+      part_so (Keep m.next) (Keep s) (bounded env m.next (fits (type_in m.value.subtype)) (range_in m.value.subtype) b).answer
+      (λ r. typed_rule env.step (given m.value.subtype r.next) (constrained m.value r))
+      (bounded_keeps m.next (fits (type_in m.value.subtype)) (range_in m.value.subtype) b)
+      (λ r k. typed_either (Keep s) env.step (given m.value.subtype r.next) (constrained m.value r) (keeps_both s m.next r.next h k)
+      (if_test (Keep s) (is_scalar (type_in m.value.subtype)) _ (λ b. keeps_both s m.next r.next h k)))
+
+  mark_keeps : (s : State) (n : source.Name) → IfOk (mark_part env s n).answer (Keep s)
+  mark_keeps s n = weaker_ok (λ x. OnlyDecides s x.next) (Keep s) (mark_part env s n).answer (mark_part_behind env s n) (λ x h. keeps_decides s x.next h)
+
+  pub scalar_mark_keeps : (s : State) (n : source.Name) → IfOk (scalar_mark env s n).answer (Keep s)
+  scalar_mark_keeps s n =
+      weaker_ok (λ x. OnlyDecides s x.next) (Keep s) (scalar_mark env s n).answer (scalar_mark_behind env s n) (λ x h. keeps_decides s x.next h)
+
+  pub indicated_keeps : (s : State) (i : SubtypeIndication) → IfOk (indicated env s i).answer (Keep s)
+  indicated_keeps s i =
+      answered (Keep s) (name_pos i.mark) _
+      (part_so (Keep s) (Keep s) (mark_part env s i.mark).answer (λ m. constraint_of env m i.constraint) (mark_keeps s i.mark)
+      (λ m h. constraint_keeps s m i.constraint h))
+
+  between_keeps : (s : State) (q : Pos) (low high : Given Valued) (c : Option Kind) → Keeps s high.next
+      → IfSome (option_map (index_between env q low high) c) (Keep s)
+  between_keeps s q low high None h = tt
+  between_keeps s q low high (Some k) h = keeps_both s high.next _ h (keeps_demanded env q (in_order low.value.value high.value.value) high.next)
+
+  index_keeps : (s : State) (r : DiscreteRange) → IfOk (index_of env s r).answer (Keep s)
+  index_keeps s (discrete.Mark n) =
+      answered (Keep s) (name_pos n) _
+      (part_so (Keep s) (Keep s) (scalar_mark env s n).answer (λ m. rule (Some (given m.value.subtype m.next))) (scalar_mark_keeps s n) (λ m h. h))
+  index_keeps s (discrete.Bounds b) =
+      answered (Keep s) (expr_pos b.low) _
+      (part_so (Keep s) (Keep s) (static_part env s is_discrete (in_range base) b.low).answer
+      (λ low. static_part env low.next is_discrete (in_range base) b.high >>= (λ high. typed_rule env.step (given integer_subtype high.next)
+      (option_map (index_between env (expr_pos b.low) low high) (common low.value.kind high.value.kind))))
+      (static_keeps s is_discrete (in_range base) b.low)
+      (λ low h. part_so (Keep low.next) (Keep s) (static_part env low.next is_discrete (in_range base) b.high).answer
+      (λ high. typed_rule env.step (given integer_subtype high.next)
+      (option_map (index_between env (expr_pos b.low) low high) (common low.value.kind high.value.kind)))
+      (static_keeps low.next is_discrete (in_range base) b.high)
+      (λ high k. typed_either (Keep s) env.step (given integer_subtype high.next) _ (keeps_both s low.next high.next h k)
+      (between_keeps s (expr_pos b.low) low high (common low.value.kind high.value.kind) (keeps_both s low.next high.next h k)))))
+
+  -- what follows a value that a rule on types gives
+  pub mapped_keeps : {A B : Type 0} (s t : State) (f : A → B) (x : Option A) → Keeps s t → IfSome (option_map (λ v. given (f v) t) x) (Keep s)
+  mapped_keeps s t f None h = tt
+  mapped_keeps s t f (Some v) h = h
+
+  pub new_value_keeps : (s : State) (t : AdaSubtype) (i : Initial) → IfOk (new_value env s t i).answer (Keep s)
+  new_value_keeps s t i =
+      answered (Keep s) (initial_pos i) _
+      (part_so (Keep s) (Keep s) (judged env itself s i.value).answer
+      (λ x. typed_rule env.step (given (record { value = any_value; known = None }) x.next)
+      (option_map (λ v. given (record { value = v; known = known_of i.others x.value }) x.next) (value_for t i.others x.value)))
+      (expression_keeps s i.value)
+      (λ x h. typed_either (Keep s) env.step _ _ h (mapped_keeps s x.next (λ v. record { value = v; known = known_of i.others x.value }) (value_for t i.others x.value) h)))
+
+-- the components of a record
+fields_keep : (env : Env) (s : State) (q : Pos) (cs : List Component) → IfOk (fields_of env s q cs).answer (Keep s)
+fields_keep env s q [] = keeps_same s
+fields_keep env s q (c ∷ cs) =
+    answered (Keep s) q _
+    (part_so (λ x. Unit {0}) (Keep s) (hide_all q env.local c.names).answer
+    (λ names. indicated (with_local env names) s c.indication
+    >>= (λ t. fields_of (with_local env (all_as component names c.names)) t.next q cs
+    >>= (λ fs. rule (Some (given (with_fields c.names t.value fs.value) fs.next)))))
+    (any_answer (hide_all q env.local c.names).answer)
+    (λ names u. part_so (Keep s) (Keep s) (indicated (with_local env names) s c.indication).answer
+    (λ t. fields_of (with_local env (all_as component names c.names)) t.next q cs >>= (λ fs. rule (Some (given (with_fields c.names t.value fs.value) fs.next))))
+    (indicated_keeps (with_local env names) s c.indication)
+    (λ t h. part_so (Keep t.next) (Keep s) (fields_of (with_local env (all_as component names c.names)) t.next q cs).answer
+    (λ fs. rule (Some (given (with_fields c.names t.value fs.value) fs.next)))
+    (fields_keep (with_local env (all_as component names c.names)) t.next q cs)
+    (λ fs k. keeps_both s t.next fs.next h k))))
+
+defined_keeps : (env : Env) (s : State) (q : Pos) (i : Identity) (d : TypeDefinition) → IfOk (defined env s q i d).answer (Keep s)
+defined_keeps env s q i (definition.Integer b) =
+    answered (Keep s) q _
+    (part_so (Keep s) (Keep s) (bounded env s is_integral base b).answer
+    (λ r. rule (Some (unchanged env.local (of_type (integer_type i) r.value) r.next))) (bounded_keeps env s is_integral base b) (λ r h. h))
+defined_keeps env s q i (definition.Enumeration names) =
+    answered (Keep s) q _
+    (part_so (λ x. Unit {0}) (Keep s) (hide_all q env.local names).answer (λ region. rule (Some (given (enumerated i region names) s)))
+    (any_answer (hide_all q env.local names).answer) (λ region u. keeps_same s))
+defined_keeps env s q i (definition.Array r c) =
+    answered (Keep s) q _
+    (part_so (Keep s) (Keep s) (index_of env s r).answer
+    (λ x. indicated env x.next c >>= (λ t. rule (Some (unchanged env.local (of_type (array_type i x.value t.value) base) t.next))))
+    (index_keeps env s r)
+    (λ x h. part_so (Keep x.next) (Keep s) (indicated env x.next c).answer
+    (λ t. rule (Some (unchanged env.local (of_type (array_type i x.value t.value) base) t.next))) (indicated_keeps env x.next c)
+    (λ t k. keeps_both s x.next t.next h k)))
+defined_keeps env s q i (definition.Record cs) =
+    answered (Keep s) q _
+    (part_so (Keep s) (Keep s) (fields_of (opened env) s q cs).answer
+    (λ fs. rule (Some (unchanged env.local (of_type (record_type i fs.value) base) fs.next))) (fields_keep (opened env) s q cs) (λ fs h. h))
+
+pub set_keeps : (env : Env) (q : Pos) (c : Constancy) (region : Region) (is : List Identifier) (t : AdaSubtype) (v : Given NewValue) (s : State) → Keeps s v.next
+    → KeepsOn s (local_set env q c region is t v)
+set_keeps env q c region is t v s h =
+    let k = known_constant env c t (lying_in env t) v.value.known v.next in
+    keeps_both s v.next (started (with_objects t is k.next)) h
+    (keeps_both v.next k.next (started (with_objects t is k.next)) (keeps_constant env c t (lying_in env t) v.value.known v.next)
+    (keeps_both k.next (with_objects t is k.next) (started (with_objects t is k.next)) (keeps_objects t is k.next)
+    (keeps_started (with_objects t is k.next))))
+
+inner_plan : {B : Type 0} (P : B → Type 0) (b : Bool) (x y : Plan B) → b ≡ false → IfPassed y.outcome P
+    → IfPassed (if b then x else y).outcome P
+inner_plan P true x y inside h = absurd (true≢false inside)
+inner_plan P false x y inside h = h
+
+mapped_any : {A B : Type 0} (P : B → Type 0) (x : Option A) (y : B) → P y → IfSome (option_map (λ u. y) x) P
+mapped_any P None y h = tt
+mapped_any P (Some u) y h = h
+
+objects_keep : (env : Env) → env.is_library ≡ false → (q : Pos) (c : Constancy) (region : Region) (is : List Identifier) (s : State)
+    (t : Given AdaSubtype) (i : Option Initial) → Keeps s t.next → IfPassed (objects_declared env q c region is t i).outcome (KeepsOn s)
+objects_keep env inside q c region is s t None h =
+    let bare = keeps_both s t.next _ h (keeps_objects t.value is t.next) in
+    inner_plan (KeepsOn s) env.is_library
+    (typed_rule env.step (library_declared env c region is t.value no_library_value t.next)
+    (option_map (λ u. library_declared env c region is t.value no_library_value t.next) (may_be_bare c)))
+    (typed_rule env.step (local_bare c region is t) (option_map (λ u. local_bare c region is t) (may_be_bare c)))
+    inside (typed_either (KeepsOn s) env.step _ _ bare (mapped_any (KeepsOn s) (may_be_bare c) _ bare))
+objects_keep env inside q c region is s t (Some i) h =
+    inner_plan (KeepsOn s) env.is_library
+    (library_value (with_local env region) t.next t.value i >>= (λ v. typed_rule env.step (library_declared env c region is t.value v.value v.next)
+    (option_map (λ u. library_declared env c region is t.value v.value v.next) (one_name is))))
+    (new_value (with_local env region) t.next t.value i >>= (λ v. typed_rule env.step (local_set env q c region is t.value v)
+    (option_map (λ u. local_set env q c region is t.value v) (one_name is))))
+    inside
+    (part_so (Keep t.next) (KeepsOn s) (new_value (with_local env region) t.next t.value i).answer
+    (λ v. typed_rule env.step (local_set env q c region is t.value v) (option_map (λ u. local_set env q c region is t.value v) (one_name is)))
+    (new_value_keeps (with_local env region) t.next t.value i)
+    (λ v k. let all = set_keeps env q c region is t.value v s (keeps_both s t.next v.next h k) in
+    typed_either (KeepsOn s) env.step _ _ all (mapped_any (KeepsOn s) (one_name is) _ all)))
+
+kind_keeps : (env : Env) → env.is_library ≡ false → (s : State) (q : Pos) (d : DeclarationKind) → DeclaresNoException d → IfPassed (kind_declared env s q d).outcome (KeepsOn s)
+kind_keeps env inside s q (declares.Type i d) none =
+    part_so (λ x. Unit {0}) (KeepsOn s) (hide env.local i).answer
+    (λ region. defined (with_local env region) (one_type_more s) q (new_identity env s) d >>= (λ x. rule (Some (type_declared env q i (new_identity env s) x))))
+    (any_answer (hide env.local i).answer)
+    (λ region u. part_so (Keep (one_type_more s)) (KeepsOn s) (defined (with_local env region) (one_type_more s) q (new_identity env s) d).answer
+    (λ x. rule (Some (type_declared env q i (new_identity env s) x))) (defined_keeps (with_local env region) (one_type_more s) q (new_identity env s) d)
+    (λ x h. keeps_both s (one_type_more s) _ (keeps_typed s)
+    (keeps_both (one_type_more s) x.next _ h (keeps_counted env q x.value.subtype x.next))))
+kind_keeps env inside s q (declares.Subtype i t) none =
+    part_so (λ x. Unit {0}) (KeepsOn s) (hide env.local i).answer
+    (λ region. indicated (with_local env region) (one_type_more s) t >>= (λ x. rule (Some (subtype_declared i region (new_identity env s) x))))
+    (any_answer (hide env.local i).answer)
+    (λ region u. part_so (Keep (one_type_more s)) (KeepsOn s) (indicated (with_local env region) (one_type_more s) t).answer
+    (λ x. rule (Some (subtype_declared i region (new_identity env s) x))) (indicated_keeps (with_local env region) (one_type_more s) t)
+    (λ x h. keeps_both s (one_type_more s) x.next (keeps_typed s) h))
+kind_keeps env inside s q (declares.Object is c t i) none =
+    part_so (λ x. Unit {0}) (KeepsOn s) (hide_all q env.local is).answer
+    (λ region. indicated (with_local env region) s t >>= (λ x. objects_declared env q c region is x i)) (any_answer (hide_all q env.local is).answer)
+    (λ region u. part_so (Keep s) (KeepsOn s) (indicated (with_local env region) s t).answer
+    (λ x. objects_declared env q c region is x i) (indicated_keeps (with_local env region) s t) (λ x h. objects_keep env inside q c region is s x i h))
+kind_keeps env inside s q (declares.Exception is) none = absurd none
+kind_keeps env inside s q (declares.Pragma a) none = keeps_same s
+
+pub declaration_keeps : (env : Env) → env.is_library ≡ false → (s : State) (d : Declaration) → DeclaresNoException d.kind → IfOk (declared env s d).answer (KeepsOn s)
+declaration_keeps env inside s d none = answered (KeepsOn s) d.pos (kind_declared env s d.pos d.kind).outcome (kind_keeps env inside s d.pos d.kind none)
+
+pub declarations_keep : (env : Env) → env.is_library ≡ false → (s : State) (q : Pos) (ds : List Declaration) → DeclareNoException ds → IfOk (all_declared env s q ds).answer (KeepsOn s)
+declarations_keep env inside s q [] none = keeps_same s
+declarations_keep env inside s q (d ∷ ds) none =
+    answered (KeepsOn s) q _
+    (part_so (KeepsOn s) (KeepsOn s) (declared env s d).answer
+    (λ x. all_declared (with_local env x.region) x.next q ds >>= (λ xs. rule (Some (record { region = xs.region; next = xs.next; made = x.made ++ xs.made }))))
+    (declaration_keeps env inside s d none.0)
+    (λ x h. part_so (KeepsOn x.next) (KeepsOn s) (all_declared (with_local env x.region) x.next q ds).answer
+    (λ xs. rule (Some (record { region = xs.region; next = xs.next; made = x.made ++ xs.made })))
+    (declarations_keep (with_local env x.region) inside x.next q ds none.1)
+    (λ xs k. keeps_both s x.next xs.next h k)))

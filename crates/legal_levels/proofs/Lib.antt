@@ -1,0 +1,4 @@
+pub mod InnerDeclarations
+pub mod InnerStatements
+pub mod InnerBodies
+pub mod SubprogramUnits

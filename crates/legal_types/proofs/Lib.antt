@@ -1,0 +1,5 @@
+pub mod TypeDeclarations
+pub mod TypeStatements
+pub mod TypeBodies
+pub mod TypeUnits
+pub mod TypePrograms

@@ -1,0 +1,2 @@
+pub mod TypeTokens
+pub mod Weights

@@ -1,0 +1,23 @@
+//! What the types of a legal program weigh: no more than their declarations have tokens that count. Laws
+//! over the definitions of `ada_rules` and `ada_meaning` alone. The function here does nothing: it carries
+//! a law of the definitions as its contract.
+#![tactic(auto)]
+
+ghost use Rattle.std.specs.Prelude.{ℕ, List, ◌≤◌};
+ghost use Rattle.ada_syntax.specs.declared.unit.Unit.{Unit as LibraryUnit};
+ghost use Rattle.ada_meaning.specs.Program.{Program};
+ghost use Rattle.ada_rules.specs.Entities.{Standard};
+ghost use Rattle.ada_rules.specs.Library.{library_of};
+ghost use Rattle.legal_programs.specs.Walked.{IsLegal};
+ghost use Rattle.legal_types.specs.TypeTokens.{units_types};
+ghost use Rattle.legal_types.specs.Weights.{types_weight};
+
+/// The composite types that a legal program declares weigh no more than the declarations of types in its
+/// units have tokens.
+pub fn types_weigh_no_more_than_their_text()
+    ensures { (standard : Standard) (units : List LibraryUnit) (main : List ℕ) (p : Program)
+        → (is : IsLegal (library_of standard units) main p)
+        → types_weight is.walked.next.types_declared ≤ units_types units }
+{
+    legal_instances::orders_of_legal_programs_are_whole();
+}

@@ -1,0 +1,3 @@
+pub mod NamedLaws
+pub mod Beginnings
+pub mod Instances
