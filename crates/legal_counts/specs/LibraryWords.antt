@@ -1,4 +1,5 @@
--- The words of the objects of the library level: by the instances in which they stand, and as the rules count them, by units.
+-- The words of the objects of the library level: by the instances in which they stand, and by units, as the rules count
+-- them.
 use Rattle.std.specs.Prelude.{ℕ, zero, suc, ◌+◌, List, [], ◌∷◌, length, if◌then◌else◌}
 use Rattle.ada_syntax.specs.declared.unit.Unit.{Unit as LibraryUnit}
 use Rattle.ada_meaning.specs.Program.{LibraryObject, Program}
@@ -11,7 +12,8 @@ module _ (p : Program) (facts : List Facts) where
   -- those of these objects that stand in an instance; 0 is all that is in no generic
   abbrev pub words_at : (inst : ℕ) → List LibraryObject → ℕ
   words_at inst [] = 0
-  words_at inst (o ∷ os) = (if stands_in p.instances o.generic inst then words_in facts inst o.subtype else 0) + words_at inst os
+  words_at inst (o ∷ os) =
+      (if stands_in p.instances o.generic inst then words_in facts inst o.subtype else 0) + words_at inst os
 
   -- those of so many instances from one on
   abbrev pub words_of_instances : (count inst : ℕ) → ℕ

@@ -85,8 +85,8 @@ pub fn words_are_within_limits()
     ensures sized { (standard : Standard) (units : List LibraryUnit) (main : List ℕ) (p : Program)
         → (is : IsLegal (library_of standard units) main p) → UnitsRise units
         → (m inst : ℕ) (s : Subprogram) → slice_get p.subprograms m ≡ Some s → StandsIn p s.generic inst
-        → Everywhere (IsBounded p inst) s.objects
-        → Everywhere (λ t. type_size (values_of p) inst t ≡ Some (words_in is.walked.world.instances inst t)) s.objects }
+        → Everywhere (IsBounded p inst) s.objects → Everywhere (λ t.
+        type_size (values_of p) inst t ≡ Some (words_in is.walked.world.instances inst t)) s.objects }
 {
     legal_instances::instances_have_their_facts();
 }
