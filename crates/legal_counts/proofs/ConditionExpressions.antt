@@ -23,7 +23,7 @@ use Rattle.ada_rules.specs.Expressions.{Role, itself, operand, is_circuit, opens
 use Rattle.legal_laws.proofs.Passing.{IfPassed, if_map, if_then, if_test, answered, part_so, typed_so, both_ok, every_both}
 use Rattle.legal_programs.specs.Deciding.{IsWhole, IsWholeEnv, in_form, in_denoted, IsPlain, IsClearDenoted, DenotesFrom, JudgesFrom}
 use Rattle.legal_counts.specs.ConditionPlaces.{conditions, opened_with, name_conditions, expr_conditions, exprs_conditions, test_conditions}
-use Rattle.legal_counts.proofs.DecidedExpressions.{in_test_of, in_expr_of, in_followed, entity_whole, found_whole, shown_whole, part_whole, any_of, IsOwn, all_forms, JudgesAll, actuals_hold, one_form, in_complemented, two_forms, denoted_decides, judged_decides, all_decide}
+use Rattle.legal_programs.proofs.DecidedExpressions.{in_test_of, in_expr_of, in_followed, entity_whole, found_whole, shown_whole, part_whole, any_of, IsOwn, all_forms, JudgesAll, actuals_hold, one_form, in_complemented, two_forms, denoted_decides, judged_decides, all_decide}
 use Rattle.legal_programs.proofs.Lists.{map_joined}
 use Rattle.legal_counts.proofs.Tests.{IsTest, TestOf, complement_test, circuit_test, operand_test}
 

@@ -30,9 +30,9 @@ use Rattle.legal_laws.proofs.NumberedObjects.{exceptions_made, inside_only, mapp
 use Rattle.legal_laws.proofs.Passing.{IfPassed, if_map, if_then, if_test, answered, part_so, typed_so, both_ok, any_answer}
 use Rattle.legal_programs.specs.Deciding.{IsWholeRegion, IsWholeEnv, in_form, in_denoted, JudgesFrom}
 use Rattle.legal_counts.specs.ConditionPlaces.{name_conditions, expr_conditions, test_conditions, initial_conditions, kind_conditions, declared_conditions, turns_conditions, statement_conditions, all_conditions, branch_conditions, alternative_conditions, handler_conditions, handled_conditions}
-use Rattle.legal_counts.proofs.DecidedExpressions.{in_expr_of, any_of, judged_decides}
-use Rattle.legal_counts.proofs.DecidedParts.{value_in}
-use Rattle.legal_counts.proofs.DecidedStatements.{bare_decisions, decisions_of_both, joined_decisions, chosen_decisions, branches_decisions, arm_decisions, alternatives_decisions, call_decisions, allowed_decisions, returned_decisions, value_decisions}
+use Rattle.legal_programs.proofs.DecidedExpressions.{in_expr_of, any_of, judged_decides}
+use Rattle.legal_programs.proofs.DecidedParts.{value_in}
+use Rattle.legal_programs.proofs.DecidedStatements.{bare_decisions, decisions_of_both, joined_decisions, chosen_decisions, branches_decisions, arm_decisions, alternatives_decisions, call_decisions, allowed_decisions, returned_decisions, value_decisions}
 use Rattle.legal_counts.proofs.ConditionExpressions.{At, at_as, at_joined, at_none, NameAt, ValueAt, StatementAt, denoted_placed, judged_placed, decision_placed}
 use Rattle.legal_programs.proofs.WholeRegions.{local_whole, opened_whole, loop_whole, handler_whole, hidden_whole, all_hidden_whole, RegionWhole, declared_whole}
 

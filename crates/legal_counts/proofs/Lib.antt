@@ -1,8 +1,4 @@
 mod Lists
-mod DecidedExpressions
-mod DecidedParts
-mod DecidedStatements
-mod DecidedBodies
 mod Tests
 mod ConditionExpressions
 mod ConditionStatements

@@ -24,7 +24,7 @@ use Rattle.ada_rules.specs.Denoted.{Form, plain, test_form, Judged, any_judged, 
 use Rattle.ada_rules.specs.Expressions.{Role, itself, operand, is_circuit, opens, entered, closed, measured, part_of_unit, named, selection, attribution, typed_as, denoted, judged, all_judged, decision}
 use Rattle.legal_laws.proofs.Passing.{IfPassed, if_map, if_then, if_test, if_not, if_either, answered, part_so, typed_so, both_ok, any_answer, some_so}
 use Rattle.legal_programs.specs.Deciding.{IsWhole, IsWholeEnv}
-use Rattle.legal_counts.proofs.DecidedExpressions.{any_of, entity_whole, found_whole, shown_whole, part_whole}
+use Rattle.legal_programs.proofs.DecidedExpressions.{any_of, entity_whole, found_whole, shown_whole, part_whole}
 use Rattle.statement_code.specs.Sizes as size
 
 -- the nodes of what an expression comes to; a test has one more, of the decision that it will be

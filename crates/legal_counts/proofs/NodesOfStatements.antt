@@ -38,7 +38,7 @@ use Rattle.legal_programs.specs.Deciding.{IsWholeRegion, IsWholeEnv}
 use Rattle.legal_programs.proofs.WholeRegions.{local_whole, opened_whole, loop_whole, handler_whole, hidden_whole, all_hidden_whole, RegionWhole, declared_whole}
 use Rattle.legal_counts.specs.Choices.{IsFilled, HasChoices, HaveChoices, BranchesHaveChoices, AlternativesHaveChoices, HandlersHaveChoices, HandledHasChoices}
 use Rattle.statement_code.specs.Sizes as size
-use Rattle.legal_counts.proofs.DecidedExpressions.{any_of}
+use Rattle.legal_programs.proofs.DecidedExpressions.{any_of}
 use Rattle.legal_counts.proofs.NodesOfExpressions.{FewIn, NameIn, expr_in, denoted_few, judged_few, DecisionIn, decision_few}
 
 -- each name and each expression has a token

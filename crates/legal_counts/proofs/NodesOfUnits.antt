@@ -44,7 +44,7 @@ use Rattle.legal_programs.proofs.Counted.{states_of}
 use Rattle.legal_programs.proofs.Extending.{specified_adds, subprogram_adds}
 use Rattle.legal_programs.proofs.ExtendingUnits.{adds_at_unit}
 use Rattle.legal_programs.proofs.Headings.{are_headed, have_homes}
-use Rattle.legal_counts.proofs.DecidedBodies.{Bodies as Turned, Profiled, body_item_turn, completed_whole, specified_calm}
+use Rattle.legal_programs.proofs.DecidedBodies.{Bodies as Turned, Profiled, body_item_turn, completed_whole, specified_calm}
 use Rattle.legal_programs.proofs.DecidedPrograms.{none_declared}
 use Rattle.legal_programs.proofs.DecidedUnits.{Seen, env_whole, in_region, interface_whole, interfaces_seen, package_env_whole, region_whole, routine_whole, seen_more_whole}
 use Rattle.legal_programs.proofs.Passed.{of_ok}

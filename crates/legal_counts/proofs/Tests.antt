@@ -18,7 +18,7 @@ use Rattle.ada_rules.specs.Denoted.{Form, plain, test_form, Judged, any_judged, 
 use Rattle.ada_rules.specs.Expressions.{itself, operand, closed, typed_as, denoted, judged}
 use Rattle.legal_laws.proofs.Passing.{both_true, IfPassed, if_map, if_then, if_test, answered, part_so, typed_so, both_ok, weaker_ok, any_answer}
 use Rattle.legal_programs.specs.Deciding.{IsWholeEnv, IsPlain, JudgesFrom}
-use Rattle.legal_counts.proofs.DecidedExpressions.{any_of, judged_decides}
+use Rattle.legal_programs.proofs.DecidedExpressions.{any_of, judged_decides}
 use Rattle.legal_counts.specs.ConditionPlaces.{conditions}
 
 -- a test with conditions at these places, in which no `not` stands directly in another

@@ -16,11 +16,11 @@ mod QuietInterfaces
 pub mod MainUnit
 pub mod Worlds
 pub mod Deciding
-mod DecidedExpressions
+pub mod DecidedExpressions
 pub mod WholeRegions
-mod DecidedParts
-mod DecidedStatements
-mod DecidedBodies
+pub mod DecidedParts
+pub mod DecidedStatements
+pub mod DecidedBodies
 pub mod DecidedUnits
 pub mod DecidedPrograms
 pub mod ClosedEntities
