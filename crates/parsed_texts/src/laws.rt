@@ -1,19 +1,23 @@
 //! Laws of parsed files. The functions here do nothing: they carry laws of the definitions as their contracts.
 
-ghost use Rattle.std.specs.Prelude.{◌≡◌, ℕ, List, true};
+ghost use Rattle.std.specs.Prelude.{◌≡◌, ℕ, List, false, true};
 ghost use Rattle.ada_syntax.specs.declared.unit.Unit.{Unit as LibraryUnit};
 ghost use Rattle.cov_base.specs.Lists.{Everywhere};
 ghost use Rattle.cov_base.specs.TextOrder.{rise};
+ghost use Rattle.expression_parser.specs.Extents.{opens};
 ghost use Rattle.expression_parser.specs.declared.extent.Extent.{Extent};
+ghost use Rattle.expression_parser.specs.declared.extent.Extent.TheVariants.{Subprograms};
 ghost use Rattle.legal_counts.specs.Choices.{UnitsHaveChoices};
 ghost use Rattle.legal_counts.specs.ConditionPlaces.{units_conditions};
 ghost use Rattle.legal_instances.specs.InOrder.{UnitsRise};
 ghost use Rattle.legal_programs.specs.DecisionPlaces.{units_decisions};
 ghost use Rattle.legal_programs.specs.InText.{Rise};
 ghost use Rattle.legal_programs.specs.TextPlaces.{units_places};
+ghost use Rattle.legal_texts.specs.Subprograms.{AreSubprograms};
 ghost use Rattle.legal_texts.specs.UnitTexts.{AreUnitTexts};
 ghost use Rattle.parsed_programs.specs.Places.{AreInFiles, IsInFiles};
 ghost use Rattle.parsed_texts.specs.Parsed.{AreOfFiles};
+ghost use Rattle.legal_levels.specs.Levels.{AreSubprogramUnits};
 ghost use Rattle.legal_names.specs.Spelled.{AreUnitsSpelled};
 
 /// The units of files stand one after the other.
@@ -65,4 +69,12 @@ pub fn texts_have_choices()
 pub fn names_of_files_are_ascii()
     ensures { (extent : Extent) (files : ℕ) (units : List LibraryUnit)
         → AreOfFiles extent files units → AreUnitsSpelled units }
+{}
+
+/// Where packages are closed, files have subprograms that declare no exception, and nothing else.
+pub fn files_of_an_early_extent_are_subprograms()
+    ensures units { (extent : Extent) (files : ℕ) (units : List LibraryUnit) → opens extent Subprograms ≡ false
+        → AreOfFiles extent files units → AreSubprograms units }
+    ensures bare { (extent : Extent) (files : ℕ) (units : List LibraryUnit) → opens extent Subprograms ≡ false
+        → AreOfFiles extent files units → AreSubprogramUnits units }
 {}
