@@ -3,4 +3,5 @@ pub mod Leading
 pub mod Subprograms
 pub mod Plain
 pub mod Numbers
+pub mod Marked
 pub mod Told
