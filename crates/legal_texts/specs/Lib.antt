@@ -5,3 +5,4 @@ pub mod Plain
 pub mod Numbers
 pub mod Marked
 pub mod Told
+pub mod Worked

@@ -12,7 +12,7 @@
 //! The functions here do nothing: each carries a law of the definitions as its contract.
 #![tactic(auto)]
 
-ghost use Rattle.std.specs.Prelude.{IfOk, IfSome, List, Some, true, ℕ, ◌≡◌};
+ghost use Rattle.std.specs.Prelude.{codes, IfOk, IfSome, List, Some, true, ℕ, ◌≡◌};
 ghost use Rattle.cov_base.specs.Lists.{Everywhere};
 ghost use Rattle.cov_base.specs.declared.position.Pos.{Pos};
 ghost use Rattle.ada_syntax.specs.declared.declaration.Declaration.{Declaration};
@@ -39,6 +39,7 @@ ghost use Rattle.legal_texts.specs.Subprograms.{AreSubprograms};
 ghost use Rattle.legal_texts.specs.Told.{IsAsDeclared, IsOpen, IsTold, IsToldEntity, IsToldPlace};
 ghost use Rattle.legal_texts.specs.Told.{IsToldRegion, Table, TellsBehind, TellsOn};
 ghost use Rattle.legal_texts.specs.UnitTexts.{AreUnitTexts};
+ghost use Rattle.legal_texts.specs.Worked.{plain_program, plain_units};
 
 use legal_instances::orders_of_legal_programs_are_whole;
 
@@ -83,7 +84,13 @@ pub fn marks_are_told_by_their_identities()
         → conforms q (Some (routine r)) ≡ true → IsAsDeclared r q }
 {}
 
-/// The units of the worked program with an instance are written as the grammar ensures.
-pub fn a_worked_program_is_written_so()
-    ensures { AreUnitTexts worked_units }
+/// A worked program of a package and a subprogram meets the premises, and the units of the worked program with an
+/// instance are written as the grammar ensures.
+pub fn worked_programs_meet_the_premises()
+    ensures is_legal { checked_with whole_standard plain_units (codes "main") ≡ legal plain_program }
+    ensures plain { ArePlain plain_units }
+    ensures statements { Rise (units_places plain_units) }
+    ensures decisions { Rise (units_decisions plain_units) }
+    ensures texts { AreUnitTexts plain_units }
+    ensures instance { AreUnitTexts worked_units }
 {}
