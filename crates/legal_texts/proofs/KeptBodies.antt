@@ -58,6 +58,7 @@ with_parameters q t = with_objects t.value.subtype q.names (limited t.next.objec
 -- the parameters of a specification
 pub record AreFew (s : State) (g : Given Profile) : Type 0 where
   pub kept : IsKept false s g.next
+  pub types : g.next.types ≡ s.types
   pub few : g.next.excesses ≡ [] → s.objects ≤ most_parameters → s.objects + length g.value.parameters ≤ most_parameters
 
 few_on : (s : State) (q : SourceParameter) (t : Given Marked) (rest : Given Profile) → OnlyDecides s t.next → IsKept false s t.next → AreFew (with_parameters q t) rest
@@ -72,6 +73,7 @@ few_on s q t rest only kept h =
           (kept_both false t.next (limited t.next.objects q.names t.next) rest.next (limited_keeps t.next.objects q.names t.next)
           (kept_both false (limited t.next.objects q.names t.next) (with_parameters q t) rest.next
           (kept_none false (limited t.next.objects q.names t.next) (with_parameters q t) refl refl) h.kept));
+      types = h.types ∙ (ap (λ x. x.types) (limited_decides t.next.objects q.names t.next) ∙ ap (λ x. x.types) only);
       few = λ e less.
           let first = limited_below t.next.objects q.names t.next (h.kept.few e) (omega (arith, same, less)) in
           let later = h.few e (omega (arith, first, still)) in
@@ -79,7 +81,7 @@ few_on s q t rest only kept h =
     }
 
 parameters_few : (env : Env) (s : State) (at : Pos) (qs : List SourceParameter) → IfOk (parameters_judged env s at qs).answer (AreFew s)
-parameters_few env s at [] = record { kept = kept_same false s; few = λ e less. omega (arith, less) }
+parameters_few env s at [] = record { kept = kept_same false s; types = refl; few = λ e less. omega (arith, less) }
 parameters_few env s at (q ∷ qs) =
     answered (AreFew s) at _
     (part_so (λ x. Unit {0}) (AreFew s) (hide_all at env.local q.names).answer
@@ -98,34 +100,28 @@ parameters_few env s at (q ∷ qs) =
     (parameters_few (with_local env (parameter_objects (mode_of q.mode) t.value.subtype t.next.objects names q.names)) (with_parameters q t) at qs)
     (λ rest k. few_on s q t rest h.0 h.1 k))))
 
-result_few : (env : Env) (s : State) (q : Given Profile) (n : Option Name) → AreFew s q → IfPassed (result_judged env q n).outcome (AreFew s)
-result_few env s q None h = h
-result_few env s q (Some n) h =
-    part_so (Keep q.next) (AreFew s) (mark_part (with_local env q.value.region) q.next n).answer
-    (λ t. typed_rule env.step (with_result q t) (if is_function_profile q.value.parameters t.value then Some (with_result q t) else None))
-    (mark_part_keeps (with_local env q.value.region) q.next n)
-    (λ t k. let all : AreFew s (with_result q t) = record { kept = kept_both false s q.next t.next h.kept k; few = λ e. h.few (k.few e) } in
-    typed_either (AreFew s) env.step (with_result q t) _ all (if_test (AreFew s) (is_function_profile q.value.parameters t.value) _ (λ b. all)))
-
 -- a specification
 pub record IsShort (s : State) (g : Given Profile) : Type 0 where
   pub kept : IsKept false s g.next
+  pub types : g.next.types ≡ s.types
   pub few : g.next.excesses ≡ [] → length g.value.parameters ≤ most_parameters
 
 short_of : (s : State) (g : Given Profile) → AreFew (fresh s) g → IsShort s g
 short_of s g h = record {
   kept = kept_both false s (fresh s) g.next (kept_none false s (fresh s) refl refl) h.kept;
+  types = h.types;
   few = λ e. let all = h.few e (omega (arith)) in omega (arith, all);
 }
 
 result_short : (env : Env) (s : State) (q : Given Profile) (n : Option Name) → AreFew (fresh s) q → IfPassed (result_judged env q n).outcome (IsShort s)
 result_short env s q None h = short_of s q h
 result_short env s q (Some n) h =
-    part_so (Keep q.next) (IsShort s) (mark_part (with_local env q.value.region) q.next n).answer
+    part_so (λ t. OnlyDecides q.next t.next × Keep q.next t) (IsShort s) (mark_part (with_local env q.value.region) q.next n).answer
     (λ t. typed_rule env.step (with_result q t) (if is_function_profile q.value.parameters t.value then Some (with_result q t) else None))
-    (mark_part_keeps (with_local env q.value.region) q.next n)
+    (both_ok (λ t. OnlyDecides q.next t.next) (Keep q.next) (mark_part (with_local env q.value.region) q.next n).answer
+    (mark_part_behind (with_local env q.value.region) q.next n) (mark_part_keeps (with_local env q.value.region) q.next n))
     (λ t k. let all : IsShort s (with_result q t) = short_of s (with_result q t)
-    (record { kept = kept_both false (fresh s) q.next t.next h.kept k; few = λ e. h.few (k.few e) }) in
+    (record { kept = kept_both false (fresh s) q.next t.next h.kept k.1; types = ap (λ x. x.types) k.0 ∙ h.types; few = λ e. h.few (k.1.few e) }) in
     typed_either (IsShort s) env.step (with_result q t) _ all (if_test (IsShort s) (is_function_profile q.value.parameters t.value) _ (λ b. all)))
 
 pub specified_short : (env : Env) (s : State) (x : Specification) → IfOk (specified env s x).answer (IsShort s)

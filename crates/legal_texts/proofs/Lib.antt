@@ -24,3 +24,4 @@ mod DeclaredTypes
 mod PackageItems
 mod BodyNumbers
 mod ToldDeclarations
+mod ToldItems

@@ -12,7 +12,7 @@ use Rattle.ada_meaning.specs.Program.{Mode}
 use Rattle.ada_rules.specs.Plan.{◌>>=◌, rule}
 use Rattle.ada_rules.specs.Types.{Identity, AdaSubtype, type_in, is_scalar}
 use Rattle.ada_rules.specs.Entities.{key, same_name, Parameter, Entity, hidden, Region, entity_of, found, shown, is_new, redefined}
-use Rattle.ada_rules.specs.Environment.{typing, typed_rule, State, Given, given, Env, interface_of, with_local, opened, regions_of, with_name, hide, hide_all}
+use Rattle.ada_rules.specs.Environment.{typed_rule, State, Given, given, Env, interface_of, with_local, opened, regions_of, with_name, hide, hide_all}
 use Rattle.ada_rules.specs.Denoted.{Denoted, a_mark, a_value, a_variable, a_routine, a_call, an_exception, a_unit, the_test_io, a_thing}
 use Rattle.ada_rules.specs.Expressions.{is_own, part_of_interface, part_of_unit, Marked, marked, mark_part}
 use Rattle.ada_rules.specs.Declarations.{with_objects}
@@ -20,27 +20,22 @@ use Rattle.ada_rules.specs.Subprograms.{mode_of, Profile, parameter_entity, para
 use Rattle.std.specs.List.{list_all}
 use Rattle.ada_rules.specs.Subprograms.{is_in}
 use Rattle.legal_laws.proofs.Passing.{IfPassed, if_test, answered, ruled_so, part_so, typed_so, every_end, every_both, both_true}
+use Rattle.legal_texts.specs.Marked as marks
 use Rattle.legal_texts.specs.Leading.{lead_of, part_lead, lead}
 use Rattle.legal_texts.proofs.Leads.{IsMarkOf, mark_leads}
 
 module _ (P : Identity → AdaSubtype → Type 0) where
   abbrev pub IsMarked : Option Denoted → Type 0
-  IsMarked (Some (a_mark i t)) = P i t
-  IsMarked o = Unit {0}
+  IsMarked o = marks.IsMarked P o
 
   abbrev pub IsMarkedEntity : Entity → Type 0
-  IsMarkedEntity x = IsMarked (lead_of (shown (Some x)))
+  IsMarkedEntity x = marks.IsMarkedEntity P x
 
   abbrev pub IsMarkedRegion : Region → Type 0
-  IsMarkedRegion region = Everywhere (λ e. IsMarkedEntity e.1) region
+  IsMarkedRegion region = marks.IsMarkedRegion P region
 
-  -- marks that a place shows
-  pub record IsMarkedPlace (env : Env) : Type 0 where
-    pub step : env.step ≡ typing
-    pub regions : Everywhere IsMarkedRegion (regions_of env)
-    pub own : IsMarkedRegion env.own
-    pub units : (n : ℕ) (name : List ℕ) → IsMarked (lead_of (part_of_interface env.world name (interface_of env.world n)))
-    pub test_io : (name : List ℕ) → IsMarked (lead_of (entity_of name env.world.standard.test_io_declarations))
+  abbrev pub IsMarkedPlace : Env → Type 0
+  IsMarkedPlace env = marks.IsMarkedPlace P env
 
   -- a parameter or a result that has such a mark
   pub record IsMarkedAs (r : Parameter) : Type 0 where

@@ -263,7 +263,7 @@ passed_weaker P Q broken h f = tt
 passed_weaker P Q (passed x) h f = f x h
 
 -- how numbers of types rise hangs on no program
-no_program : Program
+pub no_program : Program
 no_program = record { subprograms = []; main = 0; objects = []; constants = []; instances = []; declared = []; exceptions = [] }
 
 -- declarations of types and subtypes

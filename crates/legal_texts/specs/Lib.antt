@@ -3,4 +3,6 @@ pub mod Leading
 pub mod Subprograms
 pub mod Plain
 pub mod Numbers
+pub mod Marked
 pub mod Told
+pub mod Worked

@@ -4,9 +4,10 @@ use Rattle.std.specs.Prelude.{◌≡◌, ◌≤◌, ℕ, Option, Some, None, opt
 use Rattle.cov_base.specs.Lists.{Everywhere}
 use Rattle.ada_rules.specs.Declarations.{Declared}
 use Rattle.ada_rules.specs.Entities.{Parameter, Routine, Entity, mark, routine, Region}
-use Rattle.ada_rules.specs.Environment.{State, Env, owner_of}
+use Rattle.ada_rules.specs.Environment.{State, Given, Env, owner_of}
 use Rattle.ada_rules.specs.Subprograms.{Profile, typed_parameters}
 use Rattle.ada_rules.specs.Types.{Identity, declared_in, AdaSubtype}
+use Rattle.legal_texts.specs.Marked.{IsMarkedPlace}
 
 abbrev pub Table : Type 0
 Table = Identity → Option AdaSubtype
@@ -45,3 +46,19 @@ pub record TellsOn (before : Table) (env : Env) (x : Declared) : Type 0 where
 pub record IsAsDeclared (r : Routine) (q : Profile) : Type 0 where
   pub parameters : (n : ℕ) → typed_parameters n r.parameters ≡ typed_parameters n q.parameters
   pub result : option_map (λ x. x.subtype) r.result ≡ option_map (λ x. x.subtype) q.result
+
+-- where an item of a package stands: all marks that its names may lead to are told
+abbrev pub Names : Table → Identity → AdaSubtype → Type 0
+Names table i t = table i ≡ Some t
+
+pub record IsToldPlace (table : Table) (env : Env) (s : State) : Type 0 where
+  pub place : IsMarkedPlace (Names table) env
+  pub local : IsToldRegion table env.local
+  pub is_open : IsOpen table env s
+
+-- and what it leaves
+pub record TellsBehind (before : Table) (env : Env) (g : Given Region) : Type 0 where
+  pub table : Table
+  pub more : TellsMore before table
+  pub region : IsToldRegion table g.value
+  pub is_open : IsOpen table env g.next

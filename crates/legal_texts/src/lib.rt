@@ -12,15 +12,19 @@
 //! The functions here do nothing: each carries a law of the definitions as its contract.
 #![tactic(auto)]
 
-ghost use Rattle.std.specs.Prelude.{IfOk, IfSome, List, Some, true, ℕ, ◌≡◌};
+ghost use Rattle.std.specs.Prelude.{codes, IfOk, IfSome, List, Some, true, ℕ, ◌≡◌};
 ghost use Rattle.cov_base.specs.Lists.{Everywhere};
+ghost use Rattle.cov_base.specs.declared.position.Pos.{Pos};
 ghost use Rattle.ada_syntax.specs.declared.declaration.Declaration.{Declaration};
+ghost use Rattle.ada_syntax.specs.declared.unit.BodyItem.{BodyItem};
+ghost use Rattle.ada_syntax.specs.declared.unit.PackageItem.{PackageItem};
 ghost use Rattle.ada_meaning.specs.Program.{Program};
 ghost use Rattle.ada_meaning.specs.WellFormed.{IsWellFormed};
 ghost use Rattle.ada_rules.specs.Declarations.{declared};
 ghost use Rattle.ada_rules.specs.Entities.{Routine, routine, whole_standard};
 ghost use Rattle.ada_rules.specs.Environment.{Env, State};
 ghost use Rattle.ada_rules.specs.Subprograms.{Profile, conforms};
+ghost use Rattle.ada_rules.specs.Units.{body_items, package_items};
 ghost use Rattle.ada_rules.specs.Legal.{checked_with, legal};
 ghost use Rattle.ada_rules.specs.Library.{Library, all_bodies};
 ghost use Rattle.ada_syntax.specs.declared.unit.Unit.{Unit as LibraryUnit};
@@ -33,8 +37,10 @@ ghost use Rattle.legal_programs.specs.Walked.{IsLegal};
 ghost use Rattle.legal_texts.specs.Numbers.{AreNumbered};
 ghost use Rattle.legal_texts.specs.Plain.{ArePlain};
 ghost use Rattle.legal_texts.specs.Subprograms.{AreSubprograms};
-ghost use Rattle.legal_texts.specs.Told.{IsAsDeclared, IsOpen, IsTold, IsToldEntity, IsToldRegion, Table, TellsOn};
+ghost use Rattle.legal_texts.specs.Told.{IsAsDeclared, IsOpen, IsTold, IsToldEntity, IsToldPlace};
+ghost use Rattle.legal_texts.specs.Told.{IsToldRegion, Table, TellsBehind, TellsOn};
 ghost use Rattle.legal_texts.specs.UnitTexts.{AreUnitTexts};
+ghost use Rattle.legal_texts.specs.Worked.{plain_program, plain_units};
 
 use legal_instances::orders_of_legal_programs_are_whole;
 
@@ -70,17 +76,28 @@ pub fn bodies_have_numbers_of_their_own()
     ensures { (l : Library) (main : List ℕ) (p : Program) → IsLegal l main p → AreNumbered (all_bodies l.units) }
 {}
 
-/// Where the marks of a region are told by their identities, they are so behind each declaration; and then a body
-/// that conforms to a declaration has its parameters and its result (RM 6.3.1).
+/// Where the marks of a region are told by their identities, they are so behind each declaration, and behind the
+/// declarations and the bodies of packages, where all marks that names may lead to are told; and then a body that
+/// conforms to a declaration has its parameters and its result (RM 6.3.1).
 pub fn marks_are_told_by_their_identities()
     ensures declarations { (table : Table) (env : Env) (s : State) (d : Declaration) → IsOpen table env s
         → IsToldRegion table env.local → IfOk (declared env s d).answer (TellsOn table env) }
+    ensures packages { (table : Table) (env : Env) (s : State) (p : Pos) (items : List PackageItem)
+        → IsToldPlace table env s → IfOk (package_items env s p items).answer (TellsBehind table env) }
+    ensures bodies { (table : Table) (env : Env) (s : State) (p : Pos) (items : List BodyItem)
+        → IsToldPlace table env s → IfOk (body_items env s p items).answer (TellsBehind table env) }
     ensures conforming { (table : Table) (r : Routine) (q : Profile) → IsToldEntity table (routine r)
         → Everywhere (IsTold table) q.parameters → IfSome q.result (IsTold table)
         → conforms q (Some (routine r)) ≡ true → IsAsDeclared r q }
 {}
 
-/// The units of the worked program with an instance are written as the grammar ensures.
-pub fn a_worked_program_is_written_so()
-    ensures { AreUnitTexts worked_units }
+/// A worked program of a package and a subprogram meets the premises, and the units of the worked program with an
+/// instance are written as the grammar ensures.
+pub fn worked_programs_meet_the_premises()
+    ensures is_legal { checked_with whole_standard plain_units (codes "main") ≡ legal plain_program }
+    ensures plain { ArePlain plain_units }
+    ensures statements { Rise (units_places plain_units) }
+    ensures decisions { Rise (units_decisions plain_units) }
+    ensures texts { AreUnitTexts plain_units }
+    ensures instance { AreUnitTexts worked_units }
 {}

@@ -1,4 +1,0 @@
-use Rattle.legal_texts.proofs.a_worked_program_is_written_so.Goals as goal
-
-pub returns : goal.returns
-returns c = ((tt, tt), (tt, ((tt, ((tt, tt), tt)), tt)))
