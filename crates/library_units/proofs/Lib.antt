@@ -4,3 +4,4 @@ pub mod SubprogramLaws
 pub mod PackageLaws
 pub mod InterfaceLaws
 pub mod BodyLaws
+pub mod UnitBodyLaws

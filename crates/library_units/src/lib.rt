@@ -16,10 +16,12 @@ mod place;
 mod shown_packages;
 mod subprogram_bodies;
 mod subprograms;
+mod unit_bodies;
 mod unit_texts;
 
 pub use interfaces::all_shown;
 pub use package_bodies::package_body;
 pub use place::UnitPlace;
 pub use subprogram_bodies::subprogram_body;
-pub use unit_texts::routine_of;
+pub use unit_bodies::all_bodies;
+pub use unit_texts::generic_of;

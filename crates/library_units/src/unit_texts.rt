@@ -57,7 +57,7 @@ pub(crate) fn text_of(alloc: Global, symbols: &Symbols, unit: u32) -> Result<Reg
 }
 
 /// The generic that the unit with this number is, if it is one.
-pub(crate) fn generic_of(symbols: &Symbols, unit: u32) -> Option<u32>
+pub fn generic_of(symbols: &Symbols, unit: u32) -> Option<u32>
     ensures { IsGenericOf symbols.now.units unit result }
 {
     match symbols.interface(unit) {
@@ -67,7 +67,7 @@ pub(crate) fn generic_of(symbols: &Symbols, unit: u32) -> Option<u32>
 }
 
 /// The subprogram that the unit with this number is, which its name denotes in its own body.
-pub fn routine_of(symbols: &Symbols, unit: u32) -> Entity
+pub(crate) fn routine_of(symbols: &Symbols, unit: u32) -> Entity
     ensures { IsRoutineOf symbols.now.units unit result }
 {
     match symbols.interface(unit) {

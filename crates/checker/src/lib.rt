@@ -1,0 +1,23 @@
+//! Programs of the whole language under its rules (Ada RM 2012, 10).
+//!
+//! The contract that the layers above use: [`check`] answers the typed program of the rules, or else the
+//! first of the rules' steps that refuses the units, and the rules' own place; that each refusal has a
+//! reason there is [`a_refusal_is_of_a_broken_rule`]. `specs/Checking.antt` says what a refusal is,
+//! `specs/Entries.antt` what the limits ask of the units.
+//!
+//! The steps are those of the rules: [`judged`] walks over all units, once for the rules on names and once
+//! for those on types, and leaves all that it has declared and found (`specs/Judging.antt`); the demands
+//! on static values, the counted limits and the typed program stand on what the second walk has left.
+#![tactic(auto)]
+
+mod fault;
+mod laws;
+mod steps;
+mod texts;
+mod unit_entries;
+mod whole;
+
+pub use fault::CheckFault;
+pub use laws::a_refusal_is_of_a_broken_rule;
+pub use steps::{WholeWalk, judged};
+pub use whole::check;
