@@ -20,4 +20,4 @@ mod whole;
 pub use fault::CheckFault;
 pub use laws::a_refusal_is_of_a_broken_rule;
 pub use steps::{WholeWalk, judged};
-pub use whole::check;
+pub use whole::{check, discard_program};

@@ -1,71 +1,87 @@
 -- Refusals of units are told as faults of their sources.
-use Rattle.std.proofs.Common.{◌≡◌, ℕ, List, [], ◌∷◌, map, None, is_some, refl, Some, Ok, Err, Result, IfErr, sym, ap, ◌∙◌, subst}
-use Rattle.std.proofs.lemmas.Bool.{false≢true}
+use Rattle.std.proofs.Common.{◌≡◌, ℕ, List, Ok, Err, Result, IfErr, refl, sym, ap, ◌∙◌, subst}
 use Rattle.std.specs.Prelude.{IsErrAnd}
-use Rattle.cov_base.specs.declared.position.Pos.{Pos}
 use Rattle.std.specs.Str.{str_to_ascii_lowercase}
-use Rattle.ada_meaning.specs.Program.{Program}
-use Rattle.ada_syntax.specs.declared.unit.Unit.{Unit as LibraryUnit}
-use Rattle.ada_tree.specs.declared.program.UnitEntry.{UnitEntry}
-use Rattle.ada_types.specs.Checked as checked
-use Rattle.ada_types.specs.Checked.{entry_of}
-use Rattle.ada_types.specs.Legal.{elaborated}
-use Rattle.ada_types.specs.declared.fault.CheckFault.{CheckFault}
-use Rattle.compiler.specs.Checking.{illegal, too_large, UnitsAreRefused, breaks_names, breaks_types, passes_a_limit, memory_is_out, PassesLimit, has_too_many, passes, no_memory}
-use Rattle.compiler.specs.Legal as legal
-use Rattle.compiler.specs.Legal.{RefusesFor}
 use Rattle.cov_base.specs.declared.failure.Failure.{Failure}
 use Rattle.cov_base.specs.declared.failure.Failure.TheVariants.{Fault, WantOfMemory}
 use Rattle.cov_base.specs.declared.obligations.SourceFile.{SourceFile}
+use Rattle.cov_base.specs.declared.position.Pos.{Pos}
+use Rattle.ada_rules.specs.Environment.{naming, typing}
+use Rattle.ada_rules.specs.Legal.{legal, checked}
+use Rattle.ada_rules.specs.Units.{Walked, judged_in}
+use Rattle.ada_syntax.specs.declared.unit.Unit.{Unit as LibraryUnit}
+use Rattle.ada_tree.specs.declared.program.Program.{Program as TypedProgram}
+use Rattle.ada_tree.specs.declared.program.UnitEntry.{UnitEntry}
+use Rattle.ada_tree.specs.Programs.{program_of}
+use Rattle.checker.specs.Checking as checker
+use Rattle.checker.specs.Checking.{HasEntries, IsBroken, whole_library}
+use Rattle.checker.specs.declared.fault.CheckFault.{CheckFault}
+use Rattle.compiler.specs.Checking.{illegal, too_large, AreFew, PassesLimit, has_too_many, passes, no_memory}
+use Rattle.compiler.specs.Legal as units
+use Rattle.compiler.specs.Legal.{entries_in, entries_for, AreProgram, UnitsAreRefused, RefusesUnits, RefusesFor}
+use Rattle.compiler.specs.Units.{HaveUnits, FailsFor}
+use Rattle.compiler.specs.declared.fault.SourceFault.{SourceFault}
+use Rattle.compiler.proofs.FewNodes.{none_refused}
 use Rattle.generic_expand.specs.Expanded as expanded
 use Rattle.generic_expand.specs.Expanded.{past_instances, first_past}
 use Rattle.generic_expand.specs.declared.fault.ExpandFault.{ExpandFault}
-use Rattle.compiler.specs.Units.{HaveUnits, FailsFor}
-use Rattle.compiler.specs.declared.fault.SourceFault.{SourceFault}
 
-pub illegal_units : (units : List LibraryUnit) (main : List ℕ) (f : Failure CheckFault) → checked.Refuses units (str_to_ascii_lowercase main) f → UnitsAreRefused units main (illegal f)
-illegal_units units main _ (checked.breaks_names offends) = breaks_names offends
-illegal_units units main _ (checked.breaks_types holds offends) = breaks_types holds offends
-illegal_units units main _ (checked.passes_a_limit holds typed past) = passes_a_limit holds typed past
-illegal_units units main _ checked.memory_is_out = memory_is_out
+-- by the rules, with the reason for each refusal
+pub illegal_units : (us : List LibraryUnit) (main : List ℕ)
+    → ((units : List LibraryUnit) (main : List ℕ) (fault : CheckFault) → checker.Refuses units main (Fault fault) → IsBroken (whole_library units) main fault)
+    → (f : Failure CheckFault) → checker.Refuses us main f → RefusesUnits us main (illegal f)
+illegal_units us main reasons _ (checker.breaks_names is) = units.breaks_names is (reasons us main _ (checker.breaks_names is))
+illegal_units us main reasons _ (checker.breaks_types is) = units.breaks_types is (reasons us main _ (checker.breaks_types is))
+illegal_units us main reasons _ (checker.passes_a_limit is) = units.passes_a_limit is (reasons us main _ (checker.passes_a_limit is))
+illegal_units us main reasons _ checker.memory_is_out = tt
 
-pub large_units : (units : List UnitEntry) (f : Failure ExpandFault) → expanded.Refuses units f → PassesLimit units (too_large f)
-large_units units _ (expanded.has_too_many past) = has_too_many past
-large_units units _ (expanded.passes_the_limit few past) = passes past
-large_units units _ expanded.memory_is_out = no_memory
+pub large_units : (entries : List UnitEntry) (f : Failure ExpandFault) → expanded.Refuses entries f → PassesLimit entries (too_large f)
+large_units entries _ (expanded.has_too_many past) = has_too_many past
+large_units entries _ (expanded.passes_the_limit few past) = passes few past
+large_units entries _ expanded.memory_is_out = no_memory
 
 pub ruleset refusals = (illegal_units, large_units)
 
--- sources whose units are refused are
-pub sources_refused : (files : List SourceFile) (units read : List LibraryUnit) (main : List ℕ) (f : Failure SourceFault) → HaveUnits files units → read ≡ units → UnitsAreRefused read main f
-    → RefusesFor files main f
-sources_refused files units read main f have are refused = told f (subst (λ us. UnitsAreRefused us main f) are refused)
+-- the entries of a typed program are those that the limits ask of its units
+pub entries_are : (us : List LibraryUnit) (main : List ℕ) (p : TypedProgram) → checked us main ≡ legal (program_of p) → HasEntries (whole_library us) main p
+    → p.units ≡ entries_for us main
+entries_are us main p h has = by_answer (judged_in typing (whole_library us) main).answer refl
   where
-    told : (f : Failure SourceFault) → UnitsAreRefused units main f → RefusesFor files main f
-    told _ (breaks_names offends) = legal.breaks_names have offends
-    told _ (breaks_types holds offends) = legal.breaks_types have holds offends
-    told _ (passes_a_limit holds typed past) = legal.passes_a_limit have holds typed past
-    told _ memory_is_out = tt
+    by_answer : (r : Result Walked Pos) → (judged_in typing (whole_library us) main).answer ≡ r → p.units ≡ entries_in (whole_library us) r
+    by_answer (Ok x) is = has x is
+    by_answer (Err q) is =
+        absurd (none_refused (whole_library us) main (judged_in naming (whole_library us) main).answer (judged_in typing (whole_library us) main).answer (program_of p) q h is)
 
--- no unit of today's language is an instance
-no_instance : (units : List LibraryUnit) → past_instances 0 (map entry_of units) ≡ None
-no_instance [] = refl
-no_instance (u ∷ us) = no_instance us
+pub program_law : (us : List LibraryUnit) (main : List ℕ) (p : TypedProgram) → checked us main ≡ legal (program_of p) → HasEntries (whole_library us) main p → AreFew p.units
+    → AreProgram us main (program_of p)
+program_law us main p h has few =
+    let are = entries_are us main p h has in
+    record {
+      legal = h;
+      few_instances = ap (past_instances 0) (sym are) ∙ few.instances;
+      few = ap (first_past 0) (sym are) ∙ few.nodes;
+    }
 
-none_is : {p : Pos} → None ≡ Some p → ⊥
-none_is e = false≢true (ap (λ o. is_some o) e)
+-- and of units that are a legal program that is too large
+pub units_past_limit : (us : List LibraryUnit) (main : List ℕ) (p : TypedProgram) → checked us main ≡ legal (program_of p) → HasEntries (whole_library us) main p
+    → (f : Failure SourceFault) → PassesLimit p.units f → RefusesUnits us main f
+units_past_limit us main p h has _ (has_too_many past) = units.has_too_many_instances h (ap (past_instances 0) (sym (entries_are us main p h has)) ∙ past)
+units_past_limit us main p h has _ (passes few past) =
+    let are = entries_are us main p h has in
+    units.has_too_many_nodes h (ap (past_instances 0) (sym are) ∙ few) (ap (first_past 0) (sym are) ∙ past)
+units_past_limit us main p h has _ no_memory = tt
 
--- and those that are a legal program that is too large
-pub sources_past_limit : (files : List SourceFile) (units read : List LibraryUnit) (main : List ℕ) (p : Program) (entries : List UnitEntry) (f : Failure SourceFault) → HaveUnits files units
-    → read ≡ units → elaborated read main ≡ Some p → entries ≡ map entry_of read → PassesLimit entries f → RefusesFor files main f
-sources_past_limit files units read main p entries _ have are is all (has_too_many past) =
-    absurd (none_is (sym (no_instance read) ∙ ap (past_instances 0) (sym all) ∙ past))
-sources_past_limit files units read main p entries _ have are is all (passes past) =
-    legal.too_many_nodes have (ap (λ us. elaborated us main) (sym are) ∙ is) (ap (λ us. first_past 0 (map entry_of us)) (sym are) ∙ (ap (first_past 0) (sym all) ∙ past))
-sources_past_limit files units read main p entries _ have are is all no_memory = tt
+-- sources whose units are refused are
+pub sources_refused : (files : List SourceFile) (us read : List LibraryUnit) (main : List ℕ) (f : Failure SourceFault) → HaveUnits files us → read ≡ us
+    → RefusesUnits read (str_to_ascii_lowercase main) f → RefusesFor files main f
+sources_refused files us read main f have are refused = told f (subst (λ vs. RefusesUnits vs (str_to_ascii_lowercase main) f) are refused)
+  where
+    told : (f : Failure SourceFault) → RefusesUnits us (str_to_ascii_lowercase main) f → RefusesFor files main f
+    told (Fault fault) refused = units.refused_units have refused
+    told WantOfMemory refused = tt
 
 pub sources_failed : (files : List SourceFile) (main : List ℕ) (f : Failure SourceFault) → FailsFor files f → RefusesFor files main f
-sources_failed files main (Fault fault) none = legal.no_units none
+sources_failed files main (Fault fault) none = units.no_units none
 sources_failed files main WantOfMemory none = tt
 
 -- what an exit passes on

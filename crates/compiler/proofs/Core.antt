@@ -1,39 +1,39 @@
 -- The object that is built of a legal program and its sources is the sources' object, and cheap.
-use Rattle.std.proofs.Common.{◌≡◌, ℕ, ◌≤◌, ◌<◌, ◌&&◌, Bool, true, nat_lt, nat_le, List, [], ◌∷◌, length, map, sum_by, Some, None, All, refl, sym, ap, ◌∙◌, subst, arith}
+use Rattle.std.proofs.Common.{◌≡◌, ℕ, ◌≤◌, ◌<◌, ◌&&◌, Bool, true, nat_lt, nat_le, List, [], ◌∷◌, length, map, sum_by, All, refl, sym, ap, ◌∙◌, subst, arith}
 use Rattle.std.specs.List.{list_all, AllByRecursion}
-use Rattle.std.specs.Str.{is_utf8}
+use Rattle.std.specs.Str.{is_utf8, str_to_ascii_lowercase}
 use Rattle.std.proofs.lemmas.Bool.Decides.{nat_tests}
 use Rattle.std.proofs.lemmas.List.{length-map}
 use Rattle.std.proofs.lemmas.List.Elements.{All-from_recursion, recursion_from_All}
 use Rattle.ada_meaning.specs.Program.{Program}
-use Rattle.ada_syntax.specs.Nodes.{capped, unit_nodes}
+use Rattle.ada_syntax.specs.Nodes.{unit_nodes}
 use Rattle.ada_syntax.specs.declared.unit.Unit.{Unit as LibraryUnit}
-use Rattle.ada_types.specs.Checked.{entry_of}
-use Rattle.ada_types.specs.Legal.{elaborated}
-use Rattle.ada_places.specs.Places.{places_of, decision_places, unit_conditions}
+use Rattle.ada_parser.specs.Opening.{open_extent}
+use Rattle.legal_counts.specs.ConditionPlaces.{units_conditions}
+use Rattle.legal_programs.specs.DecisionPlaces.{units_decisions}
+use Rattle.legal_programs.specs.TextPlaces.{units_places}
 use Rattle.compiler.proofs.Legal.{compilable_law, made_of, passes_law, behaves_law, in_time_law}
-use Rattle.compiler.proofs.FewNodes.{few_units}
 use Rattle.compiler.proofs.MarksOf.{marks_law}
 use Rattle.compiler.proofs.Placing.{text_bound}
 use Rattle.compiler.specs.Built.{HasPlainName, CanBeNamed, AreLegal, IsBuiltOf}
 use Rattle.compiler.specs.Compiled.{IsCompiled}
-use Rattle.compiler.specs.Made.{IsCompilable}
+use Rattle.compiler.specs.Legal.{IsLegal, AreProgram}
 use Rattle.compiler.specs.Source.{entry_of_file, IsObjectOf, IsCheap}
+use Rattle.compiler.specs.Texts.{IsOfText}
 use Rattle.cov_base.specs.declared.obligations.SourceFile.{SourceFile}
+use Rattle.cov_base.specs.Lists.{Everywhere}
 use Rattle.cov_base.specs.declared.position.Pos.{Pos}
-use Rattle.generic_expand.specs.Expanded.{first_past}
-use Rattle.ada_tree.specs.declared.program.Program.{Program as TypedProgram}
-use Rattle.ada_tree.specs.Programs.{program_of}
-use Rattle.compiler.specs.Kernels.{CanBeLaid}
-use Rattle.compiler.proofs.LaidPrograms.{laid_law, nodes_law}
-use Rattle.ada_places.specs.Rising.{StatementsRise, DecisionsRise}
 use Rattle.object_format.specs.Counts.{FileFits}
 use Rattle.object_format.specs.Fields.{are_files}
 use Rattle.object_format.specs.File.{closed_object}
 use Rattle.object_format.specs.Read.{IsObject, HasObject}
 use Rattle.object_format.specs.declared.object.FileEntry.{FileEntry}
 use Rattle.object_format.specs.declared.object.Object.{Object}
-use Rattle.parsed_programs.specs.Places.{AreInFiles}
+use Rattle.parsed_texts.specs.Parsed.{AreOfFiles}
+use Rattle.parsed_texts.specs.Places.{AreInFiles}
+use Rattle.parsed_texts.proofs.Conditions.{conditions_within}
+use Rattle.parsed_texts.proofs.Decisions.{decisions_within}
+use Rattle.parsed_texts.proofs.Statements.{statements_within}
 use Rattle.compiler.specs.Units.{HaveUnits}
 
 both_hold : (a b : Bool) → a ≡ true → b ≡ true → (a && b) ≡ true
@@ -59,8 +59,15 @@ entries_are_files files can =
     (counted (length (map entry_of_file files)) (omega (arith, long, can.some)) (omega (arith, long, can.few)))
     (names_are_utf8 files (recursion_from_All HasPlainName files can.names))
 
-entered : (files : List SourceFile) (p : Program) (o : Object) (places : List Pos) → IsBuiltOf files p o → AreInFiles (length files) places → AreInFiles (length o.files) places
-entered files p o places built within = subst (λ n. AreInFiles n places) (sym (ap length built.sources ∙ length-map files entry_of_file)) within
+-- places in so many files
+abbrev AreInFilesOf : List Pos → ℕ → Type 0
+AreInFilesOf places files = AreInFiles files places
+
+abbrev AreAllInFilesOf : List (List Pos) → ℕ → Type 0
+AreAllInFilesOf lists files = Everywhere (AreInFiles files) lists
+
+entered : (files : List SourceFile) (p : Program) (o : Object) (P : ℕ → Type 0) → IsBuiltOf files p o → P (length files) → P (length o.files)
+entered files p o P built within = subst P (sym (ap length built.sources ∙ length-map files entry_of_file)) within
 
 compiled_of : (files : List SourceFile) (main : List ℕ) (p : Program) (o : Object) (legal : AreLegal files main p) → CanBeNamed files → IsBuiltOf files p o → IsCompiled legal.units p o
 compiled_of files main p o legal can built = record {
@@ -70,9 +77,9 @@ compiled_of files main p o legal can built = record {
   obligations = built.obligations;
   files = ap are_files built.sources ∙ entries_are_files files can;
   names = subst (λ fs. All FileFits fs) (sym built.sources) (All-from_recursion FileFits (map entry_of_file files) (names_fit files (recursion_from_All HasPlainName files can.names)));
-  places = entered files p o (places_of legal.units) built legal.within;
-  decisions = entered files p o (decision_places legal.units) built legal.decisions_within;
-  conditions = entered files p o (unit_conditions legal.units) built legal.conditions_within;
+  places = entered files p o (AreInFilesOf (units_places legal.units)) built (statements_within open_extent (length files) legal.units legal.program.read);
+  decisions = entered files p o (AreInFilesOf (units_decisions legal.units)) built (decisions_within open_extent (length files) legal.units legal.program.read);
+  conditions = entered files p o (AreAllInFilesOf (units_conditions legal.units)) built (conditions_within open_extent (length files) legal.units legal.program.read);
 }
 
 -- the closing digest enters none of this
@@ -94,66 +101,52 @@ closed_is_built files p o built = record {
   obligations = built.obligations;
 }
 
-module _ (files : List SourceFile) (main : List ℕ) (p : Program) (o : Object) (can : CanBeNamed files) (legal : AreLegal files main p) (built : IsBuiltOf files p o) where
-  few : sum_by (λ u. capped (unit_nodes u)) legal.units ≤ 4096
-  few = few_units legal.units legal.small
+-- what was read and accepted is a legal program
+abbrev legal_is : (files : List SourceFile) (main : List ℕ) (p : Program) → AreLegal files main p → IsLegal files main p
+legal_is files main p legal = record { units = legal.units; parsed = legal.parsed; program = legal.program.program }
+
+module _ (files : List SourceFile) (main : List ℕ) (p : Program) (o : Object) (can : CanBeNamed files) (legal : AreLegal files main p) (text : IsOfText legal.units p)
+    (few : sum_by unit_nodes legal.units ≤ 4096) (built : IsBuiltOf files p o) where
+  abbrev lower : List ℕ
+  lower = str_to_ascii_lowercase main
 
   compiled : IsCompiled legal.units p o
   compiled = compiled_of files main p o legal can built
 
   -- it can be written
   pub written_law : HasObject o
-  written_law = (passes_law legal.units main p o legal.elaborated legal.rising legal.decisions_rising few compiled).0
+  written_law = (passes_law (length files) legal.units lower p o legal.program text few compiled).0
 
   -- what is read back of it is the sources' object
   object_law : IsObject o → IsObjectOf files main p o
   object_law is = record {
-    legal = record { units = legal.units; parsed = legal.parsed; elaborated = legal.elaborated; few = legal.small };
+    legal = legal_is files main p legal;
     checked = is;
-    plain = (passes_law legal.units main p o legal.elaborated legal.rising legal.decisions_rising few compiled).1;
+    plain = (passes_law (length files) legal.units lower p o legal.program text few compiled).1;
     sources = built.sources;
     obligations = built.obligations;
-    marks = marks_law p o (compilable_law legal.units main p legal.elaborated legal.rising legal.decisions_rising few) (made_of legal.units main p o legal.elaborated legal.rising legal.decisions_rising compiled);
-    behaves = behaves_law legal.units main p o legal.elaborated legal.rising legal.decisions_rising few compiled;
+    marks = marks_law p o (compilable_law legal.units p text few) (made_of (length files) legal.units lower p o legal.program text compiled);
+    behaves = behaves_law (length files) legal.units lower p o legal.program text few compiled;
   }
 
   cheap_law : IsCheap files main p o
   cheap_law = record {
-    legal = record { units = legal.units; parsed = legal.parsed; elaborated = legal.elaborated; few = legal.small };
-    in_time = in_time_law legal.units main p o legal.elaborated legal.rising legal.decisions_rising few compiled;
-    small = text_bound p built.kernel o (sum_by unit_nodes legal.units) built.is_kernel built.holds (nodes_law legal.units main p legal.elaborated);
+    legal = legal_is files main p legal;
+    in_time = in_time_law (length files) legal.units lower p o legal.program text few compiled;
+    small = text_bound p built.kernel o (sum_by unit_nodes legal.units) built.is_kernel built.holds text.nodes;
   }
 
-pub closed_law : (files : List SourceFile) (main : List ℕ) (p : Program) (o : Object) → CanBeNamed files → AreLegal files main p → IsBuiltOf files p o → IsObject (closed_object o)
-    → IsObjectOf files main p (closed_object o) × IsCheap files main p (closed_object o)
-closed_law files main p o can legal built is =
+pub closed_law : (files : List SourceFile) (main : List ℕ) (p : Program) (o : Object) → CanBeNamed files → (legal : AreLegal files main p) → IsOfText legal.units p
+    → sum_by unit_nodes legal.units ≤ 4096 → IsBuiltOf files p o → IsObject (closed_object o) → IsObjectOf files main p (closed_object o) × IsCheap files main p (closed_object o)
+closed_law files main p o can legal text few built is =
     let whole = closed_is_built files p o built in
-    (object_law files main p (closed_object o) can legal whole is, cheap_law files main p (closed_object o) can legal whole)
-
--- the object whose digest has been added
-pub made_law : (files : List SourceFile) (main : List ℕ) (p : Program) (o made : Object) → CanBeNamed files → AreLegal files main p → IsBuiltOf files p o → made ≡ closed_object o → IsObject made
-    → IsObjectOf files main p made × IsCheap files main p made
-made_law files main p o made can legal built is checked =
-    subst (λ x. IsObjectOf files main p x × IsCheap files main p x) (sym is) (closed_law files main p o can legal built (subst (λ x. IsObject x) is checked))
+    (object_law files main p (closed_object o) can legal text few whole is, cheap_law files main p (closed_object o) can legal text few whole)
 
 -- what has been read and checked
-pub legal_of : (files : List SourceFile) (units read : List LibraryUnit) (main : List ℕ) (p : Program) → HaveUnits files units → StatementsRise units → DecisionsRise units
-    → AreInFiles (length files) (places_of units) → AreInFiles (length files) (decision_places units) → AreInFiles (length files) (unit_conditions units)
-    → read ≡ units → elaborated read main ≡ Some p → first_past 0 (map entry_of read) ≡ None → AreLegal files main p
-legal_of files units read main p parsed rises decisions_rise within decisions conditions are legal small = record {
+pub legal_of : (files : List SourceFile) (units read : List LibraryUnit) (main : List ℕ) (p : Program) → HaveUnits files units → AreOfFiles open_extent (length files) units
+    → read ≡ units → AreProgram read (str_to_ascii_lowercase main) p → AreLegal files main p
+legal_of files units read main p parsed of_files are program = record {
   units = units;
   parsed = parsed;
-  rising = rises;
-  decisions_rising = decisions_rise;
-  within = within;
-  decisions_within = decisions;
-  conditions_within = conditions;
-  elaborated = ap (λ us. elaborated us main) (sym are) ∙ legal;
-  small = ap (λ us. first_past 0 (map entry_of us)) (sym are) ∙ small;
+  program = record { read = of_files; program = subst (λ us. AreProgram us (str_to_ascii_lowercase main) p) are program };
 }
-
-pub laid_of : (files : List SourceFile) (main : List ℕ) (t : TypedProgram) → AreLegal files main (program_of t) → t.types ≡ [] → CanBeLaid t
-laid_of files main t legal flat = laid_law legal.units main t legal.elaborated flat legal.rising legal.decisions_rising legal.small
-
-pub able_law : (files : List SourceFile) (main : List ℕ) (p : Program) → AreLegal files main p → IsCompilable p
-able_law files main p legal = compilable_law legal.units main p legal.elaborated legal.rising legal.decisions_rising (few_units legal.units legal.small)

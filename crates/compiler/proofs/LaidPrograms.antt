@@ -1,56 +1,144 @@
--- Legal programs can be laid out: what they weigh, and where nothing stands so far.
-use Rattle.std.proofs.Common.{◌≡◌, ℕ, ◌-◌, ◌^◌, ◌<◌, ◌≤◌, length, List, [], ◌∷◌, map, Some, None, ap, arith}
-use Rattle.std.specs.Prelude.{sum_by}
-use Rattle.ada_meaning.specs.Program.{LibraryObject, Subprogram, Program}
-use Rattle.ada_places.specs.Rising.{StatementsRise, DecisionsRise}
-use Rattle.ada_syntax.specs.Nodes.{capped, unit_nodes}
-use Rattle.ada_syntax.specs.declared.unit.Unit.{Unit as LibraryUnit}
-use Rattle.ada_tree.specs.declared.program.LibraryObject.{LibraryObject as TypedObject}
-use Rattle.ada_tree.specs.declared.program.Program.{Program as TypedProgram}
-use Rattle.ada_tree.specs.Programs.{library_object_of, program_of, types_of}
-use Rattle.ada_types.specs.Checked.{entry_of}
-use Rattle.ada_types.specs.Legal.{elaborated}
-use Rattle.compiler.specs.Kernels.{CanBeLaid}
-use Rattle.compiler.proofs.FewNodes.{not_capped}
-use Rattle.compiler.proofs.FormedPrograms.{IsFormedProcedure, formed_facts}
-use Rattle.compiler.proofs.FormedTrees.{named_law, limits_law}
-use Rattle.compiler.proofs.WellFormed.{well_formed_law}
+-- Legal programs are plain, and can be laid out.
+use Rattle.std.proofs.Common.{◌≡◌, ℕ, zero, suc, ◌+◌, ◌≤◌, List, [], ◌∷◌, length, map, Some, slice_get, refl, sym, ap, ◌∙◌, subst, arith}
+use Rattle.std.specs.Prelude.{option_map, sum_by}
+use Rattle.std.specs.Option.{option_and_then}
+use Rattle.std.proofs.lemmas.List.{length-map}
+use Rattle.std.proofs.lemmas.List.Sums.{sum_by-cons}
+use Rattle.std.proofs.lemmas.Option.{slice_get-map}
 use Rattle.cov_base.specs.Lists.{Everywhere}
-use Rattle.generic_expand.specs.Expanded.{first_past}
-use Rattle.statement_code.specs.Kernels.{AreOutside}
-use Rattle.statement_code.specs.Sizes.{subprogram_nodes}
+use Rattle.ada_syntax.specs.Nodes.{unit_nodes}
+use Rattle.ada_syntax.specs.declared.unit.Unit.{Unit as LibraryUnit}
+use Rattle.ada_meaning.specs.Bodies.{StandsIn}
+use Rattle.ada_meaning.specs.Obligations.{ListedException}
+use Rattle.ada_meaning.specs.Program as meaning
+use Rattle.ada_meaning.specs.Statics.{InstanceValues, values_of}
+use Rattle.ada_meaning.specs.Types as type
+use Rattle.ada_meaning.specs.WellFormed.{IsWellFormed}
+use Rattle.ada_parser.specs.Opening.{open_extent}
+use Rattle.ada_resolved.specs.Library.{with_objects, instance_size, with_instances, program_size}
+use Rattle.ada_resolved.specs.Sizes.{with_component, type_size, words}
+use Rattle.ada_tree.specs.declared.program.Program.{Program}
+use Rattle.ada_tree.specs.declared.program.Subprogram.{Subprogram}
+use Rattle.ada_tree.specs.declared.types.Subtype.{Subtype}
+use Rattle.ada_tree.specs.Programs.{library_object_of, program_of, raisable_of, subprogram_of, types_of, unfolded}
+use Rattle.ada_tree.specs.View as view
+use Rattle.legal_counts.specs.ObjectWords as text
+use Rattle.legal_instances.specs.InOrder.{UnitsRise}
+use Rattle.legal_laws.specs.Bounded.{IsBounded, AreObjectsBounded}
+use Rattle.legal_programs.specs.DecisionPlaces.{units_decisions}
+use Rattle.legal_programs.specs.InText.{Rise}
+use Rattle.legal_programs.specs.TextPlaces.{units_places}
+use Rattle.legal_texts.specs.Subprograms.{AreSubprograms}
+use Rattle.legal_texts.specs.UnitTexts.{AreUnitTexts}
+use Rattle.lower.specs.Standing.{AreTypesNamed, IsSized, IsWithinLimits, most_declared_words, size_of, words_of_objects}
+use Rattle.lower.proofs.LaidObjects.{named_known}
+use Rattle.parsed_texts.proofs.Decisions.{decisions_rise}
+use Rattle.parsed_texts.proofs.Statements.{statements_rise_weakly, units_rise}
+use Rattle.parsed_texts.proofs.Texts.{texts_of}
+use Rattle.statement_code.specs.Sizes.{block_nodes, subprogram_nodes}
+use Rattle.compiler.specs.Kernels.{CanBeLaid}
+use Rattle.compiler.specs.Texts.{AreUnitsOf, IsOfText, IsPlain}
+use Rattle.compiler.proofs.PlainUnits.{ordered_none, objects_none, only_subprograms, outside_law}
+use Rattle.compiler.proofs.UnfoldedSizes.{block_alike}
 
-pub as_many_law : (us : List LibraryUnit) (main : List ℕ) (p : Program) → elaborated us main ≡ Some p → length p.subprograms ≡ length us
-as_many_law us main p legal = (formed_facts us main p legal).units.as_many
+-- where types have the sizes that the rules count, they have sizes
+sized_by : (v : InstanceValues) (inst : ℕ) (counts : type.Subtype → ℕ) (ts : List type.Subtype) → Everywhere (λ t. type_size v inst t ≡ Some (counts t)) ts
+    → Everywhere (λ t. IsSized (type_size v inst t)) ts
+sized_by v inst counts [] h = tt
+sized_by v inst counts (t ∷ ts) h = (subst IsSized (sym h.0) tt, sized_by v inst counts ts h.1)
 
-pub nodes_law : (us : List LibraryUnit) (main : List ℕ) (p : Program) → elaborated us main ≡ Some p → sum_by subprogram_nodes p.subprograms ≤ sum_by unit_nodes us
-nodes_law us main p legal = (formed_facts us main p legal).units.size
+-- what laws on the text of such programs say of this one
+pub record Laws (units : List LibraryUnit) (main : List ℕ) (p : meaning.Program) : Type 0 where
+  pub well : AreSubprograms units → Rise (units_places units) → Rise (units_decisions units) → AreUnitTexts units → IsWellFormed p
+  pub bounded : AreSubprograms units → Rise (units_places units) → Rise (units_decisions units) → AreUnitTexts units → AreObjectsBounded p
+  pub sized : UnitsRise units → (m inst : ℕ) (s : meaning.Subprogram) → slice_get p.subprograms m ≡ Some s → StandsIn p s.generic inst
+      → Everywhere (IsBounded p inst) s.objects → (counts : type.Subtype → ℕ) × Everywhere (λ t. type_size (values_of p) inst t ≡ Some (counts t)) s.objects
+  pub declared : UnitsRise units → (m inst : ℕ) (s : meaning.Subprogram) → slice_get p.subprograms m ≡ Some s → StandsIn p s.generic inst
+      → Everywhere (IsBounded p inst) s.objects → text.words_of_objects p inst s.objects ≤ most_declared_words
 
-pub limit_law : (us : List LibraryUnit) (main : List ℕ) (p : Program) (limit : ℕ) → elaborated us main ≡ Some p → limit < 2 ^ 32 - 1
-    → sum_by (λ u. capped (unit_nodes u)) us ≤ limit → sum_by subprogram_nodes p.subprograms ≤ limit
-limit_law us main p limit legal small few =
-    let nodes = nodes_law us main p legal in
-    let all = not_capped us limit small few in
-    omega (arith, nodes, all, few)
-
-all_outside : (p : Program) (ss : List Subprogram) → Everywhere (IsFormedProcedure p) ss → AreOutside ss
-all_outside p [] each = tt
-all_outside p (s ∷ ss) each = (each.0.main.apart, all_outside p ss each.1)
+pub plain_law : (files : ℕ) (units : List LibraryUnit) (main : List ℕ) (p : meaning.Program) → AreUnitsOf files units main p → Laws units main p → IsPlain p
+plain_law files units main p h laws =
+    let subs = only_subprograms files units main p h in
+    let statements = statements_rise_weakly open_extent files units h.read in
+    let decisions = decisions_rise open_extent files units h.read in
+    let texts = texts_of open_extent files units h.read in
+    let well = laws.well subs statements decisions texts in
+    let bounded = laws.bounded subs statements decisions texts in
+    let rise = units_rise open_extent files units h.read in
+    record {
+      well = well;
+      outside = outside_law files units main p h;
+      no_objects = objects_none files units main p h;
+      no_exceptions = well.numbered.exceptions ∙ ap (map (λ (x : ListedException). x.entry)) (ordered_none files units main p h);
+      sized = λ m inst s at stands.
+          let counted = laws.sized rise m inst s at stands (bounded m inst s at stands) in
+          sized_by (values_of p) inst counted.0 s.objects counted.1;
+      declared = λ m inst s at stands. laws.declared rise m inst s at stands (bounded m inst s at stands);
+    }
 
 -- what comes to nothing is nothing
-none_from : (os : List TypedObject) (f : TypedObject → LibraryObject) → map f os ≡ [] → os ≡ []
-none_from [] f none = λ i. []
-none_from (o ∷ os) f none = let long = ap (λ (xs : List LibraryObject). length xs) none in absurd (omega (arith, long))
+none_from : {X Y : Type 0} (f : X → Y) (xs : List X) → map f xs ≡ [] → xs ≡ []
+none_from f [] none = λ i. []
+none_from {X} {Y} f (x ∷ xs) none = let long = ap (λ (ys : List Y). length ys) none in absurd (omega (arith, long))
 
-pub laid_law : (us : List LibraryUnit) (main : List ℕ) (t : TypedProgram) → elaborated us main ≡ Some (program_of t) → t.types ≡ [] → StatementsRise us → DecisionsRise us
-    → first_past 0 (map entry_of us) ≡ None → CanBeLaid t
-laid_law us main t legal flat rise decisions_rise small =
-    let facts = formed_facts us main (program_of t) legal in
-    record {
-      well = well_formed_law us main (program_of t) legal rise decisions_rise;
-      named = named_law us main t legal flat;
-      limits = limits_law us main t legal flat small;
-      outside = all_outside (program_of t) (program_of t).subprograms facts.units.procedures;
-      bare = none_from t.objects (library_object_of (types_of t.types)) (ap (λ (p : Program). p.objects) facts.same);
-      flat = flat;
-    }
+-- nodes, each within what all have
+all_small : (types : List type.Subtype) (ss : List Subprogram) (limit : ℕ) → sum_by subprogram_nodes (map (subprogram_of types) ss) ≤ limit
+    → Everywhere (λ (s : Subprogram). block_nodes s.body ≤ limit) ss
+all_small types [] limit h = tt
+all_small types (s ∷ ss) limit h =
+    let all = sum_by-cons subprogram_nodes (subprogram_of types s) (map (subprogram_of types) ss) in
+    let same = block_alike types s.body in
+    (omega (arith, h, all, same), all_small types ss limit (omega (arith, h, all)))
+
+-- where nothing is declared at the library level, it has a size
+none_there : (p : meaning.Program) → p.objects ≡ [] → (inst : ℕ) → instance_size p inst ≡ Some 0
+none_there p bare inst = ap (λ (os : List meaning.LibraryObject). with_objects p inst 0 os) bare
+
+instances_sized : (p : meaning.Program) → p.objects ≡ [] → (count inst : ℕ) → with_instances p 0 count inst ≡ Some 0
+instances_sized p bare zero inst = refl
+instances_sized p bare (suc count) inst =
+    ap (λ size. option_and_then (λ w. with_instances p w count (inst + 1)) (with_component 0 size)) (none_there p bare inst)
+    ∙ instances_sized p bare count (inst + 1)
+
+library_sized : (p : meaning.Program) → p.objects ≡ [] → IsSized (program_size p)
+library_sized p bare = subst IsSized (sym (instances_sized p bare (length p.instances + 1) 0)) tt
+
+module _ (t : Program) (plain : IsPlain (program_of t)) where
+  seen_at : (m : ℕ) (s : Subprogram) → slice_get t.subprograms m ≡ Some s → slice_get (program_of t).subprograms m ≡ Some (subprogram_of (types_of t.types) s)
+  seen_at m s at = slice_get-map (subprogram_of (types_of t.types)) t.subprograms m ∙ ap (option_map (subprogram_of (types_of t.types))) at
+
+  abbrev meant : Subtype → type.Subtype
+  meant o = unfolded (types_of t.types) (view.subtype_of o)
+
+  objects_sized : (inst : ℕ) (os : List Subtype) → Everywhere (λ o. IsSized (type_size (values_of (program_of t)) inst o)) (map meant os)
+      → Everywhere (λ o. IsSized (size_of t inst o)) os
+  objects_sized inst [] h = tt
+  objects_sized inst (o ∷ os) h = (h.0, objects_sized inst os h.1)
+
+  objects_words : (inst : ℕ) (os : List Subtype) → words_of_objects t inst os ≡ text.words_of_objects (program_of t) inst (map meant os)
+  objects_words inst [] = refl
+  objects_words inst (o ∷ os) = λ i. words (named_known t inst o i) + objects_words inst os i
+
+  pub limits_law : sum_by subprogram_nodes (program_of t).subprograms ≤ 4096 → IsWithinLimits t
+  limits_law small = record {
+    sized = λ m inst s at stands. objects_sized inst s.objects (plain.sized m inst (subprogram_of (types_of t.types) s) (seen_at m s at) stands);
+    declared = λ m inst s at stands.
+        subst (λ n. n ≤ most_declared_words) (sym (objects_words inst s.objects)) (plain.declared m inst (subprogram_of (types_of t.types) s) (seen_at m s at) stands);
+    library = library_sized (program_of t) plain.no_objects;
+    nodes = all_small (types_of t.types) t.subprograms 4096 small;
+    exceptions = let none = exceptions_none in omega (arith, none);
+  }
+    where
+      exceptions_none : length t.exceptions ≡ 0
+      exceptions_none = sym (length-map t.exceptions raisable_of) ∙ ap (λ (xs : List meaning.Raisable). length xs) plain.no_exceptions
+
+pub laid_law : (files : ℕ) (units : List LibraryUnit) (main : List ℕ) (t : Program) → AreUnitsOf files units main (program_of t) → sum_by unit_nodes units ≤ 4096
+    → IsOfText units (program_of t) → IsPlain (program_of t) → AreTypesNamed t → t.types ≡ [] → CanBeLaid t
+laid_law files units main t h few of_text plain named flat = record {
+  well = plain.well;
+  named = named;
+  limits = limits_law t plain (let nodes = of_text.nodes in omega (arith, few, nodes));
+  outside = plain.outside;
+  bare = none_from (library_object_of (types_of t.types)) t.objects plain.no_objects;
+  flat = flat;
+}

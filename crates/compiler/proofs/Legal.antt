@@ -1,73 +1,76 @@
--- Legal units whose statements rise, within the limit on nodes, can be compiled, and their object passes the checks and behaves.
-use Rattle.std.proofs.Common.{◌≡◌, ◌≤◌, ℕ, ◌<◌, length, map, true, List, [], sum_by, Some, sym, ap, subst, ◌∙◌, arith}
+-- Legal units can be compiled, and their object passes the checks and behaves.
+use Rattle.std.proofs.Common.{◌≡◌, ◌≤◌, ℕ, ◌<◌, length, map, true, List, [], sum_by, sym, ap, subst, ◌∙◌, arith}
 use Rattle.std.proofs.lemmas.List.{length-map}
-use Rattle.ada_meaning.specs.Collected.{decisions_of}
+use Rattle.ada_meaning.specs.Collected.{labels_of, decisions_of}
 use Rattle.ada_meaning.specs.Program.{Program}
-use Rattle.ada_syntax.specs.Nodes.{capped, unit_nodes}
+use Rattle.ada_parser.specs.Opening.{open_extent}
+use Rattle.ada_syntax.specs.Nodes.{unit_nodes}
 use Rattle.ada_syntax.specs.declared.unit.Unit.{Unit as LibraryUnit}
-use Rattle.ada_types.specs.Legal.{elaborated}
-use Rattle.ada_places.specs.Places.{places_of, decisions_of_units}
+use Rattle.legal_programs.specs.TextPlaces.{units_places}
+use Rattle.parsed_texts.proofs.Decisions.{decisions_rise}
+use Rattle.parsed_texts.proofs.Statements.{statements_rise}
 use Rattle.compiler.proofs.Images.{image_behaves, image_ends_in_time}
 use Rattle.compiler.proofs.Sound.{made_law}
 use Rattle.compiler.proofs.Statements.{places_are_statements, decisions_stand}
 use Rattle.compiler.specs.Behaves.{Behaves, EndsInTime}
 use Rattle.compiler.specs.Compiled.{IsCompiled}
 use Rattle.compiler.specs.Made.{IsCompilable, IsMadeOf}
+use Rattle.compiler.specs.Texts.{AreUnitsOf, IsOfText}
 use Rattle.compiler.proofs.LabelCounts.{labels_few}
-use Rattle.compiler.proofs.ListedLaws.{places_law, conditions_law, few_law, once_law, held_law}
-use Rattle.compiler.proofs.Numbered.{numbered_law, stay_law, decisions_stay_law, decision_places_law, obligations_law}
-use Rattle.compiler.proofs.Order.{found_rise, found_ordered}
-use Rattle.compiler.proofs.LaidPrograms.{limit_law}
 use Rattle.cov_base.specs.Lists.{Everywhere}
 use Rattle.compiler.specs.Listed.{entry_at, obligations_at}
-use Rattle.ada_places.specs.Rising.{StatementsRise, DecisionsRise}
 use Rattle.object_format.specs.Fields.{are_statements, are_decisions}
 use Rattle.object_format.specs.Read.{HasObject, is_plain}
 use Rattle.object_format.specs.declared.object.Object.{Object}
 
-pub compilable_law : (units : List LibraryUnit) (main : List ℕ) (p : Program) → elaborated units main ≡ Some p → StatementsRise units → DecisionsRise units
-    → sum_by (λ u. capped (unit_nodes u)) units ≤ 4096 → IsCompilable p
-compilable_law units main p legal rises decisions_rise few = record {
-  numbered = numbered_law units main p legal rises decisions_rise;
-  in_order = stay_law units main p legal rises;
-  decisions_in_order = decisions_stay_law units main p legal decisions_rise;
-  few_conditions = few_law units main p legal;
-  once = once_law units main p legal;
-  few = limit_law units main p 4096 legal (omega arith) few;
-  few_statements = let counted = labels_few p.subprograms in let nodes = limit_law units main p 4096 legal (omega arith) few in omega (arith, counted, nodes);
-}
+pub compilable_law : (units : List LibraryUnit) (p : Program) → IsOfText units p → sum_by unit_nodes units ≤ 4096 → IsCompilable p
+compilable_law units p text few =
+    let nodes = text.nodes in
+    let counted = labels_few p.subprograms in
+    record {
+      numbered = text.numbered;
+      in_order = text.statements_in_order;
+      decisions_in_order = text.decisions_in_order;
+      few_conditions = text.few_conditions;
+      once = text.once;
+      few = omega (arith, few, nodes);
+      few_statements = omega (arith, counted, few, nodes);
+    }
 
-pub made_of : (units : List LibraryUnit) (main : List ℕ) (p : Program) (o : Object) → elaborated units main ≡ Some p → StatementsRise units → DecisionsRise units → IsCompiled units p o → IsMadeOf p o
-made_of units main p o legal rises decisions_rise compiled =
+pub made_of : (files : ℕ) (units : List LibraryUnit) (main : List ℕ) (p : Program) (o : Object) → AreUnitsOf files units main p → IsOfText units p → IsCompiled units p o
+    → IsMadeOf p o
+made_of files units main p o h text compiled =
     let hs = decisions_of p.subprograms in
-    let listed : o.obligations ≡ obligations_at (places_of units) hs [] = compiled.obligations ∙ obligations_law units main p legal [] rises decisions_rise in
+    let listed : o.obligations ≡ obligations_at (units_places units) hs [] = compiled.obligations ∙ text.obligations in
+    let count : length (labels_of p.subprograms) ≡ length (map entry_at (units_places units)) =
+    sym (length-map (labels_of p.subprograms) (λ l. l.place)) ∙ (ap length text.statements ∙ sym (length-map (units_places units) entry_at)) in
     record {
       kernel = compiled.kernel;
       is_kernel = compiled.is_kernel;
       holds = compiled.holds;
-      obligations = listed ∙ ap (λ ps. obligations_at ps hs []) (sym (places_law units main p legal));
+      obligations = listed ∙ ap (λ ps. obligations_at ps hs []) (sym text.statements);
       files = compiled.files;
       names = compiled.names;
-      statements = ap (λ ob. are_statements (length o.files) ob.statements) listed ∙ places_are_statements (length o.files) (places_of units) rises compiled.places;
+      statements = ap (λ ob. are_statements (length o.files) ob.statements) listed
+          ∙ places_are_statements (length o.files) (units_places units) (statements_rise open_extent files units h.read) compiled.places;
       decisions = ap (λ ob. are_decisions (length o.files) (length ob.statements) ob.decisions) listed
-          ∙ decisions_stand (length o.files) (length (map entry_at (places_of units))) hs (decisions_of_units units) (decision_places_law units main p legal)
-          (conditions_law units main p legal) (few_law units main p legal)
-          (subst (λ n. Everywhere (λ h. h.statement < n) hs) (sym (length-map (places_of units) entry_at)) (held_law units main p legal))
-          (found_ordered (decisions_of_units units) (found_rise (decisions_of_units units) decisions_rise)) compiled.decisions compiled.conditions;
+          ∙ decisions_stand (length o.files) (length (map entry_at (units_places units))) hs _ _ text.decisions text.conditions text.few_conditions
+          (subst (λ n. Everywhere (λ h. h.statement < n) hs) count text.held) (decisions_rise open_extent files units h.read) compiled.decisions compiled.conditions;
     }
 
-pub passes_law : (units : List LibraryUnit) (main : List ℕ) (p : Program) (o : Object) → elaborated units main ≡ Some p → StatementsRise units → DecisionsRise units
-    → sum_by (λ u. capped (unit_nodes u)) units ≤ 4096 → IsCompiled units p o → HasObject o × (is_plain o ≡ true)
-passes_law units main p o legal rises decisions_rise few compiled = made_law p o (compilable_law units main p legal rises decisions_rise few) (made_of units main p o legal rises decisions_rise compiled)
+module _ (files : ℕ) (units : List LibraryUnit) (main : List ℕ) (p : Program) (o : Object) (h : AreUnitsOf files units main p) (text : IsOfText units p)
+    (few : sum_by unit_nodes units ≤ 4096) (compiled : IsCompiled units p o) where
+  able : IsCompilable p
+  able = compilable_law units p text few
 
-pub behaves_law : (units : List LibraryUnit) (main : List ℕ) (p : Program) (o : Object) → elaborated units main ≡ Some p → StatementsRise units → DecisionsRise units
-    → sum_by (λ u. capped (unit_nodes u)) units ≤ 4096 → IsCompiled units p o → Behaves p o
-behaves_law units main p o legal rises decisions_rise few compiled =
-    let able = compilable_law units main p legal rises decisions_rise few in
-    image_behaves p o able (made_of units main p o legal rises decisions_rise compiled) (passes_law units main p o legal rises decisions_rise few compiled).0.sound
+  made : IsMadeOf p o
+  made = made_of files units main p o h text compiled
 
-pub in_time_law : (units : List LibraryUnit) (main : List ℕ) (p : Program) (o : Object) → elaborated units main ≡ Some p → StatementsRise units → DecisionsRise units
-    → sum_by (λ u. capped (unit_nodes u)) units ≤ 4096 → IsCompiled units p o → EndsInTime p o
-in_time_law units main p o legal rises decisions_rise few compiled =
-    let able = compilable_law units main p legal rises decisions_rise few in
-    image_ends_in_time p o able (made_of units main p o legal rises decisions_rise compiled) (passes_law units main p o legal rises decisions_rise few compiled).0.sound
+  pub passes_law : HasObject o × (is_plain o ≡ true)
+  passes_law = made_law p o able made
+
+  pub behaves_law : Behaves p o
+  behaves_law = image_behaves p o able made passes_law.0.sound
+
+  pub in_time_law : EndsInTime p o
+  in_time_law = image_ends_in_time p o able made passes_law.0.sound

@@ -16,27 +16,12 @@ pub mod Core
 pub mod Refusals
 pub mod Checked
 pub mod Placeable
-pub mod Options
-pub mod FormedExpressions
-pub mod FormedDeclarations
-pub mod FormedStatements
-pub mod FormedPrograms
 pub mod FewNodes
-pub mod FormedSizes
-pub mod FormedTrees
-pub mod WellFormed
-pub mod Decided
-pub mod Judgements
 pub mod Numbers
-pub mod ListedDeclarations
-pub mod ListedStatements
-pub mod Precedence
-pub mod ListedUnits
-pub mod Order
-pub mod ListedLaws
-pub mod Numbered
-pub mod Rows
+pub mod PlainUnits
+pub mod Texts
 pub mod UnitLaws
 mod Kernels
 mod LabelCounts
+pub mod UnfoldedSizes
 pub mod LaidPrograms

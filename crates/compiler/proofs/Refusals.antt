@@ -1,20 +1,15 @@
 -- Sources that are a legal program are not refused.
-use Rattle.std.proofs.Common.{◌≡◌, ℕ, false, List, ◌++◌, map, Option, Some, None, Result, Ok, Err, refl, sym, ap, ◌∙◌, subst}
+use Rattle.std.proofs.Common.{◌≡◌, ℕ, List, ◌++◌, Option, Some, None, Result, Ok, Err, refl, sym, ap, ◌∙◌, subst}
+use Rattle.std.specs.Str.{str_to_ascii_lowercase}
 use Rattle.ada_lexer.specs.declared.token.Token.{Token}
 use Rattle.ada_meaning.specs.Program.{Program}
 use Rattle.ada_parser.proofs.FileLaws.{file_unique}
 use Rattle.ada_syntax.specs.declared.unit.Unit.{Unit as LibraryUnit}
-use Rattle.ada_names.proofs.Laws.{offends_fails}
-use Rattle.ada_names.specs.Naming.{named}
-use Rattle.ada_names.specs.Rules.{BreaksNames}
-use Rattle.ada_types.proofs.Laws.{refused_is_illegal}
-use Rattle.ada_types.specs.Checked as checked
-use Rattle.ada_types.specs.Checked.{entry_of}
-use Rattle.ada_types.specs.Legal.{elaborated}
-use Rattle.compiler.specs.Legal.{IsLegal, AreRefused, no_units, breaks_names, breaks_types, passes_a_limit, too_many_nodes}
+use Rattle.ada_rules.specs.Legal as rules
+use Rattle.ada_rules.specs.Legal.{unnamed, mistyped, legal}
+use Rattle.compiler.specs.Legal.{entries_for, AreProgram, IsLegal, UnitsAreRefused, breaks_names, breaks_types, passes_a_limit, has_too_many_instances, has_too_many_nodes, AreRefused, no_units, refused_units}
 use Rattle.cov_base.specs.declared.obligations.SourceFile.{SourceFile}
-use Rattle.cov_base.specs.declared.position.Pos.{Pos}
-use Rattle.generic_expand.specs.Expanded.{first_past}
+use Rattle.generic_expand.specs.Expanded.{past_instances, first_past}
 use Rattle.ada_parser.specs.Opening.{open_extent}
 use Rattle.compiler.specs.Units.{all_tokens, first_nested, first_too_large, AreUnits, no_file, file_then, BreaksGrammar, here, behind, HaveTokens, HaveUnits, HaveNoUnits, too_large, without_tokens, too_deep, without_units}
 use Rattle.compiler.specs.declared.fault.SourceFault.{SourceFault}
@@ -58,20 +53,16 @@ have_units files units _ have (too_deep {tokens} {pos} fits same deep) =
 have_units files units fault have (without_units {tokens} flat breaks) =
     derived have.parsed (subst (λ lists. BreaksGrammar 0 lists fault) (one_tokens files tokens have.tokens flat have.flat) breaks)
 
--- units that break a rule on names don't keep them
-broken : (units : List LibraryUnit) (main : List ℕ) (pos : Pos) → BreaksNames units main pos → named units main ≡ false
-broken units main pos offends = offends_fails offends
+-- units that are a program within the limits are not refused
+units_not_refused : (us : List LibraryUnit) (main : List ℕ) (p : Program) (fault : SourceFault) → AreProgram us main p → UnitsAreRefused us main fault → ⊥
+units_not_refused us main p _ h (breaks_names {pos} is offends) = let e : unnamed pos ≡ legal p = sym is ∙ h.legal in let x : ⊥ = cc e in x
+units_not_refused us main p _ h (breaks_types {pos} is offends) = let e : mistyped pos ≡ legal p = sym is ∙ h.legal in let x : ⊥ = cc e in x
+units_not_refused us main p _ h (passes_a_limit {pos} is passed) = let e : rules.too_large pos ≡ legal p = sym is ∙ h.legal in let x : ⊥ = cc e in x
+units_not_refused us main p _ h (has_too_many_instances {pos = pos} is past) = none_some (past_instances 0 (entries_for us main)) pos h.few_instances past
+units_not_refused us main p _ h (has_too_many_nodes {pos = pos} is few past) = none_some (first_past 0 (entries_for us main)) pos h.few past
 
 pub not_refused : (files : List SourceFile) (main : List ℕ) (p : Program) (fault : SourceFault) → IsLegal files main p → AreRefused files main fault → ⊥
-not_refused files main p fault legal (no_units none) = have_units files legal.units fault legal.parsed none
-not_refused files main p _ legal (breaks_names {units} {pos} have offends) =
-    none_some (elaborated units main) p (refused_is_illegal broken units main _ (checked.breaks_names offends))
-    (ap (λ us. elaborated us main) (one_program files units legal.units have legal.parsed) ∙ legal.elaborated)
-not_refused files main p _ legal (breaks_types {units} {pos} have holds offends) =
-    none_some (elaborated units main) p (refused_is_illegal broken units main _ (checked.breaks_types holds offends))
-    (ap (λ us. elaborated us main) (one_program files units legal.units have legal.parsed) ∙ legal.elaborated)
-not_refused files main p _ legal (passes_a_limit {units} {ss} {pos} have holds typed past) =
-    none_some (elaborated units main) p (refused_is_illegal broken units main _ (checked.passes_a_limit holds typed past))
-    (ap (λ us. elaborated us main) (one_program files units legal.units have legal.parsed) ∙ legal.elaborated)
-not_refused files main p _ legal (too_many_nodes {units} {pos = pos} have is past) =
-    none_some (first_past 0 (map entry_of units)) pos (ap (λ us. first_past 0 (map entry_of us)) (one_program files units legal.units have legal.parsed) ∙ legal.few) past
+not_refused files main p fault h (no_units none) = have_units files h.units fault h.parsed none
+not_refused files main p fault h (refused_units {units} have refused) =
+    units_not_refused h.units (str_to_ascii_lowercase main) p fault h.program
+    (subst (λ us. UnitsAreRefused us (str_to_ascii_lowercase main) fault) (one_program files units h.units have h.parsed) refused)

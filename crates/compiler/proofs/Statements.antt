@@ -1,5 +1,5 @@
 -- Places that rise within files are places of statements and of decisions as an object has them.
-use Rattle.std.proofs.Common.{◌≡◌, ℕ, ◌<◌, ◌≤◌, ◌&&◌, ◌||◌, cond, Bool, true, false, nat_lt, nat_le, nat_eq, List, [], ◌∷◌, ◌++◌, length, map, refl, sym, ap, ◌∙◌, subst, arith, ◌⊎◌, inl, inr}
+use Rattle.std.proofs.Common.{◌≡◌, ℕ, ◌<◌, ◌≤◌, ◌&&◌, ◌||◌, cond, Bool, true, false, nat_lt, nat_le, nat_eq, List, [], ◌∷◌, length, map, refl, sym, ap, ◌∙◌, subst, arith, ◌⊎◌, inl, inr}
 use Rattle.std.specs.List.{list_all}
 use Rattle.std.specs.Ordering.{is_lt, is_le, ordering_then}
 use Rattle.std.specs.declared.cmp.Ordering.TheVariants.{Less, Equal, Greater}
@@ -8,10 +8,9 @@ use Rattle.ada_meaning.specs.Collected.{Standing, after_if, after_while, after_e
 use Rattle.ada_meaning.specs.Obligations.{letter_of, decision_entry, condition_entry}
 use Rattle.cov_base.specs.TextOrder.{precedes}
 use Rattle.ada_meaning.specs.Tree.{shape_of, conditions_of}
-use Rattle.ada_places.specs.Order.{AreOrdered}
-use Rattle.ada_places.specs.Places.{Found, place_of, conditions_of_found}
+use Rattle.legal_programs.specs.InText.{Rise}
 use Rattle.compiler.proofs.DecisionEntries.{AreFew, conditions_many, size_positive}
-use Rattle.parsed_programs.specs.Places.{IsInFiles, AreInFiles}
+use Rattle.parsed_texts.specs.Places.{IsInFiles, AreInFiles}
 use Rattle.cov_base.specs.declared.obligations.DecEntry.{DecEntry}
 use Rattle.cov_base.specs.declared.obligations.Place.{Place}
 use Rattle.cov_base.specs.declared.obligations.StmtEntry.{StmtEntry}
@@ -146,32 +145,19 @@ not_behind g h none =
 abbrev stays_or_rises : DecEntry → DecEntry → Bool
 stays_or_rises one next = is_at_most (decision_key one) (decision_key next)
 
-decisions_rise_after : (h : Decision) (hs : List Decision) → AreOrdered (map (λ g. g.label.place) (h ∷ hs)) → rising_after stays_or_rises (decision_entry h) (map decision_entry hs) ≡ true
+decisions_rise_after : (h : Decision) (hs : List Decision) → Rise (map (λ g. g.label.place) (h ∷ hs)) → rising_after stays_or_rises (decision_entry h) (map decision_entry hs) ≡ true
 decisions_rise_after h [] ordered = refl
 decisions_rise_after h (g ∷ hs) ordered =
     both_hold (stays_or_rises (decision_entry h) (decision_entry g)) (rising_after stays_or_rises (decision_entry g) (map decision_entry hs))
-    (not_behind h g ordered.0.0) (decisions_rise_after g hs ordered.1)
+    (not_behind h g ordered.0) (decisions_rise_after g hs ordered.1)
 
-decisions_rise : (hs : List Decision) → AreOrdered (map (λ h. h.label.place) hs) → rising stays_or_rises (map decision_entry hs) ≡ true
+decisions_rise : (hs : List Decision) → Rise (map (λ h. h.label.place) hs) → rising stays_or_rises (map decision_entry hs) ≡ true
 decisions_rise [] ordered = refl
 decisions_rise (h ∷ hs) ordered = decisions_rise_after h hs ordered
 
 -- the conditions of each are in the files
 abbrev AreConditionsIn : (files : ℕ) → List (List Pos) → Type 0
-AreConditionsIn files lists = Everywhere (λ ps. AreInFiles files ps) lists
-
-first_in : (files : ℕ) (ps qs : List Pos) → AreInFiles files (ps ++ qs) → AreInFiles files ps
-first_in files [] qs within = tt
-first_in files (p ∷ ps) qs within = (within.0, first_in files ps qs within.1)
-
-others_in : (files : ℕ) (ps qs : List Pos) → AreInFiles files (ps ++ qs) → AreInFiles files qs
-others_in files [] qs within = within
-others_in files (p ∷ ps) qs within = others_in files ps qs within.1
-
-found_in : (files : ℕ) (ds : List Found) → AreInFiles files (conditions_of_found ds) → AreConditionsIn files (map (λ d. d.conditions) ds)
-found_in files [] within = tt
-found_in files (d ∷ ds) within =
-    (first_in files d.conditions (conditions_of_found ds) within, found_in files ds (others_in files d.conditions (conditions_of_found ds) within))
+AreConditionsIn files lists = Everywhere (AreInFiles files) lists
 
 letters : (s : Standing) → is_letter (letter_of s) ≡ true
 letters after_if = refl
@@ -206,11 +192,11 @@ decisions_counted files statements (h ∷ hs) few held within conditions =
     both_hold (is_decision files statements (decision_entry h)) (list_all (is_decision files statements) (map decision_entry hs))
     (decision_counted files statements h few.0 held.0 within.0 conditions.0) (decisions_counted files statements hs few.1 held.1 within.1 conditions.1)
 
-pub decisions_stand : (files statements : ℕ) (hs : List Decision) (ds : List Found) → map (λ h. h.label.place) hs ≡ map place_of ds
-    → map (λ h. condition_places h.test) hs ≡ map (λ d. d.conditions) ds → AreFew hs → Everywhere (λ h. h.statement < statements) hs
-    → AreOrdered (map place_of ds) → AreInFiles files (map place_of ds) → AreInFiles files (conditions_of_found ds) → are_decisions files statements (map decision_entry hs) ≡ true
-decisions_stand files statements hs ds at with_conditions few held ordered within conditions_within =
+pub decisions_stand : (files statements : ℕ) (hs : List Decision) (places : List Pos) (conditions : List (List Pos)) → map (λ h. h.label.place) hs ≡ places
+    → map (λ h. condition_places h.test) hs ≡ conditions → AreFew hs → Everywhere (λ h. h.statement < statements) hs
+    → Rise places → AreInFiles files places → AreConditionsIn files conditions → are_decisions files statements (map decision_entry hs) ≡ true
+decisions_stand files statements hs places conditions at with_conditions few held ordered within conditions_within =
     both_hold (list_all (is_decision files statements) (map decision_entry hs)) (rising stays_or_rises (map decision_entry hs))
     (decisions_counted files statements hs few held (subst (λ ps. AreInFiles files ps) (sym at) within)
-    (subst (λ lists. AreConditionsIn files lists) (sym with_conditions) (found_in files ds conditions_within)))
-    (decisions_rise hs (subst (λ ps. AreOrdered ps) (sym at) ordered))
+    (subst (λ lists. AreConditionsIn files lists) (sym with_conditions) conditions_within))
+    (decisions_rise hs (subst (λ ps. Rise ps) (sym at) ordered))

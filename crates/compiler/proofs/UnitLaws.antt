@@ -12,7 +12,7 @@ use Rattle.cov_base.specs.declared.failure.Failure.{Failure}
 use Rattle.cov_base.specs.declared.failure.Failure.TheVariants.{Fault, WantOfMemory}
 use Rattle.cov_base.specs.declared.obligations.SourceFile.{SourceFile}
 use Rattle.compiler.specs.declared.fault.SourceFault.{SourceFault}
-use Rattle.parsed_programs.specs.Parsed.{AreTokensOf, AreOfFiles, no_file, and_file, AreTokensOfFiles, no_file_behind, tokens_then}
+use Rattle.parsed_texts.specs.Parsed.{AreTokensOf, AreOfFiles, no_file, and_file, AreTokensOfFiles, no_file_behind, tokens_then}
 use Rattle.compiler.specs.Units as sources
 use Rattle.ada_parser.specs.Opening.{open_extent}
 use Rattle.compiler.specs.Units.{size_limit, first_too_large, all_tokens, lexed, before, AreUnits, BreaksGrammar, HaveTokens, HaveUnits, HaveOnlyUnits, HaveNoUnits, without_units, FailsFor, first_nested}
@@ -42,7 +42,7 @@ lexed_more {files} {n} {f} {behind} {lists} {tokens} so gives each = record {
   small = (small_first n f behind so.small).1;
   tokens = λ more e. so.tokens (tokens ∷ more) (ap (λ own. lexed own (all_tokens (n + 1) behind)) gives ∙ ap (before tokens) e) ∙ ap Ok (sym (append_assoc lists (tokens ∷ []) more));
   fault = λ fault e. so.fault fault (ap (λ own. lexed own (all_tokens (n + 1) behind)) gives ∙ ap (before tokens) e);
-  each = λ more h. subst (AreTokensOfFiles 0 files) (sym (append_assoc lists (tokens ∷ []) more)) (so.each (tokens ∷ more) (tokens_then each h));
+  each = λ more h. subst (AreTokensOfFiles 0 files) (sym (append_assoc lists (tokens ∷ []) more)) (so.each (tokens ∷ more) (tokens_then (small_first n f behind so.small).0 each h));
 }
 
 -- no file is left
@@ -102,10 +102,10 @@ files_joined : {n : ℕ} {before : List LibraryUnit} {files : List SourceFile} {
 files_joined {n} {before} first no_file_behind sources.no_file =
     let count : n ≡ n + length {A = SourceFile} [] = omega arith in
     subst (λ m. AreOfFiles open_extent m (before ++ [])) count (subst (AreOfFiles open_extent n) (sym (append-nil before)) first)
-files_joined {n} {before} first (tokens_then {files = files} each lexed) (sources.file_then {units = units} {more = more} parsed others) =
+files_joined {n} {before} first (tokens_then {files = files} size each lexed) (sources.file_then {units = units} {more = more} parsed others) =
     let count : (n + 1) + length files ≡ n + suc (length files) = omega arith in
     subst (λ m. AreOfFiles open_extent m (before ++ (units ++ more))) count
-    (subst (AreOfFiles open_extent ((n + 1) + length files)) (append_assoc before units more) (files_joined (and_file first each parsed) lexed others))
+    (subst (AreOfFiles open_extent ((n + 1) + length files)) (append_assoc before units more) (files_joined (and_file first size each parsed) lexed others))
 
 pub are_of_files : (files : List SourceFile) (lists : List (List Token)) (units : List LibraryUnit) → AreTokensOfFiles 0 files lists → AreUnits lists units
     → AreOfFiles open_extent (length files) units
@@ -116,7 +116,7 @@ are_of_files files lists units lexed parsed =
 -- one list of tokens for each file
 pub lists_of_files : {n : ℕ} {files : List SourceFile} {lists : List (List Token)} → AreTokensOfFiles n files lists → length lists ≡ length files
 lists_of_files no_file_behind = refl
-lists_of_files (tokens_then each lexed) = ap suc (lists_of_files lexed)
+lists_of_files (tokens_then size each lexed) = ap suc (lists_of_files lexed)
 
 -- sources with these tokens have no other units than those of the tokens
 pub only_of_files : (files : List SourceFile) (lists : List (List Token)) (units : List LibraryUnit) → HaveTokens files lists → AreOnlyUnits lists units → HaveOnlyUnits files units

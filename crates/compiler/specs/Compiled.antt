@@ -1,12 +1,15 @@
 -- The object of legal units.
 use Rattle.std.specs.Prelude.{◌≡◌, true, List, [], length}
+use Rattle.cov_base.specs.Lists.{Everywhere}
 use Rattle.std.specs.List.{All}
 use Rattle.ada_meaning.specs.Obligations.{obligations_of}
 use Rattle.ada_meaning.specs.Program.{Program}
 use Rattle.ada_syntax.specs.declared.unit.Unit.{Unit as LibraryUnit}
-use Rattle.ada_places.specs.Places.{places_of, decision_places, unit_conditions}
+use Rattle.legal_counts.specs.ConditionPlaces.{units_conditions}
+use Rattle.legal_programs.specs.DecisionPlaces.{units_decisions}
+use Rattle.legal_programs.specs.TextPlaces.{units_places}
 use Rattle.compiler.specs.Held.{HoldsImage}
-use Rattle.parsed_programs.specs.Places.{AreInFiles}
+use Rattle.parsed_texts.specs.Places.{AreInFiles}
 use Rattle.compiler.specs.Kernels.{IsKernelOf}
 use Rattle.kernel_ir.specs.declared.kernel.Kernel.{Kernel}
 use Rattle.object_format.specs.Counts.{FileFits}
@@ -22,6 +25,6 @@ pub record IsCompiled (units : List LibraryUnit) (p : Program) (o : Object) : Ty
   pub obligations : o.obligations ≡ obligations_of p []
   pub files : are_files o.files ≡ true
   pub names : All FileFits o.files
-  pub places : AreInFiles (length o.files) (places_of units)
-  pub decisions : AreInFiles (length o.files) (decision_places units)
-  pub conditions : AreInFiles (length o.files) (unit_conditions units)
+  pub places : AreInFiles (length o.files) (units_places units)
+  pub decisions : AreInFiles (length o.files) (units_decisions units)
+  pub conditions : Everywhere (AreInFiles (length o.files)) (units_conditions units)

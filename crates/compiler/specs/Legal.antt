@@ -1,45 +1,70 @@
 -- Which sources are a legal program, which program they are, and why others are refused.
-use Rattle.std.specs.Prelude.{◌≡◌, ℕ, true, List, map, Some, None}
+use Rattle.std.specs.Prelude.{◌≡◌, ℕ, List, [], None, Some, Result, Ok, Err}
 use Rattle.std.specs.Str.{str_to_ascii_lowercase}
-use Rattle.ada_meaning.specs.Program.{Subprogram, Program}
-use Rattle.ada_names.specs.Naming.{named}
-use Rattle.ada_names.specs.Rules.{BreaksNames}
+use Rattle.ada_meaning.specs.Program.{Program}
+use Rattle.ada_rules.specs.Environment.{typing}
+use Rattle.ada_rules.specs.Legal.{unnamed, mistyped, too_large, legal, checked}
+use Rattle.ada_rules.specs.Library.{Library as RulesLibrary}
+use Rattle.ada_rules.specs.Refusals.{BreaksNames, BreaksTypes}
+use Rattle.ada_rules.specs.Units.{Walked, judged_in}
 use Rattle.ada_syntax.specs.declared.unit.Unit.{Unit as LibraryUnit}
-use Rattle.ada_types.specs.Checked.{entry_of}
-use Rattle.ada_types.specs.Legal.{typed, past_limits, elaborated}
-use Rattle.ada_types.specs.Rules.{BreaksTypes}
+use Rattle.ada_tree.specs.declared.program.UnitEntry.{UnitEntry}
+use Rattle.checker.specs.Checking.{PassesLimit, whole_library}
+use Rattle.checker.specs.Entries.{entries_of}
 use Rattle.cov_base.specs.declared.failure.Failure.{Failure}
 use Rattle.cov_base.specs.declared.failure.Failure.TheVariants.{Fault, WantOfMemory}
 use Rattle.cov_base.specs.declared.obligations.SourceFile.{SourceFile}
 use Rattle.cov_base.specs.declared.position.Pos.{Pos}
-use Rattle.generic_expand.specs.Expanded.{first_past}
+use Rattle.generic_expand.specs.Expanded.{past_instances, first_past}
 use Rattle.compiler.specs.Units.{HaveUnits, HaveNoUnits, fault_at}
 use Rattle.compiler.specs.declared.fault.SourceFault.{SourceFault}
 use Rattle.compiler.specs.declared.fault.Why.TheVariants.{Limit, Naming, Typing}
 
--- the sources are this legal program with a main procedure of this name, whose case does not count: their units pass the rules on names and
--- types, and are within the limit on nodes
+-- what the limits on instances and nodes ask of units, in the world that the rules on types come to
+abbrev pub entries_in : RulesLibrary → Result Walked Pos → List UnitEntry
+entries_in l (Ok x) = entries_of x.world l
+entries_in l (Err pos) = []
+
+abbrev pub entries_for : List LibraryUnit → (main : List ℕ) → List UnitEntry
+entries_for units main = entries_in (whole_library units) (judged_in typing (whole_library units) main).answer
+
+-- units that the rules accept as this program, within the limits on instances and on nodes; the main procedure's name is in lower case
+pub record AreProgram (units : List LibraryUnit) (main : List ℕ) (p : Program) : Type 0 where
+  pub legal : checked units main ≡ legal p
+  pub few_instances : past_instances 0 (entries_for units main) ≡ None
+  pub few : first_past 0 (entries_for units main) ≡ None
+
+-- the sources are this legal program with a main procedure of this name, whose case does not count
 pub record IsLegal (files : List SourceFile) (main : List ℕ) (p : Program) : Type 0 where
   pub units : List LibraryUnit
   pub parsed : HaveUnits files units
-  pub elaborated : elaborated units main ≡ Some p
-  pub few : first_past 0 (map entry_of units) ≡ None
+  pub program : AreProgram units (str_to_ascii_lowercase main) p
 
--- Sources that are refused, with their first fault: they have no units; else a construct breaks a rule on names, where the case of the main
--- procedure's name does not count; else one on types; else a procedure declares too many words, or a decision has too many conditions; else there are too
--- many nodes.
+-- Why units are refused, and where: a construct breaks a rule on names; else one on types; else a counted limit is passed; else there are too
+-- many instances; or else too many nodes. Each is the verdict of the rules, with its reason.
+pub data UnitsAreRefused (units : List LibraryUnit) (main : List ℕ) : SourceFault → Type 0 where
+  breaks_names : {pos : Pos} → checked units main ≡ unnamed pos → BreaksNames (whole_library units) main pos
+      → UnitsAreRefused units main (fault_at pos Naming)
+  breaks_types : {pos : Pos} → checked units main ≡ mistyped pos → BreaksTypes (whole_library units) main pos
+      → UnitsAreRefused units main (fault_at pos Typing)
+  passes_a_limit : {pos : Pos} → checked units main ≡ too_large pos → PassesLimit (whole_library units) main pos
+      → UnitsAreRefused units main (fault_at pos Limit)
+  has_too_many_instances : {p : Program} {pos : Pos} → checked units main ≡ legal p → past_instances 0 (entries_for units main) ≡ Some pos
+      → UnitsAreRefused units main (fault_at pos Limit)
+  has_too_many_nodes : {p : Program} {pos : Pos} → checked units main ≡ legal p → past_instances 0 (entries_for units main) ≡ None
+      → first_past 0 (entries_for units main) ≡ Some pos → UnitsAreRefused units main (fault_at pos Limit)
+
+-- sources that are refused, with their first fault: they have no units; or else their units are refused
 pub data AreRefused (files : List SourceFile) (main : List ℕ) : SourceFault → Type 0 where
   no_units : {fault : SourceFault} → HaveNoUnits files fault → AreRefused files main fault
-  breaks_names : {units : List LibraryUnit} {pos : Pos} → HaveUnits files units → BreaksNames units (str_to_ascii_lowercase main) pos
-      → AreRefused files main (fault_at pos Naming)
-  breaks_types : {units : List LibraryUnit} {pos : Pos} → HaveUnits files units → named units (str_to_ascii_lowercase main) ≡ true → BreaksTypes units pos
-      → AreRefused files main (fault_at pos Typing)
-  passes_a_limit : {units : List LibraryUnit} {ss : List Subprogram} {pos : Pos} → HaveUnits files units → named units (str_to_ascii_lowercase main) ≡ true → typed units ≡ Some ss
-      → past_limits units ss ≡ Some pos → AreRefused files main (fault_at pos Limit)
-  too_many_nodes : {units : List LibraryUnit} {p : Program} {pos : Pos} → HaveUnits files units → elaborated units main ≡ Some p → first_past 0 (map entry_of units) ≡ Some pos
-      → AreRefused files main (fault_at pos Limit)
+  refused_units : {units : List LibraryUnit} {fault : SourceFault} → HaveUnits files units
+      → UnitsAreRefused units (str_to_ascii_lowercase main) fault → AreRefused files main fault
 
--- a call refused the sources, where memory was not refused
+-- a call refused the units, or the sources, where memory was not refused
+abbrev pub RefusesUnits : List LibraryUnit → (main : List ℕ) → Failure SourceFault → Type 0
+RefusesUnits units main (Fault fault) = UnitsAreRefused units main fault
+RefusesUnits units main WantOfMemory = Unit {0}
+
 abbrev pub RefusesFor : List SourceFile → (main : List ℕ) → Failure SourceFault → Type 0
 RefusesFor files main (Fault fault) = AreRefused files main fault
 RefusesFor files main WantOfMemory = Unit {0}

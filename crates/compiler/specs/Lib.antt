@@ -7,6 +7,7 @@ pub mod Source
 pub mod Built
 pub mod Checking
 pub mod Listed
+pub mod Texts
 pub mod Steps
 pub mod Units
 pub mod Why

@@ -1,12 +1,11 @@
 -- The obligations of programs without generics.
-use Rattle.std.specs.Prelude.{ℕ, List, [], ◌∷◌, map}
+use Rattle.std.specs.Prelude.{List, [], ◌∷◌, map}
 use Rattle.cov_base.specs.declared.position.Pos.{Pos}
 use Rattle.cov_base.specs.declared.obligations.StmtEntry.{StmtEntry}
 use Rattle.cov_base.specs.declared.obligations.Region.{Region}
 use Rattle.cov_base.specs.declared.obligations.Obligations.{Obligations}
 use Rattle.ada_meaning.specs.Collected.{Decision}
 use Rattle.ada_meaning.specs.Obligations.{no_instance, predefined_names, decision_entry}
-use Rattle.kernel_ir.specs.Obligations.{Row}
 
 -- the entry of the statement that begins here
 abbrev pub entry_at : Pos → StmtEntry
@@ -22,7 +21,3 @@ obligations_at places decisions regions = record {
   instances = no_instance ∷ [];
   exceptions = predefined_names;
 }
-
--- the row of a statement obligation by its number, in the one instance that is no generic's
-abbrev pub row_at : ℕ → Row
-row_at n = record { statement = record { 0 = n }; instance = record { 0 = 0 } }

@@ -1,29 +1,27 @@
 //! Which sources are a program within the limits.
 
-ghost use Rattle.std.specs.Prelude.{◌≡◌, ◌≤◌, [], length, List, Some, None, IfOk, IfErr, OnOk, map};
+ghost use Rattle.std.specs.Prelude.{◌≡◌, ◌≤◌, [], length, IfOk, IfErr, OnOk};
+ghost use Rattle.std.specs.Str.{str_to_ascii_lowercase};
+ghost use Rattle.ada_rules.specs.Legal.{checked, legal};
 ghost use Rattle.ada_tree.specs.Programs.{program_of};
-ghost use Rattle.ada_types.specs.Checked.{entry_of};
-ghost use Rattle.ada_types.specs.Legal.{elaborated};
+ghost use Rattle.checker.specs.Checking.{HasEntries, whole_library};
 ghost use Rattle.compiler.specs.Built.{AreLegal};
 ghost use Rattle.compiler.specs.Checking as spec;
-ghost use Rattle.compiler.specs.Checking.{UnitsAreRefused, PassesLimit, IsSmallProgram};
-ghost use Rattle.compiler.specs.Legal.{RefusesFor};
-ghost use Rattle.compiler.specs.Units.{HaveUnits};
-ghost use Rattle.cov_base.specs.declared.obligations.SourceFile.{SourceFile};
-ghost use Rattle.generic_expand.specs.Expanded as expanded;
+ghost use Rattle.compiler.specs.Checking.{AreFew, PassesLimit};
+ghost use Rattle.compiler.specs.Legal.{AreProgram, RefusesFor, RefusesUnits};
 ghost use Rattle.generic_expand.specs.Expanded.{copies_of};
+ghost use Rattle.lower.specs.Standing.{AreTypesNamed};
 
 use crate::fault::{SourceFault, Why};
 use crate::units::units_of;
-use ada_expressions::TypeFault;
-use ada_names::NameFault;
 use ada_parser::discard_units;
 use ada_syntax::Unit;
 use ada_tree::Program;
-use ada_types::{CheckFault, LimitFault, check, discard_program};
+use checker::{CheckFault, a_refusal_is_of_a_broken_rule, check, discard_program};
 use cov_base::{Failure, Pos, SourceFile};
 use generic_expand::{Copies, ExpandFault, expand};
-use std::alloc::Global;
+use named_types::{are_types_named, named_types_stand};
+use std::alloc::{AllocError, Global};
 
 /// A legal program, with the copies of its bodies.
 #[derive(Drop)]
@@ -33,7 +31,7 @@ pub(crate) struct LegalProgram {
 }
 
 /// The legal program that sources are, whose main procedure has this name, where case does not
-/// count. It has no more nodes than an expanded program may have.
+/// count. It has no more instances and nodes than an expanded program may have.
 pub(crate) fn legal_program(
     alloc: Global,
     files: &[SourceFile],
@@ -41,7 +39,8 @@ pub(crate) fn legal_program(
 ) -> Result<LegalProgram, Failure<SourceFault>>
     requires { length files.now ≤ 64 }
     ensures legal { IfOk result (λ l. AreLegal files.now main.now (program_of l.program)) }
-    ensures types { IfOk result (λ l. l.program.types ≡ []) }
+    ensures named { IfOk result (λ l. AreTypesNamed l.program) }
+    ensures flat { IfOk result (λ l. l.program.types ≡ []) }
     ensures copies { IfOk result (λ l. l.copies.bodies ≡ copies_of (program_of l.program)) }
     ensures refused { IfErr result (RefusesFor files.now main.now) }
 {
@@ -51,16 +50,17 @@ pub(crate) fn legal_program(
     answer
 }
 
-/// The program of units that pass the rules, and the limit on nodes.
+/// The program of units that pass the rules, and the limits on instances and nodes.
 fn small_program(
     alloc: Global,
     units: &[Unit],
     main: &str,
 ) -> Result<LegalProgram, Failure<SourceFault>>
-    ensures legal { IfOk result (λ l. IsSmallProgram units.now main.now (program_of l.program)) }
-    ensures types { IfOk result (λ l. l.program.types ≡ []) }
+    ensures legal { IfOk result (λ l. AreProgram units.now (str_to_ascii_lowercase main.now) (program_of l.program)) }
+    ensures named { IfOk result (λ l. AreTypesNamed l.program) }
+    ensures flat { IfOk result (λ l. l.program.types ≡ []) }
     ensures copies { IfOk result (λ l. l.copies.bodies ≡ copies_of (program_of l.program)) }
-    ensures refused { (files : List SourceFile) → HaveUnits files units.now → IfErr result (RefusesFor files main.now) }
+    ensures refused { IfErr result (RefusesUnits units.now (str_to_ascii_lowercase main.now)) }
 {
     let program = checked_program(alloc, units, main)?;
     match copies_of(alloc, &program) {
@@ -80,22 +80,38 @@ fn checked_program(
     units: &[Unit],
     main: &str,
 ) -> Result<Program, Failure<SourceFault>>
-    ensures legal { IfOk result (λ p. elaborated units.now main.now ≡ Some (program_of p)) }
-    ensures entries { IfOk result (λ p. p.units ≡ map entry_of units.now) }
-    ensures types { IfOk result (λ p. p.types ≡ []) }
-    ensures refused { IfErr result (UnitsAreRefused units.now main.now) }
+    ensures legal { IfOk result (λ p. checked units.now (str_to_ascii_lowercase main.now) ≡ legal (program_of p)) }
+    ensures entries { IfOk result (HasEntries (whole_library units.now) (str_to_ascii_lowercase main.now)) }
+    ensures refused { IfErr result (RefusesUnits units.now (str_to_ascii_lowercase main.now)) }
 {
+    a_refusal_is_of_a_broken_rule();
     check(alloc, units, main).map_err(illegal)
 }
 
-/// The copies of a program's bodies, where it is within the limit on nodes.
+/// The copies of a program's bodies, where it is within the limits on instances and nodes.
 #[tactic(auto, using(crate::proofs::Checked::refusals))]
 fn copies_of(alloc: Global, program: &Program) -> Result<Copies, Failure<SourceFault>>
     ensures copies { IfOk result (λ c. c.bodies ≡ copies_of (program_of program.now)) }
-    ensures small { OnOk result (expanded.first_past 0 program.now.units ≡ None) }
+    ensures few { OnOk result (AreFew program.now.units) }
+    ensures named { OnOk result (AreTypesNamed program.now) }
+    ensures flat { OnOk result (program.now.types ≡ []) }
     ensures refused { IfErr result (PassesLimit program.now.units) }
 {
+    plain(program)?;
     expand(alloc, program).map_err(too_large)
+}
+
+/// Today's language has no composite types, and the objects of each subprogram begin with its parameters.
+fn plain(program: &Program) -> Result<(), AllocError>
+    ensures named { OnOk result (AreTypesNamed program.now) }
+    ensures flat { OnOk result (program.now.types ≡ []) }
+{
+    named_types_stand();
+    if program.types.is_empty() && are_types_named(program) {
+        Ok(())
+    } else {
+        Err(AllocError)
+    }
 }
 
 /// The answer for units that are no legal program.
@@ -103,9 +119,9 @@ fn illegal(failure: Failure<CheckFault>) -> Failure<SourceFault>
     ensures { result ≡ spec.illegal failure }
 {
     match failure {
-        Failure::Fault(CheckFault::Naming(NameFault { pos })) => fault_at(pos, Why::Naming),
-        Failure::Fault(CheckFault::Typing(TypeFault { pos })) => fault_at(pos, Why::Typing),
-        Failure::Fault(CheckFault::Limit(LimitFault { pos })) => fault_at(pos, Why::Limit),
+        Failure::Fault(CheckFault::Naming(pos)) => fault_at(pos, Why::Naming),
+        Failure::Fault(CheckFault::Typing(pos)) => fault_at(pos, Why::Typing),
+        Failure::Fault(CheckFault::Limit(pos)) => fault_at(pos, Why::Limit),
         Failure::WantOfMemory => Failure::WantOfMemory,
     }
 }

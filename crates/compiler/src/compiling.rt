@@ -10,8 +10,11 @@ ghost use Rattle.object_format.specs.Read.{IsObject, HasObject};
 
 use crate::building::object_of;
 use crate::checking::legal_program;
+use crate::compiled::legal_units_are_compilable;
 use crate::fault::SourceFault;
-use ada_types::discard_program;
+use crate::legal_programs::legal_programs_can_be_laid;
+use crate::sources::built_objects_are_of_their_sources;
+use checker::discard_program;
 use cov_base::{Bytes, Failure, SourceFile};
 use object_format::{Object, write_with_digest};
 use std::alloc::{AllocError, Global};
@@ -37,6 +40,9 @@ pub fn compile(
     ensures file { IfOk result (λ c. c.file ≡ object_bytes c.object) }
     ensures refused { IfErr result (RefusesFor files.now main.now) }
 {
+    legal_units_are_compilable();
+    legal_programs_can_be_laid();
+    built_objects_are_of_their_sources();
     let legal = legal_program(alloc, files, main)?;
     let object = object_of(alloc, files, &legal.program, &legal.copies);
     discard_program(legal.program);

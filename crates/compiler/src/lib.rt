@@ -24,10 +24,8 @@ pub use compiling::{Compiled, compile};
 pub use fault::{SourceFault, Why};
 pub use laws::objects_behave_as_their_programs;
 pub use legal_programs::{
-    decisions_stand_at_their_conditions, each_node_has_a_token, each_unit_has_a_subprogram,
-    labels_stand_at_their_statements, legal_programs_are_numbered, legal_programs_are_well_formed,
-    legal_programs_are_within_limits, obligations_are_counted,
-    obligations_are_statements_and_decisions, rows_have_the_numbers_of_obligations,
+    legal_programs_are_of_their_text, legal_programs_are_plain, legal_programs_can_be_laid,
+    legal_units_are_few,
 };
 pub use soundness::{
     made_objects_pass_their_checks, rising_places_are_statements,

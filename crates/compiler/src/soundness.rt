@@ -6,7 +6,7 @@ ghost use Rattle.compiler.specs.Held.{HoldsImage};
 ghost use Rattle.compiler.specs.Kernels.{IsKernelOf};
 ghost use Rattle.compiler.specs.Made.{IsCompilable, IsMadeOf};
 ghost use Rattle.kernel_ir.specs.declared.kernel.Kernel.{Kernel};
-ghost use Rattle.parsed_programs.specs.Places.{AreInFiles};
+ghost use Rattle.parsed_texts.specs.Places.{AreInFiles};
 ghost use Rattle.cov_base.specs.declared.position.Pos.{Pos};
 ghost use Rattle.compiler.specs.Listed.{entry_at};
 ghost use Rattle.cov_base.specs.TextOrder.{rise};

@@ -11,6 +11,8 @@ ghost use Rattle.object_format.specs.Read.{IsObject, HasObject};
 ghost use Rattle.object_format.specs.declared.object.Object.{Object};
 ghost use Rattle.compiler.specs.declared.fault.SourceFault.{SourceFault};
 
+use crate::legal_programs::{legal_programs_are_of_their_text, legal_units_are_few};
+
 /// Sources that are a legal program are not refused, for no fault.
 pub fn legal_sources_are_not_refused()
     ensures { (files : List SourceFile) (main : List ℕ) (p : Program) (fault : SourceFault) → IsLegal files main p → AreRefused files main fault → ⊥ }
@@ -24,4 +26,7 @@ pub fn built_objects_are_of_their_sources()
     ensures object { (files : List SourceFile) (main : List ℕ) (p : Program) (o : Object) → CanBeNamed files
         → AreLegal files main p → IsBuiltOf files p o → IsObject (closed_object o)
         → IsObjectOf files main p (closed_object o) × IsCheap files main p (closed_object o) }
-{}
+{
+    legal_units_are_few();
+    legal_programs_are_of_their_text();
+}

@@ -2,13 +2,10 @@
 //! files before the next begins.
 
 ghost use Rattle.std.specs.Prelude.{◌≡◌, ◌^◌, ◌<◌, ℕ, List, [], ◌∷◌, None, Ok, IfOk, IfErr, OnOk, length};
-ghost use Rattle.ada_places.specs.Places.{unit_conditions, decision_places, places_of};
-ghost use Rattle.ada_places.specs.Rising.{DecisionsRise, StatementsRise};
 ghost use Rattle.ada_parser.specs.Grammar.{IsFile};
 ghost use Rattle.ada_parser.specs.Opening.{open_extent};
 ghost use Rattle.ada_parser.specs.Refusal.{IsOnlyFile};
-ghost use Rattle.parsed_programs.specs.Parsed.{AreTokensOfFiles};
-ghost use Rattle.parsed_programs.specs.Places.{AreInFiles};
+ghost use Rattle.parsed_texts.specs.Parsed.{AreOfFiles, AreTokensOfFiles};
 ghost use Rattle.compiler.specs.Units.{
   all_tokens,
   fault_at,
@@ -44,17 +41,13 @@ const BEGINNING: Pos = Pos {
     col: 1,
 };
 
-/// The library units of source files, which are numbered from 0 in their order. Each step looks at
-/// all files before the next begins: size, tokens, nesting, syntax.
+/// The library units of source files, which are numbered from 0 in their order, and stand in them as they
+/// are parsed. Each step looks at all files before the next begins: size, tokens, nesting, syntax.
 pub fn units_of(alloc: Global, files: &[SourceFile]) -> Result<Vec<Unit>, Failure<SourceFault>>
     requires { length files.now < 2 ^ 32 }
     ensures units { IfOk result (λ units. HaveUnits files.now units.items) }
     ensures only_units { IfOk result (λ units. HaveOnlyUnits files.now units.items) }
-    ensures rising { IfOk result (λ units. StatementsRise units.items) }
-    ensures in_files { IfOk result (λ units. AreInFiles (length files.now) (places_of units.items)) }
-    ensures decisions_rising { IfOk result (λ units. DecisionsRise units.items) }
-    ensures decisions_in_files { IfOk result (λ units. AreInFiles (length files.now) (decision_places units.items)) }
-    ensures conditions_in_files { IfOk result (λ units. AreInFiles (length files.now) (unit_conditions units.items)) }
+    ensures read { IfOk result (λ units. AreOfFiles open_extent (length files.now) units.items) }
     ensures refused { IfErr result (FailsFor files.now) }
 {
     let tokens = flat_tokens(alloc, files)?;

@@ -19,7 +19,7 @@ use ada_tree::{
     CompositeType, FormalActual, GenericConstant, Initial, Instance, LibraryObject, Operator,
     Owner, Program, Range, ScalarRange, Static, StaticValue, Subtype, TypeDeclaration,
 };
-use ada_types::discard_program;
+use checker::discard_program;
 use cov_base::{Bytes, Pos, Seq};
 use std::alloc::{AllocError, Global};
 

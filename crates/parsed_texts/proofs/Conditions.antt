@@ -32,7 +32,7 @@ use Rattle.ada_rules.specs.Expressions.{Role, itself, operand, is_circuit, opens
 use Rattle.ada_rules.specs.Statements.{declarations_in}
 use Rattle.legal_counts.specs.ConditionPlaces as conditioned
 use Rattle.legal_counts.specs.ConditionPlaces.{conditions, opened_with, name_conditions, expr_conditions, exprs_conditions, test_conditions, units_conditions}
-use Rattle.parsed_programs.specs.Places.{IsInFiles, AreInFiles}
+use Rattle.parsed_texts.specs.Places.{IsInFiles, AreInFiles}
 use Rattle.parsed_texts.specs.Parsed.{AreOfFiles}
 use Rattle.parsed_texts.proofs.Decisions.{opened, of_name, of_expr, of_exprs, of_initial, of_kind, of_turns, at_decisions, IsNoted, at_decisions_read}
 use Rattle.parsed_texts.proofs.Files.{everywhere_joined, everywhere_so, files_within, more_files}

@@ -36,7 +36,7 @@ use Rattle.ada_rules.specs.Statements.{declarations_in}
 use Rattle.legal_programs.specs.DecisionPlaces as decided
 use Rattle.legal_programs.specs.DecisionPlaces.{opened_at, name_decisions, expr_decisions, exprs_decisions, units_decisions}
 use Rattle.legal_programs.specs.InText.{Rise}
-use Rattle.parsed_programs.specs.Places.{IsInFiles, AreInFiles}
+use Rattle.parsed_texts.specs.Places.{IsInFiles, AreInFiles}
 use Rattle.parsed_texts.specs.Parsed.{AreOfFiles}
 use Rattle.parsed_texts.proofs.Files.{Ordered, InOrder, IsRead, everywhere_so, files_ordered, files_within, more_files}
 use Rattle.parsed_texts.proofs.Gathered.{Gathering, of_declarations, of_statement, of_statements, of_branches, of_alternatives, of_handlers, of_handled, of_body, of_body_items, of_item, of_units, units_joined}

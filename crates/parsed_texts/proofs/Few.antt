@@ -7,7 +7,7 @@ use Rattle.cov_base.specs.declared.position.Pos.{Pos}
 use Rattle.ada_lexer.specs.declared.token.Token.{Token}
 use Rattle.ada_lexer.specs.Tokens.{IsTokenOf, IsBefore, place_at, place_after, place_behind}
 use Rattle.expression_parser.specs.Reading.{Tokens}
-use Rattle.parsed_programs.specs.Parsed.{AreTokensOf}
+use Rattle.parsed_texts.specs.Parsed.{AreTokensOf}
 use Rattle.parsed_texts.proofs.Files.{all_behind, pairs_behind}
 
 -- a place that stands at another or behind it, in one file

@@ -11,7 +11,7 @@ use Rattle.ada_syntax.specs.declared.unit.Unit.{Unit as LibraryUnit}
 use Rattle.expression_parser.specs.declared.extent.Extent.{Extent}
 use Rattle.expression_parser.specs.Reading.{Tokens}
 use Rattle.ada_parser.specs.Grammar.{AreUnits}
-use Rattle.parsed_programs.specs.Places.{IsInFiles}
+use Rattle.parsed_texts.specs.Places.{IsInFiles}
 use Rattle.parsed_texts.specs.Parsed.{AreOfFiles, no_file, and_file}
 use Rattle.parsed_texts.proofs.Places.{earlier_precedes}
 

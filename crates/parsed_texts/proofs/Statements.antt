@@ -26,7 +26,7 @@ use Rattle.ada_rules.specs.Statements.{declarations_in}
 use Rattle.legal_programs.specs.TextPlaces.{kind_places, declared_places, places, all_places, branch_places, alternative_places, handler_places, handled_places, body_places, items_places, unit_places, units_places}
 use Rattle.legal_programs.specs.InText.{Rise}
 use Rattle.legal_instances.specs.InOrder.{UnitsRise}
-use Rattle.parsed_programs.specs.Places.{IsInFiles, AreInFiles}
+use Rattle.parsed_texts.specs.Places.{IsInFiles, AreInFiles}
 use Rattle.parsed_texts.specs.Parsed.{AreOfFiles}
 use Rattle.parsed_texts.proofs.Files.{Ordered, InOrder, IsRead, files_ordered, files_within, more_files}
 use Rattle.parsed_texts.proofs.Gathered.{Gathering, of_declarations, of_statement, of_statements, of_branches, of_alternatives, of_handlers, of_handled, of_body, of_body_items, of_item, of_units, units_joined}

@@ -1,14 +1,22 @@
 -- Units that are parsed from source files, none of which is too large.
-use Rattle.std.specs.Prelude.{ℕ, ◌+◌, ◌≤◌, List, [], ◌++◌, length}
+use Rattle.std.specs.Prelude.{ℕ, ◌+◌, ◌≤◌, List, [], ◌∷◌, ◌++◌, length}
+use Rattle.std.specs.List.{All, AllPairs}
+use Rattle.ada_lexer.specs.declared.token.Token.{Token}
+use Rattle.ada_lexer.specs.Tokens.{IsTokenOf, IsBefore}
 use Rattle.ada_parser.specs.Grammar.{IsFile}
 use Rattle.ada_syntax.specs.declared.unit.Unit.{Unit as LibraryUnit}
+use Rattle.cov_base.specs.declared.obligations.SourceFile.{SourceFile}
 use Rattle.expression_parser.specs.declared.extent.Extent.{Extent}
 use Rattle.expression_parser.specs.Reading.{Tokens}
-use Rattle.parsed_programs.specs.Parsed.{AreTokensOf}
 
 -- the most bytes of a source file
 abbrev pub most_bytes : ℕ
 most_bytes = 1048576
+
+-- tokens of the file with this number, in the order of its text, as the lexer gives them
+pub record AreTokensOf (file : ℕ) (source : List ℕ) (tokens : Tokens) : Type 0 where
+  pub each : All (IsTokenOf file source) tokens
+  pub places : AllPairs (λ (a b : Token). IsBefore a.pos b.pos) tokens
 
 -- the units of this many files, which are numbered from 0 as they come
 pub data AreOfFiles (x : Extent) : ℕ → List LibraryUnit → Type 0 where
@@ -16,3 +24,10 @@ pub data AreOfFiles (x : Extent) : ℕ → List LibraryUnit → Type 0 where
   and_file : {n : ℕ} {units more : List LibraryUnit} {source : List ℕ} {tokens : Tokens}
       → AreOfFiles x n units → length source ≤ most_bytes → AreTokensOf n source tokens → IsFile x more tokens
       → AreOfFiles x (n + 1) (units ++ more)
+
+-- the tokens of each of these files, none of which is too large; the first of these has number n
+pub data AreTokensOfFiles : (n : ℕ) → List SourceFile → List Tokens → Type 0 where
+  no_file_behind : {n : ℕ} → AreTokensOfFiles n [] []
+  tokens_then : {n : ℕ} {file : SourceFile} {files : List SourceFile} {tokens : Tokens} {more : List Tokens}
+      → length file.bytes ≤ most_bytes → AreTokensOf n file.bytes tokens → AreTokensOfFiles (n + 1) files more
+      → AreTokensOfFiles n (file ∷ files) (tokens ∷ more)

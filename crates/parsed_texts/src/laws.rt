@@ -15,7 +15,7 @@ ghost use Rattle.legal_programs.specs.InText.{Rise};
 ghost use Rattle.legal_programs.specs.TextPlaces.{units_places};
 ghost use Rattle.legal_texts.specs.Subprograms.{AreSubprograms};
 ghost use Rattle.legal_texts.specs.UnitTexts.{AreUnitTexts};
-ghost use Rattle.parsed_programs.specs.Places.{AreInFiles, IsInFiles};
+ghost use Rattle.parsed_texts.specs.Places.{AreInFiles, IsInFiles};
 ghost use Rattle.parsed_texts.specs.Parsed.{AreOfFiles};
 ghost use Rattle.legal_levels.specs.Levels.{AreSubprogramUnits};
 ghost use Rattle.legal_names.specs.Spelled.{AreUnitsSpelled};

@@ -1,6 +1,6 @@
-use Rattle.std.proofs.lemmas.Result.{IfOk-weaker}
+use Rattle.std.proofs.lemmas.Result.{IfOk-weaker, IfErr-weaker}
 use Rattle.ada_tree.specs.Programs.{program_of}
-use Rattle.compiler.proofs.Checked.{sources_failed, passed_on}
+use Rattle.compiler.proofs.Checked.{sources_failed, sources_refused, passed_on}
 use Rattle.compiler.proofs.Core.{legal_of}
 use Rattle.compiler.specs.Legal.{RefusesFor}
 use Rattle.compiler.proofs.checking.legal_program.Goals as goal
@@ -11,11 +11,13 @@ returns-in_err-units-clause-refused c =
 
 pub returns-clause-refused : goal.returns-clause-refused
 returns-clause-refused c =
-    c.small_program-answer.ensures.refused c.args.files.now (rw c.as_slice.ensures.value c.in_ok-units.ensures.units)
+    IfErr-weaker c.small_program-answer.result _ _
+    (λ f h. sources_refused c.args.files.now c.in_ok-units.units.items c.as_slice.result.now c.args.main.now f c.in_ok-units.ensures.units c.as_slice.ensures.value h)
+    c.small_program-answer.ensures.refused
 
 pub returns-clause-legal : goal.returns-clause-legal
 returns-clause-legal c =
     IfOk-weaker c.small_program-answer.result _ _
-    (λ l h. legal_of c.args.files.now c.in_ok-units.units.items c.as_slice.result.now c.args.main.now (program_of l.program) c.in_ok-units.ensures.units c.in_ok-units.ensures.rising
-    c.in_ok-units.ensures.decisions_rising c.in_ok-units.ensures.in_files c.in_ok-units.ensures.decisions_in_files c.in_ok-units.ensures.conditions_in_files c.as_slice.ensures.value h.0 h.1)
+    (λ l h. legal_of c.args.files.now c.in_ok-units.units.items c.as_slice.result.now c.args.main.now (program_of l.program) c.in_ok-units.ensures.units
+    c.in_ok-units.ensures.read c.as_slice.ensures.value h)
     c.small_program-answer.ensures.legal

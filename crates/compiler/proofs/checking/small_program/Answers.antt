@@ -1,18 +1,12 @@
-use Rattle.std.proofs.Common.{refl}
-use Rattle.ada_tree.specs.Programs.{program_of}
-use Rattle.compiler.proofs.Checked.{sources_refused, sources_past_limit, passed_on}
-use Rattle.compiler.specs.Legal.{RefusesFor}
+use Rattle.std.specs.Str.{str_to_ascii_lowercase}
+use Rattle.compiler.proofs.Checked.{program_law, units_past_limit}
 use Rattle.compiler.proofs.checking.small_program.Goals as goal
 
-pub returns-in_err-program-clause-refused : goal.returns-in_err-program-clause-refused
-returns-in_err-program-clause-refused c =
-    let units = c.args.units.now in
-    let main = c.args.main.now in
-    λ files have. passed_on (RefusesFor files main) c.from_residual.result _ c.from_residual.ensures.1
-    (sources_refused files units units main _ have refl c.in_err-program.ensures.refused)
+pub returns-in-Ok-clause-legal : goal.returns-in-Ok-clause-legal
+returns-in-Ok-clause-legal c =
+    program_law c.args.units.now (str_to_ascii_lowercase c.args.main.now) c.in_ok-program.program c.in_ok-program.ensures.legal c.in_ok-program.ensures.entries c.in-Ok.ensures.few
 
 pub returns-in-Err-clause-refused : goal.returns-in-Err-clause-refused
 returns-in-Err-clause-refused c =
-    let units = c.args.units.now in
-    λ files have. sources_past_limit files units units c.args.main.now (program_of c.in_ok-program.program) _ _ have refl
-    c.in_ok-program.ensures.legal c.in_ok-program.ensures.entries c.in-Err.ensures.refused
+    units_past_limit c.args.units.now (str_to_ascii_lowercase c.args.main.now) c.in_ok-program.program c.in_ok-program.ensures.legal c.in_ok-program.ensures.entries
+    c.in-Err.failure c.in-Err.ensures.refused

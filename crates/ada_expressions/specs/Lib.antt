@@ -1,5 +1,0 @@
-pub mod Kinds
-pub mod Expressions
-pub mod Phrases
-pub mod Answer
-pub mod ExpressionCode

@@ -1,5 +1,0 @@
-pub mod Chains
-pub mod Kept
-pub mod Order
-pub mod Plain
-pub mod Steps

@@ -1,4 +1,0 @@
-pub mod Order
-pub mod Places
-pub mod Rising
-pub mod Seen
