@@ -10,7 +10,7 @@ ghost use Rattle.compiler.specs.Texts.{AreUnitsOf};
 ghost use Rattle.object_format.specs.Read.{HasObject, is_plain};
 ghost use Rattle.object_format.specs.declared.object.Object.{Object};
 
-use crate::legal_programs::{legal_programs_are_of_their_text, legal_units_are_few};
+use crate::program_laws::{legal_programs_are_of_their_text, legal_units_are_few};
 
 /// Legal units (Ada RM 2012, 10.1) can be compiled.
 pub fn legal_units_are_compilable()

@@ -12,7 +12,7 @@ use crate::building::object_of;
 use crate::checking::legal_program;
 use crate::compiled::legal_units_are_compilable;
 use crate::fault::SourceFault;
-use crate::legal_programs::legal_programs_can_be_laid;
+use crate::program_laws::legal_programs_can_be_laid;
 use crate::sources::built_objects_are_of_their_sources;
 use checker::discard_program;
 use cov_base::{Bytes, Failure, SourceFile};

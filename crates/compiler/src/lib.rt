@@ -14,7 +14,7 @@ mod compiled;
 mod compiling;
 mod fault;
 mod laws;
-mod legal_programs;
+mod program_laws;
 mod soundness;
 mod sources;
 mod units;
@@ -23,7 +23,7 @@ pub use compiled::{compiled_objects_pass_and_behave, legal_units_are_compilable}
 pub use compiling::{Compiled, compile};
 pub use fault::{SourceFault, Why};
 pub use laws::objects_behave_as_their_programs;
-pub use legal_programs::{
+pub use program_laws::{
     legal_programs_are_of_their_text, legal_programs_are_plain, legal_programs_can_be_laid,
     legal_units_are_few,
 };

@@ -11,7 +11,7 @@ ghost use Rattle.object_format.specs.Read.{IsObject, HasObject};
 ghost use Rattle.object_format.specs.declared.object.Object.{Object};
 ghost use Rattle.compiler.specs.declared.fault.SourceFault.{SourceFault};
 
-use crate::legal_programs::{legal_programs_are_of_their_text, legal_units_are_few};
+use crate::program_laws::{legal_programs_are_of_their_text, legal_units_are_few};
 
 /// Sources that are a legal program are not refused, for no fault.
 pub fn legal_sources_are_not_refused()

@@ -1,6 +1,6 @@
 use Rattle.ada_tree.specs.Programs.{program_of}
 use Rattle.compiler.proofs.LaidPrograms.{laid_law}
-use Rattle.compiler.proofs.legal_programs.legal_programs_can_be_laid.Goals as goal
+use Rattle.compiler.proofs.program_laws.legal_programs_can_be_laid.Goals as goal
 
 pub returns : goal.returns
 returns c = λ files units main t h named flat.

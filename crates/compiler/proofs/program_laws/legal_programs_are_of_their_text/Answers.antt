@@ -1,7 +1,7 @@
 use Rattle.checker.specs.Checking.{whole_library}
 use Rattle.legal_programs.proofs.Passed.{is_legal}
 use Rattle.compiler.proofs.Texts.{text_law}
-use Rattle.compiler.proofs.legal_programs.legal_programs_are_of_their_text.Goals as goal
+use Rattle.compiler.proofs.program_laws.legal_programs_are_of_their_text.Goals as goal
 
 pub returns : goal.returns
 returns c = λ files units main p h.

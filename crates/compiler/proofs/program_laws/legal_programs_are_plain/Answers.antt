@@ -3,7 +3,7 @@ use Rattle.ada_rules.specs.Limits.{words_in}
 use Rattle.checker.specs.Checking.{whole_library}
 use Rattle.legal_programs.proofs.Passed.{is_legal}
 use Rattle.compiler.proofs.LaidPrograms.{plain_law}
-use Rattle.compiler.proofs.legal_programs.legal_programs_are_plain.Goals as goal
+use Rattle.compiler.proofs.program_laws.legal_programs_are_plain.Goals as goal
 
 pub returns : goal.returns
 returns c = λ files units main p h.
