@@ -27,11 +27,11 @@ decision_of k d = (label_of d.label, d.test)
 abbrev pub IsAnyDecision : Label → Judged → Decision → Type 0
 IsAnyDecision l x d = (k : Tables) → decision_of k d ≡ (label_of l, test_of (judged_of k x).at (judged_of k x).form)
 
--- the decision of a statement that begins at this place, with its label
+-- The decision of a statement that begins at this place, with its label. It begins at the place of that.
 abbrev pub IsDecision : (old new : Decisions) → Step → Pos → Label → Judged → Result Decision (Failure Refusal) → Type 0
 IsDecision old new step p l x result =
     (k : Tables) (s : State)
     → Answers (λ d. given (decision_of k d) (counted new s))
     (answer_at p (typed_rule (step_of step)
     (given (label_of l, test_of (judged_of k x).at (judged_of k x).form) (counted old s))
-    (option_map (λ t. given (label_of l, t) (measured p t (counted old s))) (tested (judged_of k x)))).outcome) result
+    (option_map (λ t. given (label_of l, t) (measured l.place t (counted old s))) (tested (judged_of k x)))).outcome) result

@@ -29,7 +29,8 @@ fn any_decision(alloc: Global, label: Label, value: Judged) -> Result<Decision, 
     Ok(Decision { label, test })
 }
 
-/// The same in the step of types, where the expression has to be Boolean.
+/// The same in the step of types, where the expression has to be Boolean. That is asked of the statement, which
+/// begins at `pos`; the decision begins at the place of its label.
 #[tactic(auto, using(crate::proofs::Parts::parts))]
 fn boolean_decision(
     alloc: Global,
@@ -43,7 +44,7 @@ fn boolean_decision(
     let Some(test) = value.tested(alloc)? else {
         return Err(refused(pos));
     };
-    decisions.measure(pos, &test)?;
+    decisions.measure(label.place, &test)?;
     Ok(Decision { label, test })
 }
 
@@ -65,19 +66,20 @@ fn labelled(
     }
 }
 
-/// The expression of a statement's decision, which is one however few conditions it has (RM 5.3).
+/// The expression of the decision of a statement that begins at `pos`: it is one however few conditions it has
+/// (RM 5.3).
 #[tactic(auto, using(crate::proofs::Parts::parts))]
 pub fn decision(
     alloc: Global,
     scope: &Scope<'_>,
     decisions: &mut Decisions,
+    pos: Pos,
     expr: &Expr,
 ) -> Result<Decision, Failure<Refusal>>
     ensures { ComesTo decision_of scope.now decisions.old decisions.new
-        (λ k env s. (rules.decision env s expr.now).answer) result }
+        (λ k env s. (rules.decision env s pos expr.now).answer) result }
 {
-    let pos = expr.pos();
-    let label = decisions.number(pos)?;
+    let label = decisions.number(expr.pos())?;
     let value = judged(alloc, scope, Role::Operand, decisions, expr)?;
     labelled(alloc, scope.step, decisions, pos, label, value)
 }

@@ -136,13 +136,6 @@ value_for t [] e =
 abbrev pub any_value : tree.NewValue
 any_value = tree.scalar_value base (tree.literal (pos 0))
 
--- its first token: the first parenthesis before an `others`, or that of the expression
-abbrev pub initial_pos : Initial → Pos
-initial_pos i = first_or (expr_pos i.value) i.others where
-  first_or : Pos → List Pos → Pos
-  first_or p [] = p
-  first_or p (q ∷ qs) = q
-
 -- with the static value of the expression, where it stands in no `others`
 pub record NewValue : Type 0 where
   pub value : tree.NewValue
@@ -152,8 +145,9 @@ abbrev pub known_of : List Pos → Judged → Option Static
 known_of [] x = x.known
 known_of (p ∷ ps) x = None
 
-abbrev pub new_value : Env → State → AdaSubtype → Initial → Judgement (Given NewValue)
-new_value env s t i = construct (initial_pos i) (do
+-- that it is of the type is asked of the statement or declaration whose first token stands at this place
+abbrev pub new_value : Env → State → Pos → AdaSubtype → Initial → Judgement (Given NewValue)
+new_value env s p t i = construct p (do
   x ← judged env itself s i.value
   typed_rule env.step (given (record { value = any_value; known = None }) x.next)
       (option_map (λ v. given (record { value = v; known = known_of i.others x.value }) x.next) (value_for t i.others x.value)))
@@ -176,8 +170,8 @@ abbrev pub known_value : List Pos → Valued → Option Static
 known_value [] v = Some v.value
 known_value (p ∷ ps) v = None
 
-abbrev pub library_value : Env → State → AdaSubtype → Initial → Judgement (Given LibraryValue)
-library_value env s t i = construct (initial_pos i) (do
+abbrev pub library_value : Env → State → Pos → AdaSubtype → Initial → Judgement (Given LibraryValue)
+library_value env s p t i = construct p (do
   x ← static_part env s (λ k. true) (in_range (range_in (innermost t i.others))) i.value
   typed_rule env.step (given (record { initial = program.no_initial; known = None }) x.next)
       (option_map (λ v. given (record { initial = v; known = known_value i.others x.value }) x.next) (initial_for t i.others x.value)))
@@ -323,10 +317,10 @@ objects_declared env p c region is t None =
     else typed_rule env.step (local_bare c region is t) (option_map (λ u. local_bare c region is t) (may_be_bare c))
 objects_declared env p c region is t (Some i) =
     if env.is_library
-    then library_value (with_local env region) t.next t.value i >>= (λ v.
+    then library_value (with_local env region) t.next p t.value i >>= (λ v.
     typed_rule env.step (library_declared env c region is t.value v.value v.next)
     (option_map (λ u. library_declared env c region is t.value v.value v.next) (one_name is)))
-    else new_value (with_local env region) t.next t.value i >>= (λ v.
+    else new_value (with_local env region) t.next p t.value i >>= (λ v.
     typed_rule env.step (local_set env p c region is t.value v) (option_map (λ u. local_set env p c region is t.value v) (one_name is)))
 
 -- exceptions (RM 11.1), with the last part of their full names

@@ -163,9 +163,10 @@ abbrev mutual
     xs ← all_judged env x.next p es
     rule (Some (given (x.value ∷ xs.value) xs.next)))
 
--- the expression of a statement's decision (RM 5.3), with its label: it is one however few conditions it has
-abbrev pub decision : Env → State → source.Expr → Judgement (Given (tree.Label × tree.Test))
-decision env s e = construct (expr_pos e) (do
+-- The expression of a statement's decision (RM 5.3), with its label: it is one however few conditions it has. That it is
+-- of a Boolean type is asked of the statement, whose first token stands at this place.
+abbrev pub decision : Env → State → Pos → source.Expr → Judgement (Given (tree.Label × tree.Test))
+decision env s p e = construct p (do
   x ← judged env operand (decided s) e
   typed_rule env.step (given (decision_label s (expr_pos e), test_of x.value.at x.value.form) x.next)
       (option_map (λ t. given (decision_label s (expr_pos e), t) (measured (expr_pos e) t x.next)) (tested x.value)))

@@ -266,14 +266,14 @@ abbrev mutual
   stated env s (text.null p) = construct p (rule (Some (one (tree.null_statement (statement_label s p)) (started s))))
   stated env s (text.assignment p n i) = construct p (do
     v ← target env (started s) n
-    x ← new_value env v.next v.value.subtype i
+    x ← new_value env v.next p v.value.subtype i
     rule (Some (one (tree.assignment (statement_label s p) v.value.object v.value.parts x.value.value) x.next)))
   stated env s (text.call p n) = construct p (do
     d ← denoted env (started s) n
     typed_stmt env (statement_label s p) d.next (call_of (statement_label s p) d.value))
   stated env s (text.exemption p a) = construct p (rule (Some (given [] s)))
   stated env s (text.conditional p e ss bs es) = construct p (do
-    t ← decision env (started s) e
+    t ← decision env (started s) p e
     xs ← all_stated env t.next p ss
     ys ← branched env xs.next p bs
     zs ← all_stated env ys.next p es
@@ -287,7 +287,7 @@ abbrev mutual
     xs ← all_stated (in_loop env) (started s) p ss
     rule (Some (one (tree.bare_loop (statement_label s p) (stmts_of xs.value)) xs.next)))
   stated env s (text.repeat p (scheme.While e) ss) = construct p (do
-    t ← decision env (started s) e
+    t ← decision env (started s) p e
     xs ← all_stated (in_loop env) t.next p ss
     rule (Some (one (tree.while_loop (statement_label s p) t.value.0 t.value.1 (stmts_of xs.value)) xs.next)))
   stated env s (text.repeat p (scheme.For i d r) ss) = construct p (do
@@ -299,7 +299,7 @@ abbrev mutual
   stated env s (text.exit p None) = construct p
       (typed_stmt env (statement_label s p) (started s) (where_allowed env.is_looping (tree.exit_statement (statement_label s p))))
   stated env s (text.exit p (Some e)) = construct p (do
-    t ← decision env (started s) e
+    t ← decision env (started s) p e
     typed_stmt env (statement_label s p) t.next (where_allowed env.is_looping (tree.exit_when (statement_label s p) t.value.0 t.value.1)))
   stated env s (text.returns p None) = construct p
       (typed_stmt env (statement_label s p) (started s) (returned (statement_label s p) env.returning))
@@ -328,7 +328,7 @@ abbrev mutual
   pub branched : Env → State → Pos → text.Branches → Judgement (Given (List Chosen))
   branched env s p text.no_branches = construct p (rule (Some (given [] s)))
   branched env s p (text.branch e ss bs) = construct p (do
-    t ← decision env s e
+    t ← decision env s p e
     xs ← all_stated env t.next p ss
     ys ← branched env xs.next p bs
     rule (Some (given (record { label = t.value.0; test = t.value.1; statements = xs.value } ∷ ys.value) ys.next)))

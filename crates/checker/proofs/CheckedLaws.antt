@@ -10,7 +10,7 @@ use Rattle.ada_tree.specs.declared.program.Program.{Program}
 use Rattle.ada_tree.specs.declared.program.UnitEntry.{UnitEntry}
 use Rattle.ada_tree.specs.Programs as tree
 use Rattle.ada_rules.specs.Entities.{whole_standard}
-use Rattle.ada_rules.specs.Environment.{naming, typing}
+use Rattle.ada_rules.specs.Environment.{naming, typing, State}
 use Rattle.ada_rules.specs.Legal as rules
 use Rattle.ada_rules.specs.Legal.{Checked, unnamed, mistyped, too_large, legal, refused_or, after_step, after_counts, after_values, after_names, checked_in}
 use Rattle.ada_rules.specs.Library.{Library as RulesLibrary}
@@ -32,17 +32,20 @@ use Rattle.ada_phrases.specs.declared.scope.Step.TheVariants as step
 use Rattle.ada_tree.specs.declared.types.TypeDeclaration.{TypeDeclaration}
 use Rattle.ada_tree.specs.Programs.{types_of}
 use Rattle.type_trees.specs.Trees.{shapes_in_tree}
-use Rattle.typed_program.specs.Assembled.{IsProgramOf}
+use Rattle.typed_program.specs.Assembled.{HasTypes, IsProgramOf}
 use Rattle.program_walk.specs.States.{state_of}
 use Rattle.program_walk.specs.Walks.{Begins}
 use Rattle.word_limits.specs.Excess.{HasUnits, IsFirstExcess}
 use Rattle.checker.specs.declared.fault.CheckFault.{CheckFault}
 use Rattle.checker.specs.declared.fault.CheckFault.TheVariants.{Naming, Typing, Limit}
 use Rattle.checker.specs.declared.steps.WholeWalk.{WholeWalk}
-use Rattle.checker.specs.Checking.{IsRefusal, breaks_names, breaks_types, passes_a_limit, memory_is_out, naming_of, typing_of, Passes, IsLegal, VerdictAs, AcceptedAs, IsUnmet, IsExcess, ComesToAccepted, HasEntries, whole_library}
+use Rattle.checker.specs.Checking.{IsRefusal, breaks_names, breaks_types, passes_a_limit, memory_is_out, naming_of, typing_of, Passes, IsLegal, VerdictAs, AcceptedAs, IsUnmet, IsExcess, ComesToAccepted, HasEntries, DeclaresTypes, whole_library}
 use Rattle.checker.specs.Entries.{entries_of, AreEntries}
+use Rattle.checker.specs.TypeTexts.{AreTypeTexts}
+use Rattle.checker.specs.TypeWeights.{AreDeclared}
 use Rattle.checker.specs.Judging.{IsWholeLibrary, IsJudged, JudgedAs}
 use Rattle.checker.proofs.JudgedLaws.{tables_there, begins_there}
+use Rattle.checker.proofs.WeightLaws.{are_declared}
 
 pub ruleset refusals = (memory_is_out)
 
@@ -156,6 +159,12 @@ module _ (w : WholeWalk) (units : List LibraryUnit) (x : Library) (l : RulesLibr
       same
       ∙ (h there judged_there.walked.world l (record { library = whole.is; actuals = s.units.actuals; interfaces = s.units.interfaces })
       ∙ ap (λ (z : Walked). entries_of z.world l) (same_walked (sym judged_there.comes ∙ comes)))
+
+  pub declares_types : (p : Program) (gs : List (Option ℕ)) → AreTypeTexts w.walk gs → HasTypes gs w.walk p → DeclaresTypes l main p
+  declares_types p gs texts are y comes =
+      subst (λ (z : Walked). AreDeclared p.types z.next.types_declared) (same_walked (sym judged_there.comes ∙ comes))
+      (subst (λ (s : State). AreDeclared p.types s.types_declared) (sym judged_there.next)
+      (are_declared there w.walk.found.types.items gs p.types texts are.types are.texts))
 
 -- what a verdict is of a program, and of a refusal
 pub legal_of : (v : Checked) (r : Result Program (Failure CheckFault)) → VerdictAs v r → IfOk r (λ p. v ≡ legal (tree.program_of p))

@@ -28,6 +28,7 @@ use Rattle.checker.specs.declared.fault.CheckFault.{CheckFault}
 use Rattle.checker.specs.declared.fault.CheckFault.TheVariants.{Naming, Typing, Limit}
 use Rattle.checker.specs.declared.steps.WholeWalk.{WholeWalk}
 use Rattle.checker.specs.Entries.{entries_of}
+use Rattle.checker.specs.TypeWeights.{AreDeclared}
 use Rattle.checker.specs.Judging.{IsWholeLibrary, IsJudged, JudgedAs}
 
 -- the rules' library of these units, in the whole language
@@ -48,6 +49,11 @@ Refuses units main f = IsRefusal (checked units main) f
 -- what the limits ask of the units, in the world that the rules on types come to
 abbrev pub HasEntries : RulesLibrary → (main : List ℕ) → Program → Type 0
 HasEntries l main p = (x : Walked) → (judged_in typing l main).answer ≡ Ok x → p.units ≡ entries_of x.world l
+
+-- what the types of the typed program weigh, beside what the rules on types leave declared
+abbrev pub DeclaresTypes : RulesLibrary → (main : List ℕ) → Program → Type 0
+DeclaresTypes l main p =
+    (x : Walked) → (judged_in typing l main).answer ≡ Ok x → AreDeclared p.types x.next.types_declared
 
 -- A library passes a counted limit here first, where the rules on types hold.
 pub record PassesLimit (l : RulesLibrary) (main : List ℕ) (p : Pos) : Type 0 where
@@ -129,6 +135,10 @@ abbrev pub HasEntriesOf : Library → List LibraryUnit → WholeWalk → (main :
 HasEntriesOf x units w main p =
     (l : RulesLibrary) → IsWholeLibrary x units l → JudgedAs step.Typing x l main (Ok w) → HasEntries l main p
 
+abbrev pub DeclaresTypesOf : Library → List LibraryUnit → WholeWalk → (main : List ℕ) → Program → Type 0
+DeclaresTypesOf x units w main p =
+    (l : RulesLibrary) → IsWholeLibrary x units l → JudgedAs step.Typing x l main (Ok w) → DeclaresTypes l main p
+
 -- and over all steps
 abbrev pub ComesToVerdict : Library → List LibraryUnit → (main : List ℕ) → Result Program (Failure CheckFault) → Type 0
 ComesToVerdict x units main result =
@@ -136,3 +146,6 @@ ComesToVerdict x units main result =
 
 abbrev pub HasEntriesIn : Library → List LibraryUnit → (main : List ℕ) → Program → Type 0
 HasEntriesIn x units main p = (l : RulesLibrary) → IsWholeLibrary x units l → HasEntries l main p
+
+abbrev pub DeclaresTypesIn : Library → List LibraryUnit → (main : List ℕ) → Program → Type 0
+DeclaresTypesIn x units main p = (l : RulesLibrary) → IsWholeLibrary x units l → DeclaresTypes l main p

@@ -1,32 +1,54 @@
 -- The generics in whose texts composite types are declared (Ada RM 2012, 12.1).
-use Rattle.std.specs.Prelude.{◌≡◌, ℕ, nat_eq, ◌<◌, Bool, false, List, [], ◌∷◌, length, set, Option, None, if◌then◌else◌}
+use Rattle.std.specs.Prelude.{◌≡◌, ℕ, ◌+◌, List, [], ◌∷◌, ◌++◌, length, Option}
+use Rattle.ada_tree.specs.declared.types.Owner.{Owner}
+use Rattle.ada_tree.specs.declared.types.Owner.TheVariants as owner
 use Rattle.ada_tree.specs.declared.types.Subtype.{Subtype}
 use Rattle.ada_tree.specs.declared.types.Subtype.TheVariants as subtype
 use Rattle.ada_entities.specs.TypeTable.{tables}
-use Rattle.type_trees.specs.Trees.{generic_at}
 use Rattle.program_walk.specs.declared.found.DeclaredType.{DeclaredType}
 use Rattle.program_walk.specs.declared.walk.Walk.{Walk}
 
--- whether a declaration is that of the composite type with this number
-abbrev pub is_type : ℕ → Subtype → Bool
-is_type n (subtype.Scalar r) = false
-is_type n (subtype.Composite o m) = nat_eq m n
+-- those of the composite types among these declarations, in order
+abbrev pub with_text : Subtype → Option ℕ → List (Option ℕ) → List (Option ℕ)
+with_text (subtype.Scalar r) g gs = gs
+with_text (subtype.Composite o n) g gs = g ∷ gs
 
--- the generic in whose text the type with a number is declared among these; this one, where it is not
-abbrev pub generic_among : ℕ → Option ℕ → List DeclaredType → Option ℕ
-generic_among n g [] = g
-generic_among n g (d ∷ ds) = generic_among n (if is_type n d.word.subtype then d.generic else g) ds
+abbrev pub texts_of : List DeclaredType → List (Option ℕ)
+texts_of [] = []
+texts_of (d ∷ ds) = with_text d.word.subtype d.generic (texts_of ds)
 
--- one generic, or none, for each of so many types
-pub record AreGenerics (count : ℕ) (ds : List DeclaredType) (gs : List (Option ℕ)) : Type 0 where
+-- The composite types have the numbers from this one on, and none is seen through an instance.
+abbrev pub HasNumber : ℕ → Owner → ℕ → Type 0
+HasNumber n owner.Here m = m ≡ n
+HasNumber n (owner.Instance i) m = ⊥
+
+abbrev pub IsNumbered : ℕ → Subtype → Type 0
+IsNumbered n (subtype.Scalar r) = Unit {0}
+IsNumbered n (subtype.Composite o m) = HasNumber n o m
+
+abbrev pub number_behind : ℕ → Subtype → ℕ
+number_behind n (subtype.Scalar r) = n
+number_behind n (subtype.Composite o m) = n + 1
+
+abbrev pub AreNumbered : ℕ → List DeclaredType → Type 0
+AreNumbered n [] = Unit {0}
+AreNumbered n (d ∷ ds) = IsNumbered n d.word.subtype × AreNumbered (number_behind n d.word.subtype) ds
+
+-- the generics of all composite types that are declared, and of no other, by their numbers
+pub record AreTexts (ds : List DeclaredType) (gs : List (Option ℕ)) : Type 0 where
+  pub texts : gs ≡ texts_of ds
+  pub numbered : AreNumbered 0 ds
+
+-- as many as there are types in a table
+pub record AreAllTexts (count : ℕ) (ds : List DeclaredType) (gs : List (Option ℕ)) : Type 0 where
+  pub are : AreTexts ds gs
   pub complete : length gs ≡ count
-  pub each : (n : ℕ) → n < count → generic_at gs n ≡ generic_among n None ds
 
--- those of all composite types that a walk has declared
+-- those of all composite types of a walk
 abbrev pub AreTypeTexts : Walk → List (Option ℕ) → Type 0
-AreTypeTexts w gs = AreGenerics (length (tables w.symbols.types).shapes) w.found.types.items gs
+AreTypeTexts w gs = AreAllTexts (length (tables w.symbols.types).shapes) w.found.types.items gs
 
--- with one declaration more
-abbrev pub with_generic : Subtype → Option ℕ → List (Option ℕ) → List (Option ℕ)
-with_generic (subtype.Scalar r) g gs = gs
-with_generic (subtype.Composite o m) g gs = set gs m g
+-- one declaration more
+abbrev pub IsNoted : Subtype → Option ℕ → (old new : List (Option ℕ)) → Type 0
+IsNoted (subtype.Scalar r) g old new = new ≡ old
+IsNoted (subtype.Composite o n) g old new = HasNumber (length old) o n × (new ≡ (old ++ g ∷ []))

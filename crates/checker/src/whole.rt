@@ -4,10 +4,11 @@ ghost use Rattle.std.specs.Prelude.{◌≡◌, IfOk, IfErr};
 ghost use Rattle.std.specs.Str.{str_to_ascii_lowercase};
 ghost use Rattle.ada_rules.specs.Legal.{checked, legal};
 ghost use Rattle.ada_tree.specs.Programs.{program_of};
-ghost use Rattle.typed_program.specs.Assembled.{IsProgramOf};
+ghost use Rattle.typed_program.specs.Assembled.{HasTypes, IsProgramOf};
 ghost use Rattle.checker.specs.Entries.{AreEntries};
+ghost use Rattle.checker.specs.TypeTexts.{AreTypeTexts};
 ghost use Rattle.checker.specs.Checking as rules;
-ghost use Rattle.checker.specs.Checking.{Refuses, HasEntries, HasEntriesOf, HasEntriesIn, IsUnmet, IsExcess, ComesToNamed, ComesToTyped, ComesToAccepted, ComesToProgram, ComesToVerdict, whole_library};
+ghost use Rattle.checker.specs.Checking.{Refuses, HasEntries, HasEntriesOf, HasEntriesIn, DeclaresTypes, DeclaresTypesOf, DeclaresTypesIn, IsUnmet, IsExcess, ComesToNamed, ComesToTyped, ComesToAccepted, ComesToProgram, ComesToVerdict, whole_library};
 
 use crate::fault::CheckFault;
 use crate::steps::{WholeWalk, judged};
@@ -142,6 +143,7 @@ fn prepare(
 ) -> Result<Prepared, Failure<CheckFault>>
     ensures accepted { ComesToAccepted units.now whole.now result }
     ensures entries { IfOk result (λ b. AreEntries library.now whole.now.walk.symbols.units units.now b.entries.items) }
+    ensures texts { IfOk result (λ b. AreTypeTexts whole.now.walk b.generics.items) }
 {
     let generics = type_texts(alloc, &whole.walk)?;
     accepted(alloc, whole, generics.as_slice(), units)?;
@@ -159,6 +161,7 @@ fn assembled(
 ) -> Result<Program, AllocError>
     ensures program { IfOk result (IsProgramOf library.now whole.instances whole.walk main.now) }
     ensures units { IfOk result (λ p. p.units ≡ prepared.entries.items) }
+    ensures types { IfOk result (HasTypes prepared.generics.items whole.walk) }
 {
     let WholeWalk { walk, instances } = whole;
     let Prepared { generics, entries } = prepared;
@@ -185,6 +188,7 @@ fn program(
 ) -> Result<Program, Failure<CheckFault>>
     ensures program { ComesToProgram library.now units.now whole main.now result }
     ensures units { IfOk result (HasEntriesOf library.now units.now whole main.now) }
+    ensures types { IfOk result (DeclaresTypesOf library.now units.now whole main.now) }
 {
     let prepared = prepare(alloc, library, &whole, units)?;
     Ok(assembled(alloc, library, whole, prepared, main)?)
@@ -200,6 +204,7 @@ fn verdict(
 ) -> Result<Program, Failure<CheckFault>>
     ensures verdict { ComesToVerdict library.now units.now main.now result }
     ensures units { IfOk result (HasEntriesIn library.now units.now main.now) }
+    ensures types { IfOk result (DeclaresTypesIn library.now units.now main.now) }
 {
     named(alloc, library, units, main)?;
     let whole = typed(alloc, library, units, main)?;
@@ -211,6 +216,7 @@ fn verdict(
 fn check_lower(alloc: Global, units: &[Unit], main: &[u8]) -> Result<Program, Failure<CheckFault>>
     ensures legal { IfOk result (λ p. checked units.now main.now ≡ legal (program_of p)) }
     ensures units { IfOk result (HasEntries (whole_library units.now) main.now) }
+    ensures types { IfOk result (DeclaresTypes (whole_library units.now) main.now) }
     ensures refused { IfErr result (Refuses units.now main.now) }
 {
     let library = Library::new(alloc, units)?;
@@ -223,6 +229,7 @@ fn check_lower(alloc: Global, units: &[Unit], main: &[u8]) -> Result<Program, Fa
 pub fn check(alloc: Global, units: &[Unit], main: &str) -> Result<Program, Failure<CheckFault>>
     ensures legal { IfOk result (λ p. checked units.now (str_to_ascii_lowercase main.now) ≡ legal (program_of p)) }
     ensures units { IfOk result (HasEntries (whole_library units.now) (str_to_ascii_lowercase main.now)) }
+    ensures types { IfOk result (DeclaresTypes (whole_library units.now) (str_to_ascii_lowercase main.now)) }
     ensures refused { IfErr result (Refuses units.now (str_to_ascii_lowercase main.now)) }
 {
     let lower = main.as_bytes().to_ascii_lowercase(alloc)?;

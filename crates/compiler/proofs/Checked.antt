@@ -1,6 +1,6 @@
 -- Refusals of units are told as faults of their sources.
-use Rattle.std.proofs.Common.{◌≡◌, ℕ, List, Ok, Err, Result, IfErr, refl, sym, ap, ◌∙◌, subst}
-use Rattle.std.specs.Prelude.{IsErrAnd}
+use Rattle.std.proofs.Common.{◌≡◌, ℕ, List, Ok, Err, Result, IfOk, IfErr, refl, sym, ap, ◌∙◌, subst}
+use Rattle.std.specs.Prelude.{IsErrAnd, MatchResult}
 use Rattle.std.specs.Str.{str_to_ascii_lowercase}
 use Rattle.cov_base.specs.declared.failure.Failure.{Failure}
 use Rattle.cov_base.specs.declared.failure.Failure.TheVariants.{Fault, WantOfMemory}
@@ -39,6 +39,13 @@ pub large_units : (entries : List UnitEntry) (f : Failure ExpandFault) → expan
 large_units entries _ (expanded.has_too_many past) = has_too_many past
 large_units entries _ (expanded.passes_the_limit few past) = passes few past
 large_units entries _ expanded.memory_is_out = no_memory
+
+-- what holds of an answer holds of it where its refusal is told otherwise
+pub told_otherwise : {A E D : Type 0} (P : A → Type 0) (R : E → D → Type 0) (r : Result A E) (x : Result A D) → MatchResult r (λ a. x ≡ Ok a) (λ e. IsErrAnd x (R e))
+    → IfOk r P → IfOk x P
+told_otherwise P R (Ok a) x h p = subst (λ y. IfOk y P) (sym h) p
+told_otherwise P R (Err e) (Err d) h p = tt
+told_otherwise P R (Err e) (Ok a) h p = absurd h
 
 pub ruleset refusals = (illegal_units, large_units)
 

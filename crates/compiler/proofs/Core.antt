@@ -1,5 +1,5 @@
 -- The object that is built of a legal program and its sources is the sources' object, and cheap.
-use Rattle.std.proofs.Common.{◌≡◌, ℕ, ◌≤◌, ◌<◌, ◌&&◌, Bool, true, nat_lt, nat_le, List, [], ◌∷◌, length, map, sum_by, All, refl, sym, ap, ◌∙◌, subst, arith}
+use Rattle.std.proofs.Common.{◌≡◌, ℕ, ◌≤◌, ◌<◌, ◌&&◌, Bool, true, nat_lt, nat_le, List, [], ◌∷◌, length, map, sum_by, All, Result, Ok, Err, IfOk, refl, sym, ap, ◌∙◌, subst, arith}
 use Rattle.std.specs.List.{list_all, AllByRecursion}
 use Rattle.std.specs.Str.{is_utf8, str_to_ascii_lowercase}
 use Rattle.std.proofs.lemmas.Bool.Decides.{nat_tests}
@@ -8,6 +8,7 @@ use Rattle.std.proofs.lemmas.List.Elements.{All-from_recursion, recursion_from_A
 use Rattle.ada_meaning.specs.Program.{Program}
 use Rattle.ada_syntax.specs.Nodes.{unit_nodes}
 use Rattle.ada_syntax.specs.declared.unit.Unit.{Unit as LibraryUnit}
+use Rattle.ada_tree.specs.Programs.{program_of}
 use Rattle.ada_parser.specs.Opening.{open_extent}
 use Rattle.legal_counts.specs.ConditionPlaces.{units_conditions}
 use Rattle.legal_programs.specs.DecisionPlaces.{units_decisions}
@@ -15,11 +16,15 @@ use Rattle.legal_programs.specs.TextPlaces.{units_places}
 use Rattle.compiler.proofs.Legal.{compilable_law, made_of, passes_law, behaves_law, in_time_law}
 use Rattle.compiler.proofs.MarksOf.{marks_law}
 use Rattle.compiler.proofs.Placing.{text_bound}
-use Rattle.compiler.specs.Built.{HasPlainName, CanBeNamed, AreLegal, IsBuiltOf}
+use Rattle.compiler.specs.Built.{HasPlainName, CanBeNamed, AreLegal, AreTyped, IsBuiltOf}
 use Rattle.compiler.specs.Compiled.{IsCompiled}
 use Rattle.compiler.specs.Legal.{IsLegal, AreProgram}
 use Rattle.compiler.specs.Source.{entry_of_file, IsObjectOf, IsCheap}
 use Rattle.compiler.specs.Texts.{IsOfText}
+use Rattle.checker.specs.Checking.{DeclaresTypes, whole_library}
+use Rattle.compiler.specs.declared.checking.LegalProgram.{LegalProgram}
+use Rattle.compiler.specs.declared.fault.SourceFault.{SourceFault}
+use Rattle.cov_base.specs.declared.failure.Failure.{Failure}
 use Rattle.cov_base.specs.declared.obligations.SourceFile.{SourceFile}
 use Rattle.cov_base.specs.Lists.{Everywhere}
 use Rattle.cov_base.specs.declared.position.Pos.{Pos}
@@ -66,25 +71,27 @@ AreInFilesOf places files = AreInFiles files places
 abbrev AreAllInFilesOf : List (List Pos) → ℕ → Type 0
 AreAllInFilesOf lists files = Everywhere (AreInFiles files) lists
 
-entered : (files : List SourceFile) (p : Program) (o : Object) (P : ℕ → Type 0) → IsBuiltOf files p o → P (length files) → P (length o.files)
-entered files p o P built within = subst P (sym (ap length built.sources ∙ length-map files entry_of_file)) within
+entered : (files : List SourceFile) (p : Program) (nodes : ℕ) (o : Object) (P : ℕ → Type 0) → IsBuiltOf files p nodes o → P (length files) → P (length o.files)
+entered files p nodes o P built within = subst P (sym (ap length built.sources ∙ length-map files entry_of_file)) within
 
-compiled_of : (files : List SourceFile) (main : List ℕ) (p : Program) (o : Object) (legal : AreLegal files main p) → CanBeNamed files → IsBuiltOf files p o → IsCompiled legal.units p o
-compiled_of files main p o legal can built = record {
+compiled_of : (files : List SourceFile) (main : List ℕ) (p : Program) (nodes : ℕ) (o : Object) (legal : AreLegal files main p) → CanBeNamed files → IsBuiltOf files p nodes o
+    → IsCompiled legal.units p o
+compiled_of files main p nodes o legal can built = record {
   kernel = built.kernel;
+  nodes = nodes;
   is_kernel = built.is_kernel;
   holds = built.holds;
   obligations = built.obligations;
   files = ap are_files built.sources ∙ entries_are_files files can;
   names = subst (λ fs. All FileFits fs) (sym built.sources) (All-from_recursion FileFits (map entry_of_file files) (names_fit files (recursion_from_All HasPlainName files can.names)));
-  places = entered files p o (AreInFilesOf (units_places legal.units)) built (statements_within open_extent (length files) legal.units legal.program.read);
-  decisions = entered files p o (AreInFilesOf (units_decisions legal.units)) built (decisions_within open_extent (length files) legal.units legal.program.read);
-  conditions = entered files p o (AreAllInFilesOf (units_conditions legal.units)) built (conditions_within open_extent (length files) legal.units legal.program.read);
+  places = entered files p nodes o (AreInFilesOf (units_places legal.units)) built (statements_within open_extent (length files) legal.units legal.program.read);
+  decisions = entered files p nodes o (AreInFilesOf (units_decisions legal.units)) built (decisions_within open_extent (length files) legal.units legal.program.read);
+  conditions = entered files p nodes o (AreAllInFilesOf (units_conditions legal.units)) built (conditions_within open_extent (length files) legal.units legal.program.read);
 }
 
 -- the closing digest enters none of this
-pub closed_is_built : (files : List SourceFile) (p : Program) (o : Object) → IsBuiltOf files p o → IsBuiltOf files p (closed_object o)
-closed_is_built files p o built = record {
+pub closed_is_built : (files : List SourceFile) (p : Program) (nodes : ℕ) (o : Object) → IsBuiltOf files p nodes o → IsBuiltOf files p nodes (closed_object o)
+closed_is_built files p nodes o built = record {
   kernel = built.kernel;
   is_kernel = built.is_kernel;
   holds = record {
@@ -105,13 +112,13 @@ closed_is_built files p o built = record {
 abbrev legal_is : (files : List SourceFile) (main : List ℕ) (p : Program) → AreLegal files main p → IsLegal files main p
 legal_is files main p legal = record { units = legal.units; parsed = legal.parsed; program = legal.program.program }
 
-module _ (files : List SourceFile) (main : List ℕ) (p : Program) (o : Object) (can : CanBeNamed files) (legal : AreLegal files main p) (text : IsOfText legal.units p)
-    (few : sum_by unit_nodes legal.units ≤ 4096) (built : IsBuiltOf files p o) where
+module _ (files : List SourceFile) (main : List ℕ) (p : Program) (nodes : ℕ) (o : Object) (can : CanBeNamed files) (legal : AreLegal files main p) (text : IsOfText legal.units p)
+    (few : sum_by unit_nodes legal.units ≤ 4096) (built : IsBuiltOf files p nodes o) where
   abbrev lower : List ℕ
   lower = str_to_ascii_lowercase main
 
   compiled : IsCompiled legal.units p o
-  compiled = compiled_of files main p o legal can built
+  compiled = compiled_of files main p nodes o legal can built
 
   -- it can be written
   pub written_law : HasObject o
@@ -129,18 +136,18 @@ module _ (files : List SourceFile) (main : List ℕ) (p : Program) (o : Object) 
     behaves = behaves_law (length files) legal.units lower p o legal.program text few compiled;
   }
 
-  cheap_law : IsCheap files main p o
-  cheap_law = record {
+  cheap_law : nodes ≤ sum_by unit_nodes legal.units → IsCheap files main p o
+  cheap_law small = record {
     legal = legal_is files main p legal;
     in_time = in_time_law (length files) legal.units lower p o legal.program text few compiled;
-    small = text_bound p built.kernel o (sum_by unit_nodes legal.units) built.is_kernel built.holds text.nodes;
+    small = omega (arith, text_bound p nodes built.kernel o built.is_kernel built.holds, small);
   }
 
-pub closed_law : (files : List SourceFile) (main : List ℕ) (p : Program) (o : Object) → CanBeNamed files → (legal : AreLegal files main p) → IsOfText legal.units p
-    → sum_by unit_nodes legal.units ≤ 4096 → IsBuiltOf files p o → IsObject (closed_object o) → IsObjectOf files main p (closed_object o) × IsCheap files main p (closed_object o)
-closed_law files main p o can legal text few built is =
-    let whole = closed_is_built files p o built in
-    (object_law files main p (closed_object o) can legal text few whole is, cheap_law files main p (closed_object o) can legal text few whole)
+pub closed_law : (files : List SourceFile) (main : List ℕ) (p : Program) (nodes : ℕ) (o : Object) → CanBeNamed files → (legal : AreLegal files main p) → IsOfText legal.units p
+    → sum_by unit_nodes legal.units ≤ 4096 → nodes ≤ sum_by unit_nodes legal.units → IsBuiltOf files p nodes o → IsObject (closed_object o) → IsObjectOf files main p (closed_object o) × IsCheap files main p (closed_object o)
+closed_law files main p nodes o can legal text few small built is =
+    let whole = closed_is_built files p nodes o built in
+    (object_law files main p nodes (closed_object o) can legal text few whole is, cheap_law files main p nodes (closed_object o) can legal text few whole small)
 
 -- what has been read and checked
 pub legal_of : (files : List SourceFile) (units read : List LibraryUnit) (main : List ℕ) (p : Program) → HaveUnits files units → AreOfFiles open_extent (length files) units
@@ -150,3 +157,13 @@ legal_of files units read main p parsed of_files are program = record {
   parsed = parsed;
   program = record { read = of_files; program = subst (λ us. AreProgram us (str_to_ascii_lowercase main) p) are program };
 }
+
+pub typed_answer : (files : List SourceFile) (units read : List LibraryUnit) (main : List ℕ) (r : Result LegalProgram (Failure SourceFault)) → HaveUnits files units
+    → AreOfFiles open_extent (length files) units → read ≡ units → IfOk r (λ l. AreProgram read (str_to_ascii_lowercase main) (program_of l.program))
+    → IfOk r (λ l. DeclaresTypes (whole_library read) (str_to_ascii_lowercase main) l.program) → IfOk r (λ l. AreTyped files main l.program)
+unfolding legal_of
+typed_answer files units read main (Ok l) parsed of_files are program types = record {
+  legal = legal_of files units read main (program_of l.program) parsed of_files are program;
+  types = subst (λ us. DeclaresTypes (whole_library us) (str_to_ascii_lowercase main) l.program) are types;
+}
+typed_answer files units read main (Err f) parsed of_files are program types = tt

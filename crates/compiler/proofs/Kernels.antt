@@ -1,5 +1,5 @@
 -- A whole kernel is one of its program, and its image one of the program.
-use Rattle.std.proofs.Common.{◌≡◌, ℕ, zero, suc, ◌+◌, List, [], ◌++◌, length, map, sum_by, Result, Ok, Err, IfOk, OnOk, refl, sym, ap, ◌∙◌, subst, arith, length-append}
+use Rattle.std.proofs.Common.{◌≡◌, ℕ, zero, suc, ◌+◌, ◌≤◌, List, [], ◌++◌, length, map, sum_by, Result, Ok, Err, IfOk, OnOk, refl, sym, ap, ◌∙◌, subst, arith, length-append}
 use Rattle.std.proofs.lemmas.List.{length-map}
 use Rattle.std.specs.declared.alloc.AllocError.{AllocError}
 use Rattle.ada_meaning.specs.Obligations.{obligations_of, predefined_names, ordered_exceptions, ListedException}
@@ -7,40 +7,41 @@ use Rattle.ada_meaning.specs.Execution as source
 use Rattle.ada_meaning.specs.Program.{Program}
 use Rattle.ada_tree.specs.declared.program.LibraryObject.{LibraryObject}
 use Rattle.ada_tree.specs.declared.program.Program.{Program as TypedProgram}
-use Rattle.ada_tree.specs.declared.types.TypeDeclaration.{TypeDeclaration}
 use Rattle.ada_tree.specs.Programs.{program_of}
 use Rattle.assembler.specs.Reach.{AreItems}
 use Rattle.assembler.specs.declared.piece.Piece.{Piece}
 use Rattle.compiler.specs.Held.{HoldsImage}
-use Rattle.compiler.specs.Kernels.{CanBeLaid, IsImageOf, IsKernelOf}
+use Rattle.compiler.specs.Kernels.{CanBeLaid, IsImageOf, IsKernelOf, nodes_of}
 use Rattle.compiler.specs.Made.{IsCompilable}
 use Rattle.cov_base.specs.declared.obligations.Obligations.{Obligations}
 use Rattle.cov_base.specs.Lists.{Everywhere}
 use Rattle.generic_expand.specs.Expanded.{copies_of}
+use Rattle.generic_expand.specs.Limits.{types_weight}
 use Rattle.kernel_code.specs.Pieces.{kernel_pieces}
 use Rattle.kernel_ir.specs.declared.kernel.Kernel.{Kernel}
 use Rattle.linker.specs.Linked.{linked}
 use Rattle.linker.specs.declared.image.Image.{Image}
 use Rattle.object_format.specs.declared.object.Object.{Object}
-use Rattle.kernel_ir.specs.declared.kernel.Layout.{Layout}
 use Rattle.lower.specs.Kernel.{kernel_for}
 use Rattle.lower.specs.Schemes.{scheme_for}
 use Rattle.lower.proofs.LaidKernel.{kernel_law as laid_law}
+use Rattle.lower.proofs.LaidSizes.{covered_law}
 use Rattle.statement_code.specs.Copies.{AreCovered}
 use Rattle.statement_code.specs.Kernels.{AreOutside, IsWhole, Scheme}
 use Rattle.statement_code.proofs.AllFuels.{kernel_law}
 use Rattle.statement_code.proofs.Kernels.{bytes_law, conditions_law, rows_law, well_formed_law, within_law}
 use Rattle.statement_code.proofs.Laid.{whole_law}
-use Rattle.storage_layout.specs.Layouts.{HasWord, no_layouts, with_types}
+use Rattle.storage_layout.specs.Layouts.{HasWord}
 use Rattle.storage_layout.specs.Library.{all_words_in, words_of_instances}
 use Rattle.statement_code.proofs.Once.{conditions_once, nodes_once, rows_once}
 use Rattle.statement_code.proofs.Own.{own_law}
+use Rattle.statement_code.specs.Sizes.{subprogram_nodes}
 
--- a whole kernel of a program that can be compiled, with nothing at the library level and no layouts
-pub whole_kernel : (p : Program) (k : Kernel) (s : Scheme) → IsCompilable p → AreOutside p.subprograms → IsWhole p k s → k.library ≡ [] → k.layouts ≡ [] → IsKernelOf p k
+-- a whole kernel of a program that can be compiled, with nothing at the library level and layouts of types that weigh so much
+pub whole_kernel : (p : Program) (k : Kernel) (s : Scheme) (types : ℕ) → IsCompilable p → AreOutside p.subprograms → IsWhole p k s → k.library ≡ [] → AreCovered k.layouts types
+    → sum_by subprogram_nodes p.subprograms + types ≤ 4096 → IsKernelOf p (sum_by subprogram_nodes p.subprograms + types) k
 unfolding source.deepest
-whole_kernel p k s able outside whole bare flat =
-    let covered : AreCovered k.layouts 0 = subst (λ (ls : List Layout). AreCovered ls 0) (sym flat) (record { few = omega arith; short = omega arith }) in
+whole_kernel p k s types able outside whole bare covered few =
     let all = nodes_once p outside in
     record {
       does = kernel_law p k s whole.is_kernel;
@@ -49,36 +50,37 @@ whole_kernel p k s able outside whole bare flat =
       conditions = λ weight. conditions_law p k s whole weight ∙ ap (sum_by weight) (conditions_once p outside);
       exceptions = let e = whole.exceptions in omega (arith, e);
       bare = bare;
-      within = within_law p k s whole 0 covered (let few = able.few in omega (arith, all, few));
-      short = λ nodes few. bytes_law p k s whole 0 covered nodes (omega (arith, all, few));
+      within = within_law p k s whole types covered (omega (arith, all, few));
+      short = bytes_law p k s whole types covered (sum_by subprogram_nodes p.subprograms + types) (omega (arith, all));
+      few = few;
     }
 
--- the kernel of a typed program, where nothing stands at the library level and there are no composite types
+-- the kernel of a typed program, where nothing stands at the library level
 nothing_there : (t : TypedProgram) → t.objects ≡ [] → (count inst : ℕ) → words_of_instances t count inst ≡ []
 nothing_there t bare zero inst = refl
 nothing_there t bare (suc count) inst = ap (λ (os : List LibraryObject). all_words_in t inst os ++ words_of_instances t count (inst + 1)) bare ∙ nothing_there t bare count (inst + 1)
 
 pub laid_kernel : (t : TypedProgram) (k : Kernel) → IsCompilable (program_of t) → CanBeLaid t → k ≡ kernel_for t (copies_of (program_of t)) → Everywhere HasWord k.layouts
-    → IsKernelOf (program_of t) k
+    → IsKernelOf (program_of t) (nodes_of t) k
 laid_kernel t k able laid is words =
     let p = program_of t in
     let made = kernel_for t (copies_of (program_of t)) in
     let whole = whole_law p made (scheme_for t (copies_of (program_of t))) laid.well
     (laid_law t laid.well laid.named laid.limits (subst (λ (x : Kernel). Everywhere HasWord x.layouts) is words)) in
-    subst (IsKernelOf p) (sym is)
-    (whole_kernel p made (scheme_for t (copies_of (program_of t))) able laid.outside whole (nothing_there t laid.bare (length t.instances + 1) 0)
-    (ap (λ (ts : List TypeDeclaration). (with_types t 0 ts no_layouts).layouts) laid.flat))
+    subst (IsKernelOf p (nodes_of t)) (sym is)
+    (whole_kernel p made (scheme_for t (copies_of (program_of t))) (types_weight t) able laid.outside whole (nothing_there t laid.bare (length t.instances + 1) 0)
+    (covered_law t) laid.light)
 
 -- the linked pieces of a kernel of a program are an image of the program
-pub image_law : (p : Program) (k : Kernel) (pieces : List Piece) (answer : Result Image AllocError) → IsKernelOf p k → pieces ≡ kernel_pieces k
-    → IfOk answer (λ image. image ≡ linked pieces []) → OnOk answer (AreItems pieces) → IfOk answer (IsImageOf p)
-image_law p k pieces (Ok image) is are image_is items = record {
+pub image_law : (p : Program) (nodes : ℕ) (k : Kernel) (pieces : List Piece) (answer : Result Image AllocError) → IsKernelOf p nodes k → pieces ≡ kernel_pieces k
+    → IfOk answer (λ image. image ≡ linked pieces []) → OnOk answer (AreItems pieces) → IfOk answer (IsImageOf p nodes)
+image_law p nodes k pieces (Ok image) is are image_is items = record {
   kernel = k;
   is_kernel = is;
   linked = image_is ∙ ap (λ (ps : List Piece). linked ps []) are;
   items = subst (λ (ps : List Piece). AreItems ps) are items;
 }
-image_law p k pieces (Err e) is are image_is items = tt
+image_law p nodes k pieces (Err e) is are image_is items = tt
 
 -- an object of an image of a program holds its kernel's image
 exceptions_listed : (p : Program) → IsCompilable p → length (obligations_of p []).exceptions ≡ 4 + length p.exceptions
@@ -87,9 +89,9 @@ exceptions_listed p able =
     ∙ ap (λ (n : ℕ). 4 + n) (length-map (ordered_exceptions p) (λ (x : ListedException). x.name)
     ∙ (sym (length-map (ordered_exceptions p) (λ (x : ListedException). x.entry)) ∙ ap length (sym able.numbered.exceptions)))
 
-pub holds_law : (p : Program) (o : Object) (image : Image) → IsCompilable p → (is : IsImageOf p image) → o.entry ≡ image.entry → o.text ≡ image.text → o.init_at ≡ image.init_at → o.init ≡ image.init
+pub holds_law : (p : Program) (nodes : ℕ) (o : Object) (image : Image) → IsCompilable p → (is : IsImageOf p nodes image) → o.entry ≡ image.entry → o.text ≡ image.text → o.init_at ≡ image.init_at → o.init ≡ image.init
     → o.rows ≡ image.rows → o.roles ≡ image.roles → o.obligations ≡ obligations_of p [] → HoldsImage is.kernel o
-holds_law p o image able is entry text at init rows roles obligations = record {
+holds_law p nodes o image able is entry text at init rows roles obligations = record {
   items = is.items;
   text = text ∙ ap (λ (i : Image). i.text) is.linked;
   entry = entry ∙ ap (λ (i : Image). i.entry) is.linked;

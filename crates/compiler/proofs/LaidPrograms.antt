@@ -1,5 +1,5 @@
 -- Legal programs are plain, and can be laid out.
-use Rattle.std.proofs.Common.{◌≡◌, ℕ, zero, suc, ◌+◌, ◌≤◌, List, [], ◌∷◌, length, map, Some, slice_get, refl, sym, ap, ◌∙◌, subst, arith}
+use Rattle.std.proofs.Common.{◌≡◌, ℕ, zero, suc, ◌+◌, ◌*◌, ◌≤◌, List, [], ◌∷◌, length, map, Option, None, Some, slice_get, refl, sym, ap, ◌∙◌, subst, arith}
 use Rattle.std.specs.Prelude.{option_map, sum_by}
 use Rattle.std.specs.Option.{option_and_then}
 use Rattle.std.proofs.lemmas.List.{length-map}
@@ -8,7 +8,7 @@ use Rattle.std.proofs.lemmas.Option.{slice_get-map}
 use Rattle.cov_base.specs.Lists.{Everywhere}
 use Rattle.ada_syntax.specs.Nodes.{unit_nodes}
 use Rattle.ada_syntax.specs.declared.unit.Unit.{Unit as LibraryUnit}
-use Rattle.ada_meaning.specs.Bodies.{StandsIn}
+use Rattle.ada_meaning.specs.Bodies.{instances_of, StandsIn}
 use Rattle.ada_meaning.specs.Obligations.{ListedException}
 use Rattle.ada_meaning.specs.Program as meaning
 use Rattle.ada_meaning.specs.Statics.{InstanceValues, values_of}
@@ -20,15 +20,21 @@ use Rattle.ada_resolved.specs.Sizes.{with_component, type_size, words}
 use Rattle.ada_tree.specs.declared.program.Program.{Program}
 use Rattle.ada_tree.specs.declared.program.Subprogram.{Subprogram}
 use Rattle.ada_tree.specs.declared.types.Subtype.{Subtype}
-use Rattle.ada_tree.specs.Programs.{library_object_of, program_of, raisable_of, subprogram_of, types_of, unfolded}
+use Rattle.ada_tree.specs.declared.types.TypeDeclaration.{TypeDeclaration}
+use Rattle.ada_tree.specs.Programs.{instance_of, library_object_of, program_of, raisable_of, subprogram_of, types_of, unfolded}
 use Rattle.ada_tree.specs.View as view
+use Rattle.ada_tree.specs.Weights.{type_nodes}
+use Rattle.checker.specs.Checking.{DeclaresTypes, whole_library}
+use Rattle.generic_expand.specs.Limits.{declared_copies}
 use Rattle.legal_counts.specs.ObjectWords as text
 use Rattle.legal_instances.specs.InOrder.{UnitsRise}
 use Rattle.legal_laws.specs.Bounded.{IsBounded, AreObjectsBounded}
+use Rattle.legal_programs.proofs.Passed.{is_legal, legal_comes}
 use Rattle.legal_programs.specs.DecisionPlaces.{units_decisions}
 use Rattle.legal_programs.specs.InText.{Rise}
 use Rattle.legal_programs.specs.TextPlaces.{units_places}
 use Rattle.legal_texts.specs.Subprograms.{AreSubprograms}
+use Rattle.legal_types.specs.Weights.{types_weight as declared_weight}
 use Rattle.legal_texts.specs.UnitTexts.{AreUnitTexts}
 use Rattle.lower.specs.Standing.{AreTypesNamed, IsSized, IsWithinLimits, most_declared_words, size_of, words_of_objects}
 use Rattle.lower.proofs.LaidObjects.{named_known}
@@ -36,9 +42,9 @@ use Rattle.parsed_texts.proofs.Decisions.{decisions_rise}
 use Rattle.parsed_texts.proofs.Statements.{statements_rise_weakly, units_rise}
 use Rattle.parsed_texts.proofs.Texts.{texts_of}
 use Rattle.statement_code.specs.Sizes.{block_nodes, subprogram_nodes}
-use Rattle.compiler.specs.Kernels.{CanBeLaid}
+use Rattle.compiler.specs.Kernels.{CanBeLaid, nodes_of}
 use Rattle.compiler.specs.Texts.{AreUnitsOf, IsOfText, IsPlain}
-use Rattle.compiler.proofs.PlainUnits.{ordered_none, objects_none, only_subprograms, outside_law}
+use Rattle.compiler.proofs.PlainUnits.{instances_none, ordered_none, objects_none, only_subprograms, outside_law}
 use Rattle.compiler.proofs.UnfoldedSizes.{block_alike}
 
 -- where types have the sizes that the rules count, they have sizes
@@ -133,12 +139,44 @@ module _ (t : Program) (plain : IsPlain (program_of t)) where
       exceptions_none = sym (length-map t.exceptions raisable_of) ∙ ap (λ (xs : List meaning.Raisable). length xs) plain.no_exceptions
 
 pub laid_law : (files : ℕ) (units : List LibraryUnit) (main : List ℕ) (t : Program) → AreUnitsOf files units main (program_of t) → sum_by unit_nodes units ≤ 4096
-    → IsOfText units (program_of t) → IsPlain (program_of t) → AreTypesNamed t → t.types ≡ [] → CanBeLaid t
-laid_law files units main t h few of_text plain named flat = record {
+    → IsOfText units (program_of t) → IsPlain (program_of t) → AreTypesNamed t → nodes_of t ≤ sum_by unit_nodes units → CanBeLaid t
+laid_law files units main t h few of_text plain named light = record {
   well = plain.well;
   named = named;
   limits = limits_law t plain (let nodes = of_text.nodes in omega (arith, few, nodes));
   outside = plain.outside;
   bare = none_from (library_object_of (types_of t.types)) t.objects plain.no_objects;
-  flat = flat;
+  light = omega (arith, few, light);
 }
+
+-- without instances each declaration of a type weighs once, or not at all
+counted_once : (g : Option ℕ) (is : List meaning.Instance) → is ≡ [] → length (instances_of g is) ≤ 1
+counted_once g is none = subst (λ (xs : List meaning.Instance). length (instances_of g xs) ≤ 1) (sym none) (by_generic g)
+  where
+    by_generic : (g : Option ℕ) → length (instances_of g []) ≤ 1
+    by_generic None = omega arith
+    by_generic (Some n) = omega arith
+
+at_most_once : (n k : ℕ) → k ≤ 1 → n * k ≤ n
+at_most_once n zero h = grind arith
+at_most_once n (suc zero) h = grind arith
+at_most_once n (suc (suc k)) h = absurd (omega (arith, h))
+
+types_light : (t : Program) → (program_of t).instances ≡ [] → (ts : List TypeDeclaration)
+    → sum_by (λ d. type_nodes d * declared_copies t d.generic) ts ≤ sum_by type_nodes ts
+types_light t none [] = omega arith
+types_light t none (d ∷ ds) =
+    let here = at_most_once (type_nodes d) (declared_copies t d.generic) (counted_once d.generic (map instance_of t.instances) none) in
+    let copies = sum_by-cons (λ (e : TypeDeclaration). type_nodes e * declared_copies t e.generic) d ds in
+    let each = sum_by-cons type_nodes d ds in
+    omega (arith, here, copies, each, types_light t none ds)
+
+-- the nodes of a typed program are within its text, where those of its bodies are beside the types that the rules count
+pub light_law : (files : ℕ) (units : List LibraryUnit) (main : List ℕ) (t : Program) → (h : AreUnitsOf files units main (program_of t)) → DeclaresTypes (whole_library units) main t
+    → sum_by subprogram_nodes (program_of t).subprograms + declared_weight (is_legal (whole_library units) main (program_of t) h.program.legal).walked.next.types_declared
+    ≤ sum_by unit_nodes units → nodes_of t ≤ sum_by unit_nodes units
+light_law files units main t h types few =
+    let p = program_of t in
+    let is = is_legal (whole_library units) main p h.program.legal in
+    let declared = (types is.walked (legal_comes (whole_library units) main p h.program.legal)).all in
+    omega (arith, types_light t (instances_none files units main p h) t.types, declared, few)

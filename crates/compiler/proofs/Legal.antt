@@ -46,6 +46,7 @@ made_of files units main p o h text compiled =
     sym (length-map (labels_of p.subprograms) (λ l. l.place)) ∙ (ap length text.statements ∙ sym (length-map (units_places units) entry_at)) in
     record {
       kernel = compiled.kernel;
+      nodes = compiled.nodes;
       is_kernel = compiled.is_kernel;
       holds = compiled.holds;
       obligations = listed ∙ ap (λ ps. obligations_at ps hs []) (sym text.statements);

@@ -57,16 +57,16 @@ numbers_law p able = subst (λ hs. map (λ h. h.label.number) hs ≡ numbers 0 (
 abbrev pub able_graphs : Program → DecId → List Edges
 able_graphs p = graph_in (decisions_of p.subprograms)
 
-pub formed_law : (p : Program) (k : Kernel) → IsCompilable p → IsKernelOf p k → IsWellFormed (able_graphs p) k
-formed_law p k able is = is.formed (able_graphs p) (own_graphs (decisions_of p.subprograms) (numbers_law p able))
+pub formed_law : (p : Program) (nodes : ℕ) (k : Kernel) → IsCompilable p → IsKernelOf p nodes k → IsWellFormed (able_graphs p) k
+formed_law p nodes k able is = is.formed (able_graphs p) (own_graphs (decisions_of p.subprograms) (numbers_law p able))
 
 -- text, entry and data have their places
-pub placed_law : (p : Program) (k : Kernel) (o : Object) → IsCompilable p → IsKernelOf p k → HoldsImage k o → is_placed o ≡ true
-placed_law p k o able is holds =
+pub placed_law : (p : Program) (nodes : ℕ) (k : Kernel) (o : Object) → IsCompilable p → IsKernelOf p nodes k → HoldsImage k o → is_placed o ≡ true
+placed_law p nodes k o able is holds =
     let pieces = kernel_pieces k in
     let long = text_long k o holds in
     let some = start_long k in
-    let ends = (pieces_can_be_placed (able_graphs p) k (formed_law p k able is) is.within).in_time in
+    let ends = (pieces_can_be_placed (able_graphs p) k (formed_law p nodes k able is) is.within).in_time in
     let entered : is_in_text o.text o.entry ≡ true =
     ap (λ text. is_in_text text o.entry) holds.text ∙ (ap (is_in_text (linked pieces []).text) holds.entry ∙ is_entered pieces [] (omega arith)) in
     ap (λ at. is_laid_out (length o.text) (is_in_text o.text o.entry) at (length o.init)) holds.init_at
@@ -74,6 +74,5 @@ placed_law p k o able is holds =
     ∙ laid_out (length o.text) (is_in_text o.text o.entry) (omega arith) (omega arith) entered)
 
 -- the text takes at most 240 bytes for each node, and 4,096 beside
-pub text_bound : (p : Program) (k : Kernel) (o : Object) (nodes : ℕ) → IsKernelOf p k → HoldsImage k o → sum_by subprogram_nodes p.subprograms ≤ nodes
-    → 4 * length o.text ≤ 240 * nodes + 4096
-text_bound p k o nodes is holds few = let short = is.short nodes few in omega (arith, text_long k o holds, pieces_few k, short)
+pub text_bound : (p : Program) (nodes : ℕ) (k : Kernel) (o : Object) → IsKernelOf p nodes k → HoldsImage k o → 4 * length o.text ≤ 240 * nodes + 4096
+text_bound p nodes k o is holds = let short = is.short in omega (arith, text_long k o holds, pieces_few k, short)

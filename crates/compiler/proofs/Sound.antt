@@ -1,5 +1,5 @@
 -- An object that is made of a program passes the checks of objects.
-use Rattle.std.proofs.Common.{◌≡◌, ◌≢◌, ℕ, ◌^◌, ◌≤◌, ◌<◌, ◌==◌, ◌&&◌, cond, Bool, true, false, nat_lt, nat_le, List, [], ◌∷◌, filter, length, map, AllPairs, refl, sym, ap, ◌∙◌, subst, arith, lit≤}
+use Rattle.std.proofs.Common.{◌≡◌, ◌≢◌, ℕ, ◌+◌, ◌*◌, ◌^◌, ◌≤◌, ◌<◌, ◌==◌, ◌&&◌, cond, Bool, true, false, nat_lt, nat_le, List, [], ◌∷◌, filter, length, map, AllPairs, refl, sym, ap, ◌∙◌, subst, arith, lit≤}
 use Rattle.std.specs.List.{list_all, AllByRecursion}
 use Rattle.std.proofs.lemmas.Bool.Decides.{nat_tests}
 use Rattle.std.proofs.lemmas.List.{length-map}
@@ -119,7 +119,7 @@ field_law p o able made =
     ∙ (ap (λ m. list_all (is_row m 1) o.rows) (entries_long p) ∙ rows_in_range n o.rows (starts_law p o able made)) in
     let roles : list_all (is_role o.obligations.decisions (length o.obligations.instances)) o.roles ≡ true =
     ap (λ ob. list_all (is_role ob.decisions (length ob.instances)) o.roles) made.obligations ∙ held_are_roles hs made.kernel o made.holds (found_law p o able made) in
-    both_hold _ _ (both_hold _ _ (both_hold _ _ (both_hold (is_placed o) (are_files o.files) (placed_law p made.kernel o able made.is_kernel made.holds) made.files) obliged) rows) roles
+    both_hold _ _ (both_hold _ _ (both_hold _ _ (both_hold (is_placed o) (are_files o.files) (placed_law p made.nodes made.kernel o able made.is_kernel made.holds) made.files) obliged) rows) roles
 
 row_law : (p : Program) (o : Object) → IsCompilable p → IsMadeOf p o → PassesRow o
 row_law p o able made =
@@ -159,6 +159,9 @@ decisions_few p o able made =
 
 -- the counts
 
+text_few : (p : Program) (o : Object) (made : IsMadeOf p o) → 4 * length o.text ≤ 240 * 4096 + 4096
+text_few p o made = let few = made.is_kernel.few in omega (arith, text_bound p made.nodes made.kernel o made.is_kernel made.holds, few)
+
 counted_law : (p : Program) (o : Object) → IsCompilable p → IsMadeOf p o → IsCounted o
 counted_law p o able made =
     let n = length (labels_of p.subprograms) in
@@ -166,7 +169,7 @@ counted_law p o able made =
     let rows_long : length o.rows ≡ n =
     sym (length-map o.rows start_of) ∙ (ap length (starts_law p o able made) ∙ (length-map (numbers 0 n) start_at ∙ numbers_long 0 n)) in
     record {
-      text = omega (arith, text_bound p made.kernel o 4096 made.is_kernel made.holds able.few);
+      text = omega (arith, text_few p o made);
       init = subst (λ (words : List ℕ). length words < 2 ^ 32) (sym made.holds.init) (lit≤ tt);
       files = (omega (arith, few_files o.files made.files), made.names);
       instances = subst (λ ob. AreCountable InstanceFits ob.instances) (sym made.obligations) (lit≤ tt, All-from_recursion InstanceFits (no_instance ∷ []) (lit≤ tt, tt));
@@ -174,10 +177,10 @@ counted_law p o able made =
           (lit≤ tt, All-from_recursion IsCountable predefined_names (lit≤ tt, (lit≤ tt, (lit≤ tt, (lit≤ tt, tt)))));
       statements = subst (λ ob. IsCountable ob.statements) (sym made.obligations) (omega (arith, entries_long p, few));
       decisions = subst (λ ob. IsCountable ob.decisions) (sym made.obligations)
-          (omega (arith, length-map (decisions_of p.subprograms) decision_entry, decisions_few p o able made, roles_few o (role_law p o able made), text_bound p made.kernel o 4096 made.is_kernel made.holds able.few));
+          (omega (arith, length-map (decisions_of p.subprograms) decision_entry, decisions_few p o able made, roles_few o (role_law p o able made), text_few p o made));
       regions = subst (λ ob. AreCountable RegionFits ob.regions) (sym made.obligations) (lit≤ tt, All-from_recursion RegionFits [] tt);
       rows = omega (arith, rows_long, few);
-      roles = omega (arith, roles_few o (role_law p o able made), text_bound p made.kernel o 4096 made.is_kernel made.holds able.few);
+      roles = omega (arith, roles_few o (role_law p o able made), text_few p o made);
     }
 
 pub made_law : (p : Program) (o : Object) → IsCompilable p → IsMadeOf p o → HasObject o × (is_plain o ≡ true)

@@ -5,6 +5,9 @@ use Rattle.std.specs.Str.{is_utf8, str_to_ascii_lowercase}
 use Rattle.ada_meaning.specs.Obligations.{obligations_of}
 use Rattle.ada_meaning.specs.Program.{Program}
 use Rattle.ada_syntax.specs.declared.unit.Unit.{Unit as LibraryUnit}
+use Rattle.ada_tree.specs.declared.program.Program.{Program as TypedProgram}
+use Rattle.ada_tree.specs.Programs.{program_of}
+use Rattle.checker.specs.Checking.{DeclaresTypes, whole_library}
 use Rattle.compiler.specs.Held.{HoldsImage}
 use Rattle.compiler.specs.Source.{entry_of_file}
 use Rattle.cov_base.specs.declared.obligations.SourceFile.{SourceFile}
@@ -24,10 +27,11 @@ pub record CanBeNamed (files : List SourceFile) : Type 0 where
   pub few : length files ≤ 64
   pub names : All HasPlainName files
 
--- the object holds the image of a kernel of the program, names the sources with their digests, and has the program's obligations
-pub record IsBuiltOf (files : List SourceFile) (p : Program) (o : Object) : Type 0 where
+-- the object holds the image of a kernel of the program, which has so many nodes, names the sources with their digests, and has the program's
+-- obligations
+pub record IsBuiltOf (files : List SourceFile) (p : Program) (nodes : ℕ) (o : Object) : Type 0 where
   pub kernel : Kernel
-  pub is_kernel : IsKernelOf p kernel
+  pub is_kernel : IsKernelOf p nodes kernel
   pub holds : HoldsImage kernel o
   pub sources : o.files ≡ map entry_of_file files
   pub obligations : o.obligations ≡ obligations_of p []
@@ -37,3 +41,8 @@ pub record AreLegal (files : List SourceFile) (main : List ℕ) (p : Program) : 
   pub units : List LibraryUnit
   pub parsed : HaveUnits files units
   pub program : AreUnitsOf (length files) units (str_to_ascii_lowercase main) p
+
+-- sources whose legal program has this typed form; its declarations of types weigh no more than the rules count
+pub record AreTyped (files : List SourceFile) (main : List ℕ) (t : TypedProgram) : Type 0 where
+  pub legal : AreLegal files main (program_of t)
+  pub types : DeclaresTypes (whole_library legal.units) (str_to_ascii_lowercase main) t

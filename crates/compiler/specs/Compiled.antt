@@ -1,5 +1,5 @@
 -- The object of legal units.
-use Rattle.std.specs.Prelude.{◌≡◌, true, List, [], length}
+use Rattle.std.specs.Prelude.{◌≡◌, ℕ, true, List, [], length}
 use Rattle.cov_base.specs.Lists.{Everywhere}
 use Rattle.std.specs.List.{All}
 use Rattle.ada_meaning.specs.Obligations.{obligations_of}
@@ -20,7 +20,8 @@ use Rattle.object_format.specs.declared.object.Object.{Object}
 -- the program's obligations, and the statements, decisions and conditions of the units stand in its files
 pub record IsCompiled (units : List LibraryUnit) (p : Program) (o : Object) : Type 0 where
   pub kernel : Kernel
-  pub is_kernel : IsKernelOf p kernel
+  pub nodes : ℕ
+  pub is_kernel : IsKernelOf p nodes kernel
   pub holds : HoldsImage kernel o
   pub obligations : o.obligations ≡ obligations_of p []
   pub files : are_files o.files ≡ true

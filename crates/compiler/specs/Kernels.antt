@@ -12,6 +12,7 @@ use Rattle.cov_base.specs.declared.position.DecId.{DecId}
 use Rattle.cov_base.specs.Graph.{Edges}
 use Rattle.cov_base.specs.Graph as logic
 use Rattle.cov_base.specs.Lists.{Everywhere}
+use Rattle.generic_expand.specs.Limits.{types_weight}
 use Rattle.kernel_code.specs.Pieces.{kernel_pieces}
 use Rattle.kernel_ir.specs.declared.kernel.Kernel.{Kernel}
 use Rattle.kernel_ir.specs.Limits.{IsWellFormed, IsWithin, kernel_instructions}
@@ -25,11 +26,15 @@ use Rattle.statement_code.specs.Kernels.{AreOutside}
 use Rattle.statement_code.specs.Programs.{Same}
 use Rattle.statement_code.specs.Sizes.{subprogram_nodes}
 
--- A kernel is that of a program: under each fuel but 512 it ends as the program does, with the same events and output; it is well-formed where
--- decisions have the graphs of their expressions; its rows are the program's statement obligations and its conditions those of its decisions;
--- it has the predefined exceptions and the program's, and nothing stands at the library level so far; and it is small enough, for each node of
--- the program.
-pub record IsKernelOf (p : Program) (k : Kernel) : Type 0 where
+-- the nodes of a typed program: those of its bodies, and what its declarations of types weigh
+abbrev pub nodes_of : TypedProgram → ℕ
+nodes_of t = sum_by subprogram_nodes (program_of t).subprograms + types_weight t
+
+-- A kernel is that of a program of so many nodes: under each fuel but 512 it ends as the program does, with the same events and output; it is
+-- well-formed where decisions have the graphs of their expressions; its rows are the program's statement obligations and its conditions those of
+-- its decisions; it has the predefined exceptions and the program's, and nothing stands at the library level so far; and it is small enough, for
+-- each of the nodes, which are within their limit.
+pub record IsKernelOf (p : Program) (nodes : ℕ) (k : Kernel) : Type 0 where
   pub does : (fuel : ℕ) (input : List ℤ) → fuel ≢ source.deepest → Same (source.exec p fuel input) (code.exec k fuel input)
   pub formed : (graph : DecId → List Edges) → Everywhere (λ h. graph (record { 0 = h.label.number }) ≡ logic.graph (shape_of h.test)) (decisions_of p.subprograms)
       → IsWellFormed graph k
@@ -38,21 +43,22 @@ pub record IsKernelOf (p : Program) (k : Kernel) : Type 0 where
   pub exceptions : k.exceptions ≤ 4 + length p.exceptions
   pub bare : k.library ≡ []
   pub within : IsWithin k
-  pub short : (nodes : ℕ) → sum_by subprogram_nodes p.subprograms ≤ nodes → 4 * kernel_instructions k ≤ 240 * nodes + 4096
+  pub short : 4 * kernel_instructions k ≤ 240 * nodes + 4096
+  pub few : nodes ≤ 4096
 
--- a typed program whose kernel can be laid out today: it is well-formed and within the limits, composite types are named where they stand, and
--- so far nothing stands in a generic or at the library level, and there are no composite types
+-- a typed program whose kernel can be laid out today: it is well-formed and within the limits, those on all of its nodes too, composite types
+-- are named where they stand, and so far nothing stands in a generic or at the library level
 pub record CanBeLaid (t : TypedProgram) : Type 0 where
   pub well : IsWellFormedProgram (program_of t)
   pub named : AreTypesNamed t
   pub limits : IsWithinLimits t
   pub outside : AreOutside (program_of t).subprograms
   pub bare : t.objects ≡ []
-  pub flat : t.types ≡ []
+  pub light : nodes_of t ≤ 4096
 
--- an image is that of a kernel of a program: its linked machine code, without data
-pub record IsImageOf (p : Program) (image : Image) : Type 0 where
+-- an image is that of a kernel of a program of so many nodes: its linked machine code, without data
+pub record IsImageOf (p : Program) (nodes : ℕ) (image : Image) : Type 0 where
   pub kernel : Kernel
-  pub is_kernel : IsKernelOf p kernel
+  pub is_kernel : IsKernelOf p nodes kernel
   pub linked : image ≡ linked (kernel_pieces kernel) []
   pub items : AreItems (kernel_pieces kernel)

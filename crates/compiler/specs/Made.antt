@@ -1,5 +1,5 @@
 -- The object of a program: what it has beside the image of the kernel.
-use Rattle.std.specs.Prelude.{◌≡◌, ◌≤◌, true, List, [], length, map, sum_by}
+use Rattle.std.specs.Prelude.{◌≡◌, ◌≤◌, ℕ, true, List, [], length, map, sum_by}
 use Rattle.std.specs.List.{All}
 use Rattle.ada_meaning.specs.Collected.{labels_of, decisions_of}
 use Rattle.ada_meaning.specs.Obligations.{IsNumbered, ordered_labels, ordered_decisions}
@@ -36,7 +36,8 @@ pub record IsCompilable (p : Program) : Type 0 where
 -- decisions, and these stand in order in its files
 pub record IsMadeOf (p : Program) (o : Object) : Type 0 where
   pub kernel : Kernel
-  pub is_kernel : IsKernelOf p kernel
+  pub nodes : ℕ
+  pub is_kernel : IsKernelOf p nodes kernel
   pub holds : HoldsImage kernel o
   pub obligations : o.obligations ≡ obligations_at (places_in p) (decisions_of p.subprograms) []
   pub files : are_files o.files ≡ true

@@ -3,7 +3,7 @@
 ghost use Rattle.std.specs.Prelude.{◌≡◌, IfOk, map};
 ghost use Rattle.ada_tree.specs.Programs.{program_of};
 ghost use Rattle.compiler.specs.Built.{IsBuiltOf};
-ghost use Rattle.compiler.specs.Kernels.{CanBeLaid, IsImageOf};
+ghost use Rattle.compiler.specs.Kernels.{CanBeLaid, IsImageOf, nodes_of};
 ghost use Rattle.compiler.specs.Made.{IsCompilable};
 ghost use Rattle.compiler.specs.Source.{entry_of_file};
 ghost use Rattle.generic_expand.specs.Expanded.{copies_of};
@@ -28,7 +28,7 @@ pub(crate) fn object_of(
     requires able { IsCompilable (program_of program.now) }
     requires laid { CanBeLaid program.now }
     requires copies { copies.now.bodies ≡ copies_of (program_of program.now) }
-    ensures { IfOk result (IsBuiltOf files.now (program_of program.now)) }
+    ensures { IfOk result (IsBuiltOf files.now (program_of program.now) (nodes_of program.now)) }
 {
     let files = file_entries(alloc, files)?;
     let obligations = obligations(alloc, program)?;
@@ -51,7 +51,7 @@ fn image_of(alloc: Global, program: &Program, copies: &Copies) -> Result<Image, 
     requires able { IsCompilable (program_of program.now) }
     requires laid { CanBeLaid program.now }
     requires copies { copies.now.bodies ≡ copies_of (program_of program.now) }
-    ensures { IfOk result (IsImageOf (program_of program.now)) }
+    ensures { IfOk result (IsImageOf (program_of program.now) (nodes_of program.now)) }
 {
     let kernel = lower(alloc, program, copies)?;
     let pieces = generate(alloc, &kernel)?;

@@ -1,11 +1,11 @@
 //! Which sources are a program within the limits.
 
-ghost use Rattle.std.specs.Prelude.{◌≡◌, ◌≤◌, [], length, IfOk, IfErr, OnOk};
+ghost use Rattle.std.specs.Prelude.{◌≡◌, ◌≤◌, length, IfOk, IfErr, OnOk};
 ghost use Rattle.std.specs.Str.{str_to_ascii_lowercase};
 ghost use Rattle.ada_rules.specs.Legal.{checked, legal};
 ghost use Rattle.ada_tree.specs.Programs.{program_of};
-ghost use Rattle.checker.specs.Checking.{HasEntries, whole_library};
-ghost use Rattle.compiler.specs.Built.{AreLegal};
+ghost use Rattle.checker.specs.Checking.{DeclaresTypes, HasEntries, whole_library};
+ghost use Rattle.compiler.specs.Built.{AreTyped};
 ghost use Rattle.compiler.specs.Checking as spec;
 ghost use Rattle.compiler.specs.Checking.{AreFew, PassesLimit};
 ghost use Rattle.compiler.specs.Legal.{AreProgram, RefusesFor, RefusesUnits};
@@ -38,9 +38,8 @@ pub(crate) fn legal_program(
     main: &str,
 ) -> Result<LegalProgram, Failure<SourceFault>>
     requires { length files.now ≤ 64 }
-    ensures legal { IfOk result (λ l. AreLegal files.now main.now (program_of l.program)) }
+    ensures typed { IfOk result (λ l. AreTyped files.now main.now l.program) }
     ensures named { IfOk result (λ l. AreTypesNamed l.program) }
-    ensures flat { IfOk result (λ l. l.program.types ≡ []) }
     ensures copies { IfOk result (λ l. l.copies.bodies ≡ copies_of (program_of l.program)) }
     ensures refused { IfErr result (RefusesFor files.now main.now) }
 {
@@ -57,8 +56,8 @@ fn small_program(
     main: &str,
 ) -> Result<LegalProgram, Failure<SourceFault>>
     ensures legal { IfOk result (λ l. AreProgram units.now (str_to_ascii_lowercase main.now) (program_of l.program)) }
+    ensures types { IfOk result (λ l. DeclaresTypes (whole_library units.now) (str_to_ascii_lowercase main.now) l.program) }
     ensures named { IfOk result (λ l. AreTypesNamed l.program) }
-    ensures flat { IfOk result (λ l. l.program.types ≡ []) }
     ensures copies { IfOk result (λ l. l.copies.bodies ≡ copies_of (program_of l.program)) }
     ensures refused { IfErr result (RefusesUnits units.now (str_to_ascii_lowercase main.now)) }
 {
@@ -82,6 +81,7 @@ fn checked_program(
 ) -> Result<Program, Failure<SourceFault>>
     ensures legal { IfOk result (λ p. checked units.now (str_to_ascii_lowercase main.now) ≡ legal (program_of p)) }
     ensures entries { IfOk result (HasEntries (whole_library units.now) (str_to_ascii_lowercase main.now)) }
+    ensures types { IfOk result (DeclaresTypes (whole_library units.now) (str_to_ascii_lowercase main.now)) }
     ensures refused { IfErr result (RefusesUnits units.now (str_to_ascii_lowercase main.now)) }
 {
     a_refusal_is_of_a_broken_rule();
@@ -94,20 +94,19 @@ fn copies_of(alloc: Global, program: &Program) -> Result<Copies, Failure<SourceF
     ensures copies { IfOk result (λ c. c.bodies ≡ copies_of (program_of program.now)) }
     ensures few { OnOk result (AreFew program.now.units) }
     ensures named { OnOk result (AreTypesNamed program.now) }
-    ensures flat { OnOk result (program.now.types ≡ []) }
     ensures refused { IfErr result (PassesLimit program.now.units) }
 {
-    plain(program)?;
+    named(program)?;
     expand(alloc, program).map_err(too_large)
 }
 
-/// Today's language has no composite types, and the objects of each subprogram begin with its parameters.
-fn plain(program: &Program) -> Result<(), AllocError>
-    ensures named { OnOk result (AreTypesNamed program.now) }
-    ensures flat { OnOk result (program.now.types ≡ []) }
+/// The types of a legal program stand where they are named, and the objects of each subprogram begin with
+/// its parameters.
+fn named(program: &Program) -> Result<(), AllocError>
+    ensures { OnOk result (AreTypesNamed program.now) }
 {
     named_types_stand();
-    if program.types.is_empty() && are_types_named(program) {
+    if are_types_named(program) {
         Ok(())
     } else {
         Err(AllocError)

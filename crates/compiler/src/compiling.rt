@@ -12,7 +12,7 @@ use crate::building::object_of;
 use crate::checking::legal_program;
 use crate::compiled::legal_units_are_compilable;
 use crate::fault::SourceFault;
-use crate::program_laws::legal_programs_can_be_laid;
+use crate::program_laws::{legal_programs_are_light, legal_programs_can_be_laid};
 use crate::sources::built_objects_are_of_their_sources;
 use checker::discard_program;
 use cov_base::{Bytes, Failure, SourceFile};
@@ -41,6 +41,7 @@ pub fn compile(
     ensures refused { IfErr result (RefusesFor files.now main.now) }
 {
     legal_units_are_compilable();
+    legal_programs_are_light();
     legal_programs_can_be_laid();
     built_objects_are_of_their_sources();
     let legal = legal_program(alloc, files, main)?;

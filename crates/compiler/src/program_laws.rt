@@ -1,17 +1,18 @@
 //! What legal programs of today's language are like: laws over the typed program of units (Ada RM 2012,
 //! 10.1, 10.2). The functions here do nothing: each carries a law of the definitions as its contract.
 
-ghost use Rattle.std.specs.Prelude.{◌≡◌, ◌≤◌, ℕ, List, [], sum_by};
+ghost use Rattle.std.specs.Prelude.{◌≡◌, ◌≤◌, ℕ, List, sum_by};
 ghost use Rattle.ada_meaning.specs.Program.{Program};
 ghost use Rattle.ada_syntax.specs.Nodes.{unit_nodes};
 ghost use Rattle.ada_syntax.specs.declared.unit.Unit.{Unit as LibraryUnit};
 ghost use Rattle.ada_tree.specs.declared.program.Program.{Program as TypedProgram};
 ghost use Rattle.ada_tree.specs.Programs.{program_of};
-ghost use Rattle.compiler.specs.Kernels.{CanBeLaid};
+ghost use Rattle.checker.specs.Checking.{DeclaresTypes, whole_library};
+ghost use Rattle.compiler.specs.Kernels.{CanBeLaid, nodes_of};
 ghost use Rattle.compiler.specs.Texts.{AreUnitsOf, IsOfText, IsPlain};
 ghost use Rattle.lower.specs.Standing.{AreTypesNamed};
 
-use legal_counts::words_are_within_limits;
+use legal_counts::{nodes_and_types_have_tokens, words_are_within_limits};
 use legal_programs::{obligations_are_numbered, obligations_stand_in_the_text};
 use legal_texts::programs_of_subprograms_are_well_formed;
 
@@ -39,13 +40,24 @@ pub fn legal_programs_are_plain()
     words_are_within_limits();
 }
 
-/// Its kernel can be laid out, where its typed form names its types where they stand and has no composite
-/// types.
+/// The nodes of its typed form are no more than its units have tokens that count, where its declarations of
+/// types weigh no more than the rules count.
+pub fn legal_programs_are_light()
+    ensures { (files : ℕ) (units : List LibraryUnit) (main : List ℕ) (t : TypedProgram)
+        → AreUnitsOf files units main (program_of t) → DeclaresTypes (whole_library units) main t
+        → nodes_of t ≤ sum_by unit_nodes units }
+{
+    nodes_and_types_have_tokens();
+}
+
+/// Its kernel can be laid out, where its typed form names its types where they stand.
 pub fn legal_programs_can_be_laid()
     ensures { (files : ℕ) (units : List LibraryUnit) (main : List ℕ) (t : TypedProgram)
-        → AreUnitsOf files units main (program_of t) → AreTypesNamed t → t.types ≡ [] → CanBeLaid t }
+        → AreUnitsOf files units main (program_of t) → DeclaresTypes (whole_library units) main t
+        → AreTypesNamed t → CanBeLaid t }
 {
     legal_units_are_few();
+    legal_programs_are_light();
     legal_programs_are_of_their_text();
     legal_programs_are_plain();
 }

@@ -1,6 +1,6 @@
 //! What objects of programs are.
 
-ghost use Rattle.std.specs.Prelude.{◌≡◌, ◌+◌, ◌*◌, ◌≤◌, ℕ, List, true, length, map, sum_by};
+ghost use Rattle.std.specs.Prelude.{◌≡◌, ◌+◌, ◌*◌, ◌≤◌, ℕ, List, true, length, map};
 ghost use Rattle.ada_meaning.specs.Program.{Program};
 ghost use Rattle.compiler.specs.Held.{HoldsImage};
 ghost use Rattle.compiler.specs.Kernels.{IsKernelOf};
@@ -10,7 +10,6 @@ ghost use Rattle.parsed_texts.specs.Places.{AreInFiles};
 ghost use Rattle.cov_base.specs.declared.position.Pos.{Pos};
 ghost use Rattle.compiler.specs.Listed.{entry_at};
 ghost use Rattle.cov_base.specs.TextOrder.{rise};
-ghost use Rattle.statement_code.specs.Sizes.{subprogram_nodes};
 ghost use Rattle.object_format.specs.Fields.{are_statements};
 ghost use Rattle.object_format.specs.Read.{HasObject, is_plain};
 ghost use Rattle.object_format.specs.RoleCheck.{PassesRole};
@@ -35,6 +34,6 @@ pub fn rising_places_are_statements()
 
 /// The text of a program's image takes at most 240 bytes for each node, and 4,096 beside.
 pub fn texts_are_bounded()
-    ensures { (p : Program) (k : Kernel) (o : Object) (nodes : ℕ) → IsKernelOf p k → HoldsImage k o
-        → sum_by subprogram_nodes p.subprograms ≤ nodes → 4 * length o.text ≤ 240 * nodes + 4096 }
+    ensures { (p : Program) (nodes : ℕ) (k : Kernel) (o : Object) → IsKernelOf p nodes k → HoldsImage k o
+        → 4 * length o.text ≤ 240 * nodes + 4096 }
 {}

@@ -1,7 +1,8 @@
 //! What the objects of sources are.
 
-ghost use Rattle.std.specs.Prelude.{ℕ, List};
+ghost use Rattle.std.specs.Prelude.{ℕ, ◌≤◌, List, sum_by};
 ghost use Rattle.ada_meaning.specs.Program.{Program};
+ghost use Rattle.ada_syntax.specs.Nodes.{unit_nodes};
 ghost use Rattle.compiler.specs.Built.{CanBeNamed, IsBuiltOf, AreLegal};
 ghost use Rattle.compiler.specs.Legal.{IsLegal, AreRefused};
 ghost use Rattle.compiler.specs.Source.{IsObjectOf, IsCheap};
@@ -21,11 +22,11 @@ pub fn legal_sources_are_not_refused()
 /// The object that is built of a legal program and its sources has a file. With the digest of its
 /// file it is the sources' object, and cheap.
 pub fn built_objects_are_of_their_sources()
-    ensures written { (files : List SourceFile) (main : List ℕ) (p : Program) (o : Object) → CanBeNamed files
-        → AreLegal files main p → IsBuiltOf files p o → HasObject o }
-    ensures object { (files : List SourceFile) (main : List ℕ) (p : Program) (o : Object) → CanBeNamed files
-        → AreLegal files main p → IsBuiltOf files p o → IsObject (closed_object o)
-        → IsObjectOf files main p (closed_object o) × IsCheap files main p (closed_object o) }
+    ensures written { (files : List SourceFile) (main : List ℕ) (p : Program) (nodes : ℕ) (o : Object) → CanBeNamed files
+        → AreLegal files main p → IsBuiltOf files p nodes o → HasObject o }
+    ensures object { (files : List SourceFile) (main : List ℕ) (p : Program) (nodes : ℕ) (o : Object) → CanBeNamed files
+        → (legal : AreLegal files main p) → nodes ≤ sum_by unit_nodes legal.units → IsBuiltOf files p nodes o
+        → IsObject (closed_object o) → IsObjectOf files main p (closed_object o) × IsCheap files main p (closed_object o) }
 {
     legal_units_are_few();
     legal_programs_are_of_their_text();

@@ -52,26 +52,26 @@ module _ (env : Env) (p : Pos) (c : Constancy) (t : AdaSubtype) (region : Region
   then_library st v =
       typed_rule st (library_declared env c region is t v.value v.next) (option_map (λ u. library_declared env c region is t v.value v.next) (one_name is))
 
-  pub library_refused : (f : Failure Refusal) → Refuses (library_value (with_local env region) s t i).answer f
+  pub library_refused : (f : Failure Refusal) → Refuses (library_value (with_local env region) s p t i).answer f
       → Refuses (answer_at p (setting_library env p c t region is i s).outcome) f
-  library_refused f h = in_part p (library_value (with_local env region) s t i).answer (then_library env.step) f h
+  library_refused f h = in_part p (library_value (with_local env region) s p t i).answer (then_library env.step) f h
 
-  pub library_passes : (v : Given LibraryValue) (st : Step) → (library_value (with_local env region) s t i).answer ≡ Ok v → env.step ≡ st
+  pub library_passes : (v : Given LibraryValue) (st : Step) → (library_value (with_local env region) s p t i).answer ≡ Ok v → env.step ≡ st
       → answer_at p (setting_library env p c t region is i s).outcome ≡ ruled_as st p (library_declared env c region is t v.value v.next) (one_name is)
   library_passes v st h e =
-      passes_on p (library_value (with_local env region) s t i).answer (then_library env.step) v h ∙ ap (λ x. answer_at p (then_library x v).outcome) e
+      passes_on p (library_value (with_local env region) s p t i).answer (then_library env.step) v h ∙ ap (λ x. answer_at p (then_library x v).outcome) e
 
   abbrev then_locals : Step → Given NewValue → Plan Declared
   then_locals st v = typed_rule st (local_set env p c region is t v) (option_map (λ u. local_set env p c region is t v) (one_name is))
 
-  pub locals_refused : (f : Failure Refusal) → Refuses (new_value (with_local env region) s t i).answer f
+  pub locals_refused : (f : Failure Refusal) → Refuses (new_value (with_local env region) s p t i).answer f
       → Refuses (answer_at p (setting_locals env p c t region is i s).outcome) f
-  locals_refused f h = in_part p (new_value (with_local env region) s t i).answer (then_locals env.step) f h
+  locals_refused f h = in_part p (new_value (with_local env region) s p t i).answer (then_locals env.step) f h
 
-  pub locals_pass : (v : Given NewValue) (st : Step) → (new_value (with_local env region) s t i).answer ≡ Ok v → env.step ≡ st
+  pub locals_pass : (v : Given NewValue) (st : Step) → (new_value (with_local env region) s p t i).answer ≡ Ok v → env.step ≡ st
       → answer_at p (setting_locals env p c t region is i s).outcome ≡ ruled_as st p (local_set env p c region is t v) (one_name is)
   locals_pass v st h e =
-      passes_on p (new_value (with_local env region) s t i).answer (then_locals env.step) v h ∙ ap (λ x. answer_at p (then_locals x v).outcome) e
+      passes_on p (new_value (with_local env region) s p t i).answer (then_locals env.step) v h ∙ ap (λ x. answer_at p (then_locals x v).outcome) e
 
 -- what is known of the objects
 pub set_known : (env : Env) (p : Pos) (c : Constancy) (region : Region) (is : List Identifier) (t : AdaSubtype) (v : Given NewValue) (o : Option Static) (n : State)

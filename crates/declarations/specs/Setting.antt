@@ -13,13 +13,13 @@ use Rattle.ada_rules.specs.Declarations.{Declared, one_name, library_value, libr
 abbrev pub setting_library : Env → Pos → Constancy → AdaSubtype → Region → List Identifier → Initial → State
     → Plan Declared
 setting_library env p c t region is i s =
-    library_value (with_local env region) s t i >>= (λ v.
+    library_value (with_local env region) s p t i >>= (λ v.
     typed_rule env.step (library_declared env c region is t v.value v.next)
     (option_map (λ u. library_declared env c region is t v.value v.next) (one_name is)))
 
 abbrev pub setting_locals : Env → Pos → Constancy → AdaSubtype → Region → List Identifier → Initial → State
     → Plan Declared
 setting_locals env p c t region is i s =
-    new_value (with_local env region) s t i >>= (λ v.
+    new_value (with_local env region) s p t i >>= (λ v.
     typed_rule env.step (local_set env p c region is t v)
     (option_map (λ u. local_set env p c region is t v) (one_name is)))

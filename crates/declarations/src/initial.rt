@@ -15,7 +15,6 @@ use ada_phrases::Step;
 use ada_syntax::Initial as Source;
 use ada_tree::{Initial, StaticValue};
 use cov_base::{Failure, Pos};
-use object_values::initial_pos;
 use static_parts::{Accepted, Asks, Notes, Place, Valued};
 use std::alloc::Global;
 
@@ -51,7 +50,7 @@ fn known_value(others: &[Pos], value: Valued) -> Option<StaticValue>
 }
 
 /// The initial value that a static value makes with an `others` at each of these places round it, in the
-/// step of types. The first token stands at `pos`.
+/// step of types. That it is of the type is asked of the declaration, which begins at `pos`.
 #[tactic(auto, using(crate::proofs::InitialLaws::parts))]
 fn typed_value(
     pos: Pos,
@@ -73,17 +72,19 @@ fn typed_value(
     })
 }
 
-/// The initial value of an object of the library level, which is static. Refused at the rules' own place.
+/// The initial value of objects of the library level, which is static, in a declaration that begins at `pos`.
+/// Refused at the rules' own place.
 #[tactic(auto, using(crate::proofs::InitialLaws::parts))]
 pub(crate) fn library_value(
     alloc: Global,
     place: &Place<'_>,
     notes: &mut Notes,
+    pos: Pos,
     subtype: Subtype,
     initial: &Source,
 ) -> Result<LibraryValue, Failure<Refusal>>
     ensures { ComesTo library_value_of place.now notes.old notes.new
-        (λ k env s. (rules.library_value env s (subtype_in k subtype) initial.now).answer) result }
+        (λ k env s. (rules.library_value env s pos (subtype_in k subtype) initial.now).answer) result }
 {
     let others = initial.others.as_slice();
     let within = component_within(place.site.symbols, subtype, others)?;
@@ -91,6 +92,6 @@ pub(crate) fn library_value(
     let value = place.static_part(alloc, notes, Accepted::Any, asks, &initial.value)?;
     match place.site.step {
         Step::Naming => Ok(LibraryValue::none()),
-        Step::Typing => typed_value(initial_pos(initial), within, others, value),
+        Step::Typing => typed_value(pos, within, others, value),
     }
 }

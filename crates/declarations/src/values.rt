@@ -192,7 +192,7 @@ pub(crate) fn set_library_objects(
     ensures goes { IsWalkOpen walk.old → GoesOn walk.old walk.new result }
 {
     let place = context.place(&walk.symbols);
-    let value = library_value(alloc, &place, &mut walk.notes, subtype, initial)?;
+    let value = library_value(alloc, &place, &mut walk.notes, pos, subtype, initial)?;
     one_name(context.step, pos, names)?;
     make_library_objects(alloc, context, walk, constancy, subtype, value, names)?;
     Ok(())
@@ -217,7 +217,7 @@ pub(crate) fn set_locals(
 {
     let place = context.place(&walk.symbols);
     let decisions = &mut walk.notes.decisions;
-    let value = new_value(alloc, &place.site, decisions, subtype, initial)?;
+    let value = new_value(alloc, &place.site, decisions, pos, subtype, initial)?;
     one_name(context.step, pos, names)?;
     make_locals(
         alloc, context, walk, made, pos, constancy, subtype, value, names,

@@ -23,7 +23,7 @@ use Rattle.ada_rules.specs.Entities.{key, Variable, Region}
 use Rattle.ada_rules.specs.Environment.{typing, typed_rule, State, Given, given, Env, with_local, opened, in_loop, in_handler, new_identity, one_type_more, hide, hide_all, statement_label, started}
 use Rattle.ada_rules.specs.Denoted.{Judged, Denoted, a_variable, an_exception, expr_of}
 use Rattle.ada_rules.specs.Expressions.{itself, is_circuit, denoted, judged, decision, scalar_mark}
-use Rattle.ada_rules.specs.Declarations.{indicated, defined, NewValue, new_value, any_value, initial_pos, known_of, value_for, Declared, may_be_bare, one_name, bare_declarations, known_constant, lying_in, local_bare, local_set, objects_declared, exceptions_from, type_declared, subtype_declared, kind_declared, declared, all_declared}
+use Rattle.ada_rules.specs.Declarations.{indicated, defined, NewValue, new_value, any_value, known_of, value_for, Declared, may_be_bare, one_name, bare_declarations, known_constant, lying_in, local_bare, local_set, objects_declared, exceptions_from, type_declared, subtype_declared, kind_declared, declared, all_declared}
 use Rattle.ada_rules.specs.Statements.{stmts_of, one, any_variable, writable, target, call_of, Chosen, branches_of, Selector, any_selector, selector_of, selector, all_chosen, Arm, alternatives_of, ends_with_others, case_of, Turns, any_turns, turns_between, turns_over, turned, loop_parameter, one_object_more, is_reverse, returned, returned_value, exception_of, where_allowed, all_caught, is_last, declarations_in, Frame, block_of, typed_stmt, stated, all_stated, branched, all_arms, all_handlers, all_handled}
 use Rattle.legal_laws.proofs.KnownObjects.{of_one}
 use Rattle.legal_laws.proofs.NumberedObjects.{exceptions_made, inside_only, mapped_any}
@@ -49,9 +49,9 @@ module _ (env : Env) (step : env.step ≡ typing) (is : IsWholeEnv env) where
   abbrev pub SetAt : List (List Pos) → Given NewValue → Type 0
   SetAt ps g = (k : ℕ) → At (in_value k g.value.value) ps
 
-  pub new_value_placed : (s : State) (t : AdaSubtype) (i : Initial) → IfOk (new_value env s t i).answer (SetAt (expr_conditions itself i.value))
-  new_value_placed s t i =
-      answered (SetAt (expr_conditions itself i.value)) (initial_pos i) _
+  pub new_value_placed : (s : State) (q : Pos) (t : AdaSubtype) (i : Initial) → IfOk (new_value env s q t i).answer (SetAt (expr_conditions itself i.value))
+  new_value_placed s q t i =
+      answered (SetAt (expr_conditions itself i.value)) q _
       (part_so (BothAt s i.value) (SetAt (expr_conditions itself i.value)) (judged env itself s i.value).answer
       (λ x. typed_rule env.step (given (record { value = any_value; known = None }) x.next)
       (option_map (λ v. given (record { value = v; known = known_of i.others x.value }) x.next) (value_for t i.others x.value)))
@@ -145,9 +145,9 @@ module _ (env : Env) (step : env.step ≡ typing) (whole : IsWholeEnv env) (insi
   objects_placed q c region h is t (Some i) =
       let ps = expr_conditions itself i.value in
       inside_only (Declares ps) env.is_library _ _ inside
-      (part_so (SetAt env step whole ps) (Declares ps) (new_value (with_local env region) t.next t.value i).answer
+      (part_so (SetAt env step whole ps) (Declares ps) (new_value (with_local env region) t.next q t.value i).answer
       (λ v. typed_rule env.step (local_set env q c region is t.value v) (option_map (λ u. local_set env q c region is t.value v) (one_name is)))
-      (new_value_placed (with_local env region) step (local_whole env region whole h) t.next t.value i)
+      (new_value_placed (with_local env region) step (local_whole env region whole h) t.next q t.value i)
       (λ v l. typed_so (Declares ps) env.step _ _ step
       (of_one (Declares ps) is (λ js. local_set env q c region js t.value v) tt
       (λ j same. subst (λ js. Declares ps (local_set env q c region js t.value v)) (sym same) (set_placed q c region j t.value v ps l)))))
@@ -249,11 +249,11 @@ mutual
       let ps = name_conditions n ++ expr_conditions itself i.value in
       answered (As ps) q _
       (part_so (TargetAt env step whole (name_conditions n)) (As ps) (target env (started s) n).answer
-      (λ v. new_value env v.next v.value.subtype i >>= (λ x. rule (Some (one (tree.assignment (statement_label s q) v.value.object v.value.parts x.value.value) x.next))))
+      (λ v. new_value env v.next q v.value.subtype i >>= (λ x. rule (Some (one (tree.assignment (statement_label s q) v.value.object v.value.parts x.value.value) x.next))))
       (target_placed env step whole (started s) n)
-      (λ v h. part_so (SetAt env step whole (expr_conditions itself i.value)) (As ps) (new_value env v.next v.value.subtype i).answer
+      (λ v h. part_so (SetAt env step whole (expr_conditions itself i.value)) (As ps) (new_value env v.next q v.value.subtype i).answer
       (λ x. rule (Some (one (tree.assignment (statement_label s q) v.value.object v.value.parts x.value.value) x.next)))
-      (new_value_placed env step whole v.next v.value.subtype i)
+      (new_value_placed env step whole v.next q v.value.subtype i)
       (λ x k. one_placed (tree.assignment (statement_label s q) v.value.object v.value.parts x.value.value) ps
       (at_joined (in_parts s.statements v.value.parts) (in_value s.statements x.value.value) (name_conditions n) (expr_conditions itself i.value) (h s.statements) (k s.statements)))))
   stated_placed env s (text.call q n) step whole =
@@ -266,10 +266,10 @@ mutual
   stated_placed env s (text.conditional q e ss bs es) step whole =
       let ps = (test_conditions e ++ all_conditions ss) ++ (branch_conditions bs ++ all_conditions es) in
       answered (As ps) q _
-      (part_so (StatementAt (test_conditions e)) (As ps) (decision env (started s) e).answer
+      (part_so (StatementAt (test_conditions e)) (As ps) (decision env (started s) q e).answer
       (λ t. all_stated env t.next q ss >>= (λ xs. branched env xs.next q bs >>= (λ ys. all_stated env ys.next q es
       >>= (λ zs. rule (Some (one (tree.if_statement (statement_label s q) (tree.branch t.value.0 t.value.1 (stmts_of xs.value) (branches_of ys.value zs.value))) zs.next))))))
-      (decision_placed env step whole (started s) e)
+      (decision_placed env step whole (started s) q e)
       (λ t u. part_so (As (all_conditions ss)) (As ps) (all_stated env t.next q ss).answer
       (λ xs. branched env xs.next q bs >>= (λ ys. all_stated env ys.next q es
       >>= (λ zs. rule (Some (one (tree.if_statement (statement_label s q) (tree.branch t.value.0 t.value.1 (stmts_of xs.value) (branches_of ys.value zs.value))) zs.next)))))
@@ -312,9 +312,9 @@ mutual
   stated_placed env s (text.repeat q (scheme.While e) ss) step whole =
       let ps = test_conditions e ++ all_conditions ss in
       answered (As ps) q _
-      (part_so (StatementAt (test_conditions e)) (As ps) (decision env (started s) e).answer
+      (part_so (StatementAt (test_conditions e)) (As ps) (decision env (started s) q e).answer
       (λ t. all_stated (in_loop env) t.next q ss >>= (λ xs. rule (Some (one (tree.while_loop (statement_label s q) t.value.0 t.value.1 (stmts_of xs.value)) xs.next))))
-      (decision_placed env step whole (started s) e)
+      (decision_placed env step whole (started s) q e)
       (λ t u. part_so (As (all_conditions ss)) (As ps) (all_stated (in_loop env) t.next q ss).answer
       (λ xs. rule (Some (one (tree.while_loop (statement_label s q) t.value.0 t.value.1 (stmts_of xs.value)) xs.next)))
       (all_placed (in_loop env) t.next q ss step (loop_whole env whole))
@@ -345,9 +345,9 @@ mutual
       (some_placed [] _ [] (allowed_decisions env.is_looping (tree.exit_statement (statement_label s q))) at_none))
   stated_placed env s (text.exit q (Some e)) step whole =
       answered (As (test_conditions e)) q _
-      (part_so (StatementAt (test_conditions e)) (As (test_conditions e)) (decision env (started s) e).answer
+      (part_so (StatementAt (test_conditions e)) (As (test_conditions e)) (decision env (started s) q e).answer
       (λ t. typed_stmt env (statement_label s q) t.next (where_allowed env.is_looping (tree.exit_when (statement_label s q) t.value.0 t.value.1)))
-      (decision_placed env step whole (started s) e)
+      (decision_placed env step whole (started s) q e)
       (λ t u. stmt_placed env t.next (statement_label s q) (where_allowed env.is_looping (tree.exit_when (statement_label s q) t.value.0 t.value.1)) (test_conditions e) step
       (some_placed _ _ (test_conditions e) (allowed_decisions env.is_looping (tree.exit_when (statement_label s q) t.value.0 t.value.1)) (u s.statements after_exit))))
   stated_placed env s (text.returns q None) step whole =
@@ -401,10 +401,10 @@ mutual
   branched_placed env s q (text.branch e ss bs) step whole =
       let ps = (test_conditions e ++ all_conditions ss) ++ branch_conditions bs in
       answered (BranchesAs ps) q _
-      (part_so (StatementAt (test_conditions e)) (BranchesAs ps) (decision env s e).answer
+      (part_so (StatementAt (test_conditions e)) (BranchesAs ps) (decision env s q e).answer
       (λ t. all_stated env t.next q ss >>= (λ xs. branched env xs.next q bs
       >>= (λ ys. rule (Some (given (record { label = t.value.0; test = t.value.1; statements = xs.value } ∷ ys.value) ys.next)))))
-      (decision_placed env step whole s e)
+      (decision_placed env step whole s q e)
       (λ t u. part_so (As (all_conditions ss)) (BranchesAs ps) (all_stated env t.next q ss).answer
       (λ xs. branched env xs.next q bs >>= (λ ys. rule (Some (given (record { label = t.value.0; test = t.value.1; statements = xs.value } ∷ ys.value) ys.next))))
       (all_placed env t.next q ss step whole)

@@ -5,6 +5,7 @@ mod ConditionStatements
 pub mod ConditionUnits
 pub mod HeldDecisions
 mod NodesOfExpressions
+mod OutsideTypes
 mod NodesOfStatements
 pub mod NodesOfUnits
 pub mod WordsOfTypes

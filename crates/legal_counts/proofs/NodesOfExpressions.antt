@@ -595,9 +595,9 @@ module _ (env : Env) (step : env.step ≡ typing) (is : IsWholeEnv env) where
   abbrev pub DecisionIn : ℕ → Given (tree.Label × tree.Test) → Type 0
   DecisionIn c g = size.test_nodes g.value.1 ≤ c
 
-  pub decision_few : (s : State) (e : source.Expr) → IfOk (decision env s e).answer (DecisionIn (expr_nodes e))
-  decision_few s e =
-      answered (DecisionIn (expr_nodes e)) (expr_pos e) _
+  pub decision_few : (s : State) (q : Pos) (e : source.Expr) → IfOk (decision env s q e).answer (DecisionIn (expr_nodes e))
+  decision_few s q e =
+      answered (DecisionIn (expr_nodes e)) q _
       (part_so (λ x. FewIn (expr_nodes e) x.value) (DecisionIn (expr_nodes e)) (judged env operand (decided s) e).answer
       (λ x. typed_rule env.step (given (decision_label s (expr_pos e), test_of x.value.at x.value.form) x.next)
       (option_map (λ t. given (decision_label s (expr_pos e), t) (measured (expr_pos e) t x.next)) (tested x.value)))

@@ -1,10 +1,10 @@
--- Declarations and statements come to no more nodes than they have tokens that count.
+-- Declarations and statements come to no more nodes than they have tokens that count outside declarations of types.
 use Rattle.std.proofs.Common.{◌≡◌, ◌≤◌, ◌+◌, ℕ, suc, nat_eq, Bool, true, false, if◌then◌else◌, List, [], ◌∷◌, ◌++◌, length, Option, Some, None, option_map, IfSome, IfOk, refl, sym, ap, subst, arith}
 use Rattle.std.specs.Prelude.{◌&&◌, not, is_none, sum_by}
 use Rattle.std.specs.Option.{option_and_then}
 use Rattle.std.proofs.lemmas.List.Sums.{sum_by-cons}
 use Rattle.cov_base.specs.declared.position.Pos.{Pos}
-use Rattle.ada_syntax.specs.Nodes.{if_present, expr_nodes, name_nodes, bounds_nodes, range_nodes, indication_nodes, initial_nodes, constancy_nodes, kind_nodes, declaration_nodes, choice_nodes, exception_choice_nodes, direction_nodes, statement_nodes, statements_nodes, else_nodes, branches_nodes, alternatives_nodes, handlers_nodes, handled_nodes, exception_part_nodes}
+use Rattle.ada_syntax.specs.Nodes.{if_present, expr_nodes, name_nodes, bounds_nodes, range_nodes, indication_nodes, initial_nodes, constancy_nodes, kind_nodes, choice_nodes, exception_choice_nodes, direction_nodes}
 use Rattle.ada_syntax.specs.StatementTree as text
 use Rattle.ada_syntax.specs.Tree as source
 use Rattle.ada_syntax.specs.Tree.{expr_pos, name_pos}
@@ -29,7 +29,7 @@ use Rattle.ada_rules.specs.Entities.{key, Variable, Parameter, Region}
 use Rattle.ada_rules.specs.Environment.{typing, Returning, no_result, result_of, typed_rule, State, Given, given, Env, with_local, opened, in_loop, in_handler, new_identity, one_type_more, hide, hide_all, statement_label, started}
 use Rattle.ada_rules.specs.Denoted.{Judged, Denoted, a_routine, a_call, a_variable, an_exception, expr_of}
 use Rattle.ada_rules.specs.Expressions.{itself, denoted, judged, decision, scalar_mark}
-use Rattle.ada_rules.specs.Declarations.{indicated, defined, NewValue, new_value, any_value, initial_pos, known_of, value_for, Declared, may_be_bare, one_name, bare_declarations, local_bare, local_set, objects_declared, exceptions_from, type_declared, subtype_declared, kind_declared, declared, all_declared}
+use Rattle.ada_rules.specs.Declarations.{indicated, defined, NewValue, new_value, any_value, known_of, value_for, Declared, may_be_bare, one_name, bare_declarations, local_bare, local_set, objects_declared, exceptions_from, type_declared, subtype_declared, kind_declared, declared, all_declared}
 use Rattle.ada_rules.specs.Statements.{stmts_of, one, any_variable, writable, target, call_of, Chosen, branches_of, Selector, any_selector, selector_of, selector, chosen, all_chosen, Arm, alternatives_of, ends_with_others, case_of, Turns, any_turns, turns_between, turns_over, turned, loop_parameter, one_object_more, is_reverse, returned, returned_value, exception_of, where_allowed, caught, all_caught, is_last, declarations_in, Frame, block_of, typed_stmt, stated, all_stated, branched, all_arms, all_handlers, all_handled}
 use Rattle.legal_laws.proofs.KnownObjects.{of_one}
 use Rattle.legal_laws.proofs.NumberedObjects.{exceptions_made, inside_only, mapped_any}
@@ -40,6 +40,7 @@ use Rattle.legal_counts.specs.Choices.{IsFilled, HasChoices, HaveChoices, Branch
 use Rattle.statement_code.specs.Sizes as size
 use Rattle.legal_programs.proofs.DecidedExpressions.{any_of}
 use Rattle.legal_counts.proofs.NodesOfExpressions.{FewIn, NameIn, expr_in, denoted_few, judged_few, DecisionIn, decision_few}
+use Rattle.legal_counts.proofs.OutsideTypes.{kind_outside, declaration_outside, statement_outside, statements_outside, else_outside, branches_outside, alternatives_outside, handlers_outside, handled_outside, exception_part_outside}
 
 -- each name and each expression has a token
 some_token : (n m : ℕ) → 1 ≤ n → 1 ≤ n + m
@@ -111,9 +112,9 @@ module _ (env : Env) (step : env.step ≡ typing) (is : IsWholeEnv env) where
   abbrev SetIn : ℕ → Given NewValue → Type 0
   SetIn c g = size.value_nodes g.value.value ≤ c
 
-  new_value_few : (s : State) (t : AdaSubtype) (i : Initial) → IfOk (new_value env s t i).answer (SetIn (initial_nodes i))
-  new_value_few s t i =
-      answered (SetIn (initial_nodes i)) (initial_pos i) _
+  new_value_few : (s : State) (q : Pos) (t : AdaSubtype) (i : Initial) → IfOk (new_value env s q t i).answer (SetIn (initial_nodes i))
+  new_value_few s q t i =
+      answered (SetIn (initial_nodes i)) q _
       (part_so (λ x. FewIn (expr_nodes i.value) x.value) (SetIn (initial_nodes i)) (judged env itself s i.value).answer
       (λ x. typed_rule env.step (given (record { value = any_value; known = None }) x.next)
       (option_map (λ v. given (record { value = v; known = known_of i.others x.value }) x.next) (value_for t i.others x.value)))
@@ -223,9 +224,9 @@ module _ (env : Env) (step : env.step ≡ typing) (whole : IsWholeEnv env) (insi
   objects_few q c region h is x t (Some i) =
       let all = kind_nodes (declares.Object is c x (Some i)) in
       inside_only (Declares all) env.is_library _ _ inside
-      (part_so (SetIn (with_local env region) step (local_whole env region whole h) (initial_nodes i)) (Declares all) (new_value (with_local env region) t.next t.value i).answer
+      (part_so (SetIn (with_local env region) step (local_whole env region whole h) (initial_nodes i)) (Declares all) (new_value (with_local env region) t.next q t.value i).answer
       (λ v. typed_rule env.step (local_set env q c region is t.value v) (option_map (λ u. local_set env q c region is t.value v) (one_name is)))
-      (new_value_few (with_local env region) step (local_whole env region whole h) t.next t.value i)
+      (new_value_few (with_local env region) step (local_whole env region whole h) t.next q t.value i)
       (λ v l. typed_so (Declares all) env.step _ _ step
       (of_one (Declares all) is (λ js. local_set env q c region js t.value v) tt
       (λ j same. set_in (size.value_nodes v.value.value) (length is) (constancy_nodes c) (indication_nodes x) (initial_nodes i) l))))
@@ -233,9 +234,9 @@ module _ (env : Env) (step : env.step ≡ typing) (whole : IsWholeEnv env) (insi
       set_in : (n m a b d : ℕ) → n ≤ d → suc n + 0 ≤ m + a + b + (1 + d)
       set_in n m a b d h = omega (arith, h)
 
-  kind_few : (s : State) (q : Pos) (d : DeclarationKind) → IfPassed (kind_declared env s q d).outcome (Declares (kind_nodes d))
+  kind_few : (s : State) (q : Pos) (d : DeclarationKind) → IfPassed (kind_declared env s q d).outcome (Declares (kind_outside d))
   kind_few s q (declares.Type i d) =
-      let all = kind_nodes (declares.Type i d) in
+      let all = kind_outside (declares.Type i d) in
       part_so (λ x. Unit {0}) (Declares all) (hide env.local i).answer
       (λ region. defined (with_local env region) (one_type_more s) q (new_identity env s) d >>= (λ x. rule (Some (type_declared env q i (new_identity env s) x))))
       (any_answer (hide env.local i).answer)
@@ -263,27 +264,27 @@ module _ (env : Env) (step : env.step ≡ typing) (whole : IsWholeEnv env) (insi
       (λ region u. subst (λ ds. size.declarations_nodes ds ≤ all) (sym (exceptions_made env s region is)) (nothing_in all))
   kind_few s q (declares.Pragma a) = nothing_in (kind_nodes (declares.Pragma a))
 
-  declaration_few : (s : State) (d : Declaration) → IfOk (declared env s d).answer (Declares (declaration_nodes d))
-  declaration_few s d = answered (Declares (declaration_nodes d)) d.pos (kind_declared env s d.pos d.kind).outcome (kind_few s d.pos d.kind)
+  declaration_few : (s : State) (d : Declaration) → IfOk (declared env s d).answer (Declares (declaration_outside d))
+  declaration_few s d = answered (Declares (declaration_outside d)) d.pos (kind_declared env s d.pos d.kind).outcome (kind_few s d.pos d.kind)
 
 abbrev pub DeclaresIn : ℕ → Declared → Type 0
 DeclaresIn c x = Declares c x × RegionWhole x
 
 pub declarations_few : (env : Env) (s : State) (q : Pos) (ds : List Declaration) → env.step ≡ typing → IsWholeEnv env → env.is_library ≡ false
-    → IfOk (all_declared env s q ds).answer (DeclaresIn (sum_by declaration_nodes ds))
-declarations_few env s q [] step whole inside = (nothing_in (sum_by declaration_nodes []), whole.regions.0)
+    → IfOk (all_declared env s q ds).answer (DeclaresIn (sum_by declaration_outside ds))
+declarations_few env s q [] step whole inside = (nothing_in (sum_by declaration_outside []), whole.regions.0)
 declarations_few env s q (d ∷ ds) step whole inside =
-    let all = sum_by declaration_nodes (d ∷ ds) in
+    let all = sum_by declaration_outside (d ∷ ds) in
     answered (DeclaresIn all) q _
-    (part_so (DeclaresIn (declaration_nodes d)) (DeclaresIn all) (declared env s d).answer
+    (part_so (DeclaresIn (declaration_outside d)) (DeclaresIn all) (declared env s d).answer
     (λ x. all_declared (with_local env x.region) x.next q ds >>= (λ xs. rule (Some (record { region = xs.region; next = xs.next; made = x.made ++ xs.made }))))
-    (both_ok (Declares (declaration_nodes d)) RegionWhole (declared env s d).answer (declaration_few env step whole inside s d) (declared_whole env s d whole.regions.0))
-    (λ x h. part_so (DeclaresIn (sum_by declaration_nodes ds)) (DeclaresIn all) (all_declared (with_local env x.region) x.next q ds).answer
+    (both_ok (Declares (declaration_outside d)) RegionWhole (declared env s d).answer (declaration_few env step whole inside s d) (declared_whole env s d whole.regions.0))
+    (λ x h. part_so (DeclaresIn (sum_by declaration_outside ds)) (DeclaresIn all) (all_declared (with_local env x.region) x.next q ds).answer
     (λ xs. rule (Some (record { region = xs.region; next = xs.next; made = x.made ++ xs.made })))
     (declarations_few (with_local env x.region) x.next q ds step (local_whole env x.region whole h.1) inside)
     (λ xs k. (
-      all_in (size.declarations_nodes (x.made ++ xs.made)) (size.declarations_nodes x.made) (size.declarations_nodes xs.made) (declaration_nodes d) (sum_by declaration_nodes ds) all
-          (both_declared x.made xs.made) (sum_by-cons declaration_nodes d ds) h.0 k.0,
+      all_in (size.declarations_nodes (x.made ++ xs.made)) (size.declarations_nodes x.made) (size.declarations_nodes xs.made) (declaration_outside d) (sum_by declaration_outside ds) all
+          (both_declared x.made xs.made) (sum_by-cons declaration_outside d ds) h.0 k.0,
       k.1,
     ))))
   where
@@ -417,23 +418,23 @@ raised_in : (c : ℕ) (l : tree.Label) (d : Denoted) → IfSome (option_map (tre
 raised_in c l (an_exception e) = first_token c
 raised_in c l d = tt
 
-else_in : (es : text.Statements) → statements_nodes es ≤ else_nodes es
+else_in : (es : text.Statements) → statements_outside es ≤ else_outside es
 else_in text.no_statements = same_nodes 0
-else_in (text.then_also x xs) = behind_one (statement_nodes x) (statements_nodes xs)
+else_in (text.then_also x xs) = behind_one (statement_outside x) (statements_outside xs)
   where
     behind_one : (a b : ℕ) → a + b ≤ 1 + a + b
     behind_one a b = omega (arith)
 
-exception_part_in : (hs : text.Handlers) → handlers_nodes hs ≤ exception_part_nodes hs
+exception_part_in : (hs : text.Handlers) → handlers_outside hs ≤ exception_part_outside hs
 exception_part_in text.no_handlers = same_nodes 0
-exception_part_in (text.handler cs ss hs) = behind_one (length cs) (sum_by exception_choice_nodes cs) (statements_nodes ss) (handlers_nodes hs)
+exception_part_in (text.handler cs ss hs) = behind_one (length cs) (sum_by exception_choice_nodes cs) (statements_outside ss) (handlers_outside hs)
   where
     behind_one : (a b c d : ℕ) → a + b + c + d ≤ 1 + a + b + c + d
     behind_one a b c d = omega (arith)
 
-declare_in : (ds : Option (List Declaration)) → sum_by declaration_nodes (declarations_in ds) ≤ if_present (λ xs. 1 + sum_by declaration_nodes xs) ds
+declare_in : (ds : Option (List Declaration)) → sum_by declaration_outside (declarations_in ds) ≤ if_present (λ xs. 1 + sum_by declaration_outside xs) ds
 declare_in None = same_nodes 0
-declare_in (Some ds) = behind_one (sum_by declaration_nodes ds)
+declare_in (Some ds) = behind_one (sum_by declaration_outside ds)
   where
     behind_one : (a : ℕ) → a ≤ 1 + a
     behind_one a = omega (arith)
@@ -479,17 +480,17 @@ arm_counts : (n m xs ys sum ss rest : ℕ) → n ≡ m → xs ≤ ss → ys ≤ 
 arm_counts n m xs ys sum ss rest same a b c = omega (arith, same, a, b, c)
 
 mutual
-  stated_few : (env : Env) (s : State) (x : text.Statement) → env.step ≡ typing → IsWholeEnv env → HasChoices x → IfOk (stated env s x).answer (As (statement_nodes x))
+  stated_few : (env : Env) (s : State) (x : text.Statement) → env.step ≡ typing → IsWholeEnv env → HasChoices x → IfOk (stated env s x).answer (As (statement_outside x))
   stated_few env s (text.null q) step whole cs = same_nodes 1
   stated_few env s (text.assignment q n i) step whole cs =
       let all = name_nodes n + 1 + initial_nodes i in
       answered (As all) q _
       (part_so (TargetIn env step whole (name_nodes n)) (As all) (target env (started s) n).answer
-      (λ v. new_value env v.next v.value.subtype i >>= (λ x. rule (Some (one (tree.assignment (statement_label s q) v.value.object v.value.parts x.value.value) x.next))))
+      (λ v. new_value env v.next q v.value.subtype i >>= (λ x. rule (Some (one (tree.assignment (statement_label s q) v.value.object v.value.parts x.value.value) x.next))))
       (target_few env step whole (started s) n)
-      (λ v h. part_so (SetIn env step whole (initial_nodes i)) (As all) (new_value env v.next v.value.subtype i).answer
+      (λ v h. part_so (SetIn env step whole (initial_nodes i)) (As all) (new_value env v.next q v.value.subtype i).answer
       (λ x. rule (Some (one (tree.assignment (statement_label s q) v.value.object v.value.parts x.value.value) x.next)))
-      (new_value_few env step whole v.next v.value.subtype i)
+      (new_value_few env step whole v.next q v.value.subtype i)
       (λ x k. one_in (tree.assignment (statement_label s q) v.value.object v.value.parts x.value.value) all
       (set_counts (size.parts_nodes v.value.parts) (size.value_nodes x.value.value) (name_nodes n) (initial_nodes i) h k))))
   stated_few env s (text.call q n) step whole cs =
@@ -498,63 +499,63 @@ mutual
       (λ d. typed_stmt env (statement_label s q) d.next (call_of (statement_label s q) d.value)) (denoted_few env step whole (started s) n)
       (λ d h. stmt_in env d.next (statement_label s q) (call_of (statement_label s q) d.value) (name_nodes n) step
       (call_in (name_nodes n) (statement_label s q) d.value h)))
-  stated_few env s (text.exemption q a) step whole cs = nothing_in (statement_nodes (text.exemption q a))
+  stated_few env s (text.exemption q a) step whole cs = nothing_in (statement_outside (text.exemption q a))
   stated_few env s (text.conditional q e ss bs es) step whole cs =
-      let all = 4 + expr_nodes e + statements_nodes ss + branches_nodes bs + else_nodes es in
+      let all = 4 + expr_nodes e + statements_outside ss + branches_outside bs + else_outside es in
       answered (As all) q _
-      (part_so (DecisionIn env step whole (expr_nodes e)) (As all) (decision env (started s) e).answer
+      (part_so (DecisionIn env step whole (expr_nodes e)) (As all) (decision env (started s) q e).answer
       (λ t. all_stated env t.next q ss >>= (λ xs. branched env xs.next q bs >>= (λ ys. all_stated env ys.next q es
       >>= (λ zs. rule (Some (one (tree.if_statement (statement_label s q) (tree.branch t.value.0 t.value.1 (stmts_of xs.value) (branches_of ys.value zs.value))) zs.next))))))
-      (decision_few env step whole (started s) e)
-      (λ t u. part_so (As (statements_nodes ss)) (As all) (all_stated env t.next q ss).answer
+      (decision_few env step whole (started s) q e)
+      (λ t u. part_so (As (statements_outside ss)) (As all) (all_stated env t.next q ss).answer
       (λ xs. branched env xs.next q bs >>= (λ ys. all_stated env ys.next q es
       >>= (λ zs. rule (Some (one (tree.if_statement (statement_label s q) (tree.branch t.value.0 t.value.1 (stmts_of xs.value) (branches_of ys.value zs.value))) zs.next)))))
       (all_few env t.next q ss step whole cs.0)
-      (λ xs h. part_so (BranchesAs (branches_nodes bs)) (As all) (branched env xs.next q bs).answer
+      (λ xs h. part_so (BranchesAs (branches_outside bs)) (As all) (branched env xs.next q bs).answer
       (λ ys. all_stated env ys.next q es
       >>= (λ zs. rule (Some (one (tree.if_statement (statement_label s q) (tree.branch t.value.0 t.value.1 (stmts_of xs.value) (branches_of ys.value zs.value))) zs.next))))
       (branched_few env xs.next q bs step whole cs.1)
-      (λ ys k. part_so (As (statements_nodes es)) (As all) (all_stated env ys.next q es).answer
+      (λ ys k. part_so (As (statements_outside es)) (As all) (all_stated env ys.next q es).answer
       (λ zs. rule (Some (one (tree.if_statement (statement_label s q) (tree.branch t.value.0 t.value.1 (stmts_of xs.value) (branches_of ys.value zs.value))) zs.next)))
       (all_few env ys.next q es step whole cs.2)
       (λ zs l. one_in (tree.if_statement (statement_label s q) (tree.branch t.value.0 t.value.1 (stmts_of xs.value) (branches_of ys.value zs.value))) all
       (choose_counts (size.branches_nodes (branches_of ys.value zs.value)) (size.test_nodes t.value.1) (size.statements_nodes (stmts_of xs.value)) (chosen_nodes ys.value) (size.statements_nodes (stmts_of zs.value))
-      (expr_nodes e) (statements_nodes ss) (branches_nodes bs) (statements_nodes es) (else_nodes es) (branches_are ys.value zs.value) u h k l (else_in es)))))))
+      (expr_nodes e) (statements_outside ss) (branches_outside bs) (statements_outside es) (else_outside es) (branches_are ys.value zs.value) u h k l (else_in es)))))))
   stated_few env s (text.case_of q e alternatives) step whole cs =
-      let all = 4 + expr_nodes e + alternatives_nodes alternatives in
+      let all = 4 + expr_nodes e + alternatives_outside alternatives in
       answered (As all) q _
       (part_so (SelectorIn env step whole (expr_nodes e)) (As all) (selector env (started s) e).answer
       (λ x. all_arms env x.next x.value q alternatives
       >>= (λ arms. typed_rule env.step (one (tree.null_statement (statement_label s q)) arms.next) (case_of env s q x.value arms)))
       (selector_few env step whole (started s) e)
-      (λ x u. part_so (ArmsAs (alternatives_nodes alternatives)) (As all) (all_arms env x.next x.value q alternatives).answer
+      (λ x u. part_so (ArmsAs (alternatives_outside alternatives)) (As all) (all_arms env x.next x.value q alternatives).answer
       (λ arms. typed_rule env.step (one (tree.null_statement (statement_label s q)) arms.next) (case_of env s q x.value arms))
       (arms_few env x.next x.value q alternatives step whole cs)
       (λ arms h. typed_so (As all) env.step (one (tree.null_statement (statement_label s q)) arms.next) (case_of env s q x.value arms) step
       (if_test (As all) (ends_with_others arms.value) _
       (λ b. one_in (tree.case_statement (statement_label s q) x.value.expr (alternatives_of arms.value)) all
-      (select_counts (size.expr_nodes x.value.expr) (size.alternatives_nodes (alternatives_of arms.value)) (arm_nodes arms.value) (expr_nodes e) (alternatives_nodes alternatives)
+      (select_counts (size.expr_nodes x.value.expr) (size.alternatives_nodes (alternatives_of arms.value)) (arm_nodes arms.value) (expr_nodes e) (alternatives_outside alternatives)
       (alternatives_are arms.value) u h))))))
   stated_few env s (text.repeat q scheme.Forever ss) step whole cs =
-      let all = 0 + 3 + statements_nodes ss in
+      let all = 0 + 3 + statements_outside ss in
       answered (As all) q _
-      (part_so (As (statements_nodes ss)) (As all) (all_stated (in_loop env) (started s) q ss).answer
+      (part_so (As (statements_outside ss)) (As all) (all_stated (in_loop env) (started s) q ss).answer
       (λ xs. rule (Some (one (tree.bare_loop (statement_label s q) (stmts_of xs.value)) xs.next)))
       (all_few (in_loop env) (started s) q ss step (loop_whole env whole) cs)
-      (λ xs h. one_in (tree.bare_loop (statement_label s q) (stmts_of xs.value)) all (loop_counts (size.statements_nodes (stmts_of xs.value)) (statements_nodes ss) h)))
+      (λ xs h. one_in (tree.bare_loop (statement_label s q) (stmts_of xs.value)) all (loop_counts (size.statements_nodes (stmts_of xs.value)) (statements_outside ss) h)))
   stated_few env s (text.repeat q (scheme.While e) ss) step whole cs =
-      let all = (1 + expr_nodes e) + 3 + statements_nodes ss in
+      let all = (1 + expr_nodes e) + 3 + statements_outside ss in
       answered (As all) q _
-      (part_so (DecisionIn env step whole (expr_nodes e)) (As all) (decision env (started s) e).answer
+      (part_so (DecisionIn env step whole (expr_nodes e)) (As all) (decision env (started s) q e).answer
       (λ t. all_stated (in_loop env) t.next q ss >>= (λ xs. rule (Some (one (tree.while_loop (statement_label s q) t.value.0 t.value.1 (stmts_of xs.value)) xs.next))))
-      (decision_few env step whole (started s) e)
-      (λ t u. part_so (As (statements_nodes ss)) (As all) (all_stated (in_loop env) t.next q ss).answer
+      (decision_few env step whole (started s) q e)
+      (λ t u. part_so (As (statements_outside ss)) (As all) (all_stated (in_loop env) t.next q ss).answer
       (λ xs. rule (Some (one (tree.while_loop (statement_label s q) t.value.0 t.value.1 (stmts_of xs.value)) xs.next)))
       (all_few (in_loop env) t.next q ss step (loop_whole env whole) cs)
       (λ xs h. one_in (tree.while_loop (statement_label s q) t.value.0 t.value.1 (stmts_of xs.value)) all
-      (while_counts (size.test_nodes t.value.1) (size.statements_nodes (stmts_of xs.value)) (expr_nodes e) (statements_nodes ss) u h))))
+      (while_counts (size.test_nodes t.value.1) (size.statements_nodes (stmts_of xs.value)) (expr_nodes e) (statements_outside ss) u h))))
   stated_few env s (text.repeat q (scheme.For i d r) ss) step whole cs =
-      let all = (3 + direction_nodes d + range_nodes r) + 3 + statements_nodes ss in
+      let all = (3 + direction_nodes d + range_nodes r) + 3 + statements_outside ss in
       answered (As all) q _
       (part_so IsWholeRegion (As all) (hide [] i).answer
       (λ region. turned (with_local (opened env) region) (started s) r
@@ -565,13 +566,13 @@ mutual
       (λ t. all_stated (in_loop (with_local (opened env) ((key i, loop_parameter t.next.objects t.value) ∷ []))) (one_object_more q t.value.subtype t.next) q ss
       >>= (λ xs. rule (Some (one (tree.for_loop (statement_label s q) t.next.objects (is_reverse d) t.value.over (stmts_of xs.value)) xs.next))))
       (turned_few (with_local (opened env) region) step (local_whole (opened env) region (opened_whole env whole) v) (started s) r)
-      (λ t u. part_so (As (statements_nodes ss)) (As all)
+      (λ t u. part_so (As (statements_outside ss)) (As all)
       (all_stated (in_loop (with_local (opened env) ((key i, loop_parameter t.next.objects t.value) ∷ []))) (one_object_more q t.value.subtype t.next) q ss).answer
       (λ xs. rule (Some (one (tree.for_loop (statement_label s q) t.next.objects (is_reverse d) t.value.over (stmts_of xs.value)) xs.next)))
       (all_few (in_loop (with_local (opened env) ((key i, loop_parameter t.next.objects t.value) ∷ []))) (one_object_more q t.value.subtype t.next) q ss step
       (loop_whole _ (local_whole (opened env) ((key i, loop_parameter t.next.objects t.value) ∷ []) (opened_whole env whole) (refl, tt))) cs)
       (λ xs h. one_in (tree.for_loop (statement_label s q) t.next.objects (is_reverse d) t.value.over (stmts_of xs.value)) all
-      (for_counts (size.range_nodes t.value.over) (size.statements_nodes (stmts_of xs.value)) (direction_nodes d) (range_nodes r) (statements_nodes ss) u h)))))
+      (for_counts (size.range_nodes t.value.over) (size.statements_nodes (stmts_of xs.value)) (direction_nodes d) (range_nodes r) (statements_outside ss) u h)))))
   stated_few env s (text.exit q None) step whole cs =
       answered (As (1 + 0)) q _
       (stmt_in env (started s) (statement_label s q) (where_allowed env.is_looping (tree.exit_statement (statement_label s q))) (1 + 0) step
@@ -579,9 +580,9 @@ mutual
   stated_few env s (text.exit q (Some e)) step whole cs =
       let all = 1 + (1 + expr_nodes e) in
       answered (As all) q _
-      (part_so (DecisionIn env step whole (expr_nodes e)) (As all) (decision env (started s) e).answer
+      (part_so (DecisionIn env step whole (expr_nodes e)) (As all) (decision env (started s) q e).answer
       (λ t. typed_stmt env (statement_label s q) t.next (where_allowed env.is_looping (tree.exit_when (statement_label s q) t.value.0 t.value.1)))
-      (decision_few env step whole (started s) e)
+      (decision_few env step whole (started s) q e)
       (λ t u. stmt_in env t.next (statement_label s q) (where_allowed env.is_looping (tree.exit_when (statement_label s q) t.value.0 t.value.1)) all step
       (allowed_in all env.is_looping (tree.exit_when (statement_label s q) t.value.0 t.value.1) (exit_counts (size.test_nodes t.value.1) (expr_nodes e) u))))
   stated_few env s (text.returns q None) step whole cs =
@@ -607,99 +608,99 @@ mutual
       (λ d u. stmt_in env d.next (statement_label s q) (option_map (tree.raise_statement (statement_label s q)) (exception_of d.value)) all step
       (raised_in (name_nodes n) (statement_label s q) d.value)))
   stated_few env s (text.block q ds h) step whole cs =
-      let declare = if_present (λ xs. 1 + sum_by declaration_nodes xs) ds in
-      let sum = sum_by declaration_nodes (declarations_in ds) in
-      let all = 2 + declare + handled_nodes h in
+      let declare = if_present (λ xs. 1 + sum_by declaration_outside xs) ds in
+      let sum = sum_by declaration_outside (declarations_in ds) in
+      let all = 2 + declare + handled_outside h in
       answered (As all) q _
       (part_so (DeclaresIn sum) (As all) (all_declared (opened env) s q (declarations_in ds)).answer
       (λ x. all_handled (with_local (opened env) x.region) x.next q h >>= (λ f. rule (Some (one (tree.block_statement (block_of x.made f.value)) f.next))))
       (declarations_few (opened env) s q (declarations_in ds) step (opened_whole env whole) refl)
-      (λ x u. part_so (FrameAs (handled_nodes h)) (As all) (all_handled (with_local (opened env) x.region) x.next q h).answer
+      (λ x u. part_so (FrameAs (handled_outside h)) (As all) (all_handled (with_local (opened env) x.region) x.next q h).answer
       (λ f. rule (Some (one (tree.block_statement (block_of x.made f.value)) f.next)))
       (handled_few (with_local (opened env) x.region) x.next q h step (local_whole (opened env) x.region (opened_whole env whole) u.1) cs)
       (λ f k. one_in (tree.block_statement (block_of x.made f.value)) all
-      (block_counts (size.block_nodes (block_of x.made f.value)) sum declare (handled_nodes h) (block_in x.made f.value sum (handled_nodes h) u.0 k) (declare_in ds)))))
+      (block_counts (size.block_nodes (block_of x.made f.value)) sum declare (handled_outside h) (block_in x.made f.value sum (handled_outside h) u.0 k) (declare_in ds)))))
 
-  all_few : (env : Env) (s : State) (q : Pos) (xs : text.Statements) → env.step ≡ typing → IsWholeEnv env → HaveChoices xs → IfOk (all_stated env s q xs).answer (As (statements_nodes xs))
+  all_few : (env : Env) (s : State) (q : Pos) (xs : text.Statements) → env.step ≡ typing → IsWholeEnv env → HaveChoices xs → IfOk (all_stated env s q xs).answer (As (statements_outside xs))
   all_few env s q text.no_statements step whole cs = same_nodes 0
   all_few env s q (text.then_also x xs) step whole cs =
-      let all = statement_nodes x + statements_nodes xs in
+      let all = statement_outside x + statements_outside xs in
       answered (As all) q _
-      (part_so (As (statement_nodes x)) (As all) (stated env s x).answer
+      (part_so (As (statement_outside x)) (As all) (stated env s x).answer
       (λ y. all_stated env y.next q xs >>= (λ ys. rule (Some (given (y.value ++ ys.value) ys.next)))) (stated_few env s x step whole cs.0)
-      (λ y h. part_so (As (statements_nodes xs)) (As all) (all_stated env y.next q xs).answer (λ ys. rule (Some (given (y.value ++ ys.value) ys.next)))
+      (λ y h. part_so (As (statements_outside xs)) (As all) (all_stated env y.next q xs).answer (λ ys. rule (Some (given (y.value ++ ys.value) ys.next)))
       (all_few env y.next q xs step whole cs.1)
-      (λ ys k. both_in (size.statements_nodes (stmts_of (y.value ++ ys.value))) (size.statements_nodes (stmts_of y.value)) (size.statements_nodes (stmts_of ys.value)) (statement_nodes x) (statements_nodes xs)
+      (λ ys k. both_in (size.statements_nodes (stmts_of (y.value ++ ys.value))) (size.statements_nodes (stmts_of y.value)) (size.statements_nodes (stmts_of ys.value)) (statement_outside x) (statements_outside xs)
       (joined_nodes y.value ys.value) h k)))
     where
       both_in : (n a b c d : ℕ) → n ≡ a + b → a ≤ c → b ≤ d → n ≤ c + d
       both_in n a b c d e h k = omega (arith, e, h, k)
 
-  branched_few : (env : Env) (s : State) (q : Pos) (bs : text.Branches) → env.step ≡ typing → IsWholeEnv env → BranchesHaveChoices bs → IfOk (branched env s q bs).answer (BranchesAs (branches_nodes bs))
+  branched_few : (env : Env) (s : State) (q : Pos) (bs : text.Branches) → env.step ≡ typing → IsWholeEnv env → BranchesHaveChoices bs → IfOk (branched env s q bs).answer (BranchesAs (branches_outside bs))
   branched_few env s q text.no_branches step whole cs = same_nodes 0
   branched_few env s q (text.branch e ss bs) step whole cs =
-      let all = 2 + expr_nodes e + statements_nodes ss + branches_nodes bs in
+      let all = 2 + expr_nodes e + statements_outside ss + branches_outside bs in
       answered (BranchesAs all) q _
-      (part_so (DecisionIn env step whole (expr_nodes e)) (BranchesAs all) (decision env s e).answer
+      (part_so (DecisionIn env step whole (expr_nodes e)) (BranchesAs all) (decision env s q e).answer
       (λ t. all_stated env t.next q ss >>= (λ xs. branched env xs.next q bs
       >>= (λ ys. rule (Some (given (record { label = t.value.0; test = t.value.1; statements = xs.value } ∷ ys.value) ys.next)))))
-      (decision_few env step whole s e)
-      (λ t u. part_so (As (statements_nodes ss)) (BranchesAs all) (all_stated env t.next q ss).answer
+      (decision_few env step whole s q e)
+      (λ t u. part_so (As (statements_outside ss)) (BranchesAs all) (all_stated env t.next q ss).answer
       (λ xs. branched env xs.next q bs >>= (λ ys. rule (Some (given (record { label = t.value.0; test = t.value.1; statements = xs.value } ∷ ys.value) ys.next))))
       (all_few env t.next q ss step whole cs.0)
-      (λ xs h. part_so (BranchesAs (branches_nodes bs)) (BranchesAs all) (branched env xs.next q bs).answer
+      (λ xs h. part_so (BranchesAs (branches_outside bs)) (BranchesAs all) (branched env xs.next q bs).answer
       (λ ys. rule (Some (given (record { label = t.value.0; test = t.value.1; statements = xs.value } ∷ ys.value) ys.next)))
       (branched_few env xs.next q bs step whole cs.1)
-      (λ ys k. branch_counts (size.test_nodes t.value.1) (size.statements_nodes (stmts_of xs.value)) (chosen_nodes ys.value) (expr_nodes e) (statements_nodes ss) (branches_nodes bs) u h k))))
+      (λ ys k. branch_counts (size.test_nodes t.value.1) (size.statements_nodes (stmts_of xs.value)) (chosen_nodes ys.value) (expr_nodes e) (statements_outside ss) (branches_outside bs) u h k))))
 
   arms_few : (env : Env) (s : State) (x : Selector) (q : Pos) (rest : text.Alternatives) → env.step ≡ typing → IsWholeEnv env → AlternativesHaveChoices rest
-      → IfOk (all_arms env s x q rest).answer (ArmsAs (alternatives_nodes rest))
+      → IfOk (all_arms env s x q rest).answer (ArmsAs (alternatives_outside rest))
   arms_few env s x q text.no_alternatives step whole all_filled = same_nodes 0
   arms_few env s x q (text.alternative cs ss rest) step whole all_filled =
-      let all = length cs + sum_by choice_nodes cs + statements_nodes ss + alternatives_nodes rest in
+      let all = length cs + sum_by choice_nodes cs + statements_outside ss + alternatives_outside rest in
       answered (ArmsAs all) q _
       (part_so (λ ds. length ds.value ≡ length cs) (ArmsAs all) (all_chosen env s x q cs).answer
       (λ ds. all_stated env ds.next q ss >>= (λ xs. all_arms env xs.next x q rest
       >>= (λ ys. rule (Some (given (record { choices = ds.value; statements = xs.value } ∷ ys.value) ys.next)))))
       (chosen_count env s x q cs)
-      (λ ds u. part_so (As (statements_nodes ss)) (ArmsAs all) (all_stated env ds.next q ss).answer
+      (λ ds u. part_so (As (statements_outside ss)) (ArmsAs all) (all_stated env ds.next q ss).answer
       (λ xs. all_arms env xs.next x q rest >>= (λ ys. rule (Some (given (record { choices = ds.value; statements = xs.value } ∷ ys.value) ys.next))))
       (all_few env ds.next q ss step whole all_filled.1)
-      (λ xs h. part_so (ArmsAs (alternatives_nodes rest)) (ArmsAs all) (all_arms env xs.next x q rest).answer
+      (λ xs h. part_so (ArmsAs (alternatives_outside rest)) (ArmsAs all) (all_arms env xs.next x q rest).answer
       (λ ys. rule (Some (given (record { choices = ds.value; statements = xs.value } ∷ ys.value) ys.next)))
       (arms_few env xs.next x q rest step whole all_filled.2)
-      (λ ys k. arm_counts (length ds.value) (length cs) (size.statements_nodes (stmts_of xs.value)) (arm_nodes ys.value) (sum_by choice_nodes cs) (statements_nodes ss) (alternatives_nodes rest)
+      (λ ys k. arm_counts (length ds.value) (length cs) (size.statements_nodes (stmts_of xs.value)) (arm_nodes ys.value) (sum_by choice_nodes cs) (statements_outside ss) (alternatives_outside rest)
       u h k (filled choice_nodes cs choice_token all_filled.0)))))
 
-  handlers_few : (env : Env) (s : State) (q : Pos) (hs : text.Handlers) → env.step ≡ typing → IsWholeEnv env → HandlersHaveChoices hs → IfOk (all_handlers env s q hs).answer (HandlersAs (handlers_nodes hs))
+  handlers_few : (env : Env) (s : State) (q : Pos) (hs : text.Handlers) → env.step ≡ typing → IsWholeEnv env → HandlersHaveChoices hs → IfOk (all_handlers env s q hs).answer (HandlersAs (handlers_outside hs))
   handlers_few env s q text.no_handlers step whole all_filled = same_nodes 0
   handlers_few env s q (text.handler cs ss hs) step whole all_filled =
-      let all = length cs + sum_by exception_choice_nodes cs + statements_nodes ss + handlers_nodes hs in
+      let all = length cs + sum_by exception_choice_nodes cs + statements_outside ss + handlers_outside hs in
       answered (HandlersAs all) q _
       (part_so (λ ds. length ds.value ≡ length cs) (HandlersAs all) (all_caught env s (is_last hs && nat_eq (length cs) 1) q cs).answer
       (λ ds. all_stated (in_handler env) ds.next q ss >>= (λ xs. all_handlers env xs.next q hs
       >>= (λ ys. rule (Some (given (tree.handler ds.value (stmts_of xs.value) ys.value) ys.next)))))
       (caught_count env s (is_last hs && nat_eq (length cs) 1) q cs)
-      (λ ds u. part_so (As (statements_nodes ss)) (HandlersAs all) (all_stated (in_handler env) ds.next q ss).answer
+      (λ ds u. part_so (As (statements_outside ss)) (HandlersAs all) (all_stated (in_handler env) ds.next q ss).answer
       (λ xs. all_handlers env xs.next q hs >>= (λ ys. rule (Some (given (tree.handler ds.value (stmts_of xs.value) ys.value) ys.next))))
       (all_few (in_handler env) ds.next q ss step (handler_whole env whole) all_filled.1)
-      (λ xs h. part_so (HandlersAs (handlers_nodes hs)) (HandlersAs all) (all_handlers env xs.next q hs).answer
+      (λ xs h. part_so (HandlersAs (handlers_outside hs)) (HandlersAs all) (all_handlers env xs.next q hs).answer
       (λ ys. rule (Some (given (tree.handler ds.value (stmts_of xs.value) ys.value) ys.next)))
       (handlers_few env xs.next q hs step whole all_filled.2)
-      (λ ys k. arm_counts (length ds.value) (length cs) (size.statements_nodes (stmts_of xs.value)) (size.handlers_nodes ys.value) (sum_by exception_choice_nodes cs) (statements_nodes ss) (handlers_nodes hs)
+      (λ ys k. arm_counts (length ds.value) (length cs) (size.statements_nodes (stmts_of xs.value)) (size.handlers_nodes ys.value) (sum_by exception_choice_nodes cs) (statements_outside ss) (handlers_outside hs)
       u h k (filled exception_choice_nodes cs exception_token all_filled.0)))))
 
-  pub handled_few : (env : Env) (s : State) (q : Pos) (h : text.Handled) → env.step ≡ typing → IsWholeEnv env → HandledHasChoices h → IfOk (all_handled env s q h).answer (FrameAs (handled_nodes h))
+  pub handled_few : (env : Env) (s : State) (q : Pos) (h : text.Handled) → env.step ≡ typing → IsWholeEnv env → HandledHasChoices h → IfOk (all_handled env s q h).answer (FrameAs (handled_outside h))
   handled_few env s q (text.handled ss hs) step whole all_filled =
-      let all = statements_nodes ss + exception_part_nodes hs in
+      let all = statements_outside ss + exception_part_outside hs in
       answered (FrameAs all) q _
-      (part_so (As (statements_nodes ss)) (FrameAs all) (all_stated env s q ss).answer
+      (part_so (As (statements_outside ss)) (FrameAs all) (all_stated env s q ss).answer
       (λ xs. all_handlers env xs.next q hs >>= (λ ys. rule (Some (given (record { statements = xs.value; handlers = ys.value }) ys.next))))
       (all_few env s q ss step whole all_filled.0)
-      (λ xs h. part_so (HandlersAs (handlers_nodes hs)) (FrameAs all) (all_handlers env xs.next q hs).answer
+      (λ xs h. part_so (HandlersAs (handlers_outside hs)) (FrameAs all) (all_handlers env xs.next q hs).answer
       (λ ys. rule (Some (given (record { statements = xs.value; handlers = ys.value }) ys.next)))
       (handlers_few env xs.next q hs step whole all_filled.1)
-      (λ ys k. both_in (size.statements_nodes (stmts_of xs.value)) (size.handlers_nodes ys.value) (statements_nodes ss) (handlers_nodes hs) (exception_part_nodes hs) h k (exception_part_in hs))))
+      (λ ys k. both_in (size.statements_nodes (stmts_of xs.value)) (size.handlers_nodes ys.value) (statements_outside ss) (handlers_outside hs) (exception_part_outside hs) h k (exception_part_in hs))))
     where
       both_in : (a b c d e : ℕ) → a ≤ c → b ≤ d → d ≤ e → a + b ≤ c + e
       both_in a b c d e h k l = omega (arith, h, k, l)

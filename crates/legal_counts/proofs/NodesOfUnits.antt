@@ -1,11 +1,11 @@
--- The subprograms of a legal program are those of the bodies of its units, in their order, and have no more nodes than these have tokens.
+-- The subprograms of a legal program are those of the bodies of its units, in their order, and have no more nodes than these have tokens outside their declarations of types.
 use Rattle.std.proofs.Common.{◌≡◌, ◌≤◌, ◌+◌, ℕ, suc, true, false, if◌then◌else◌, List, [], ◌∷◌, ◌++◌, map, reverse, length, Option, Some, None, IfOk, slice_get, refl, sym, ap, ◌∙◌, subst, append-nil, append_assoc, arith, length-append}
 use Rattle.std.specs.Prelude.{sum_by}
 use Rattle.std.proofs.lemmas.List.Sums.{sum_by-append, sum_by-cons}
 use mathlib.Core.List.{reverse-cons}
 use Rattle.cov_base.specs.Lists.{Everywhere}
 use Rattle.cov_base.specs.declared.position.Pos.{Pos}
-use Rattle.ada_syntax.specs.Nodes.{if_present, one_if_present, name_nodes, mode_nodes, parameter_nodes, declaration_nodes, handled_nodes, body_nodes, body_item_nodes, item_nodes, with_nodes, unit_nodes}
+use Rattle.ada_syntax.specs.Nodes.{if_present, one_if_present, name_nodes, mode_nodes, parameter_nodes, kind_nodes, declaration_nodes, handled_nodes, body_nodes, package_item_nodes, body_item_nodes, formal_nodes, item_nodes, with_nodes, unit_nodes}
 use Rattle.ada_syntax.specs.Tree.{Name}
 use Rattle.ada_syntax.specs.declared.name.Identifier.{Identifier}
 use Rattle.ada_syntax.specs.declared.unit.Parameter.{Parameter as SourceParameter}
@@ -35,7 +35,7 @@ use Rattle.legal_programs.specs.Homes.{IsThere, HasHome}
 use Rattle.legal_programs.specs.Deciding.{IsWholeRegion, IsWholeEnv}
 use Rattle.legal_counts.specs.BodyTexts.{bodies_among, bodies_of_item, bodies_in}
 use Rattle.legal_counts.specs.Choices.{BodyHasChoices, UnitsHaveChoices}
-use Rattle.legal_counts.specs.Within.{IsWithin, AreWithin}
+use Rattle.legal_counts.specs.Within.{AreWithin}
 use Rattle.legal_programs.specs.WholeWorld.{IsWholeWorld, IsWholeStandard}
 use Rattle.legal_programs.specs.Walked.{IsLegal}
 use Rattle.legal_programs.proofs.Adding.{adds_both, Add, AddsOn, declaration_adds, declarations_add}
@@ -51,33 +51,35 @@ use Rattle.legal_programs.proofs.Passed.{of_ok}
 use Rattle.statement_code.specs.Sizes as size
 use Rattle.legal_counts.proofs.Lists.{every_parts}
 use Rattle.legal_counts.proofs.NodesOfStatements.{DeclaresIn, declarations_few, FrameAs, handled_few, block_in}
+use Rattle.legal_counts.proofs.OutsideTypes.{kind_outside, declaration_outside, handled_outside, kind_split, declarations_split, handled_split, IsOutside, AreOutside, within_text}
 use Rattle.legal_programs.proofs.WholeRegions.{local_whole, redefined_whole}
+use Rattle.legal_types.specs.TypeTokens.{kind_types, declared_types, handled_types, body_types, package_item_types, package_items_types, body_items_types, item_types, units_types}
 
 -- lists beside each other
-within_joined : (ss ts : List Subprogram) (bs cs : List SubprogramBody) → AreWithin ss bs → AreWithin ts cs → AreWithin (ss ++ ts) (bs ++ cs)
-within_joined [] ts [] cs h k = k
-within_joined (s ∷ ss) ts (b ∷ bs) cs h k = (h.0, within_joined ss ts bs cs h.1 k)
-within_joined [] ts (b ∷ bs) cs h k = absurd h
-within_joined (s ∷ ss) ts [] cs h k = absurd h
+outside_joined : (ss ts : List Subprogram) (bs cs : List SubprogramBody) → AreOutside ss bs → AreOutside ts cs → AreOutside (ss ++ ts) (bs ++ cs)
+outside_joined [] ts [] cs h k = k
+outside_joined (s ∷ ss) ts (b ∷ bs) cs h k = (h.0, outside_joined ss ts bs cs h.1 k)
+outside_joined [] ts (b ∷ bs) cs h k = absurd h
+outside_joined (s ∷ ss) ts [] cs h k = absurd h
 
 -- the subprograms that were made so far are those of these bodies, and behind a construct those of these more
 abbrev Made : List SubprogramBody → State → Type 0
-Made bs s = AreWithin (reverse s.subprograms) bs
+Made bs s = AreOutside (reverse s.subprograms) bs
 
 abbrev pub More : List SubprogramBody → State → State → Type 0
 More bs s t = (cs : List SubprogramBody) → Made cs s → Made (cs ++ bs) t
 
 more_none : (s t : State) → t.subprograms ≡ s.subprograms → More [] s t
 more_none s t e cs h =
-    subst (λ ss. AreWithin (reverse ss) (cs ++ [])) (sym e) (subst (AreWithin (reverse s.subprograms)) (sym (append-nil cs)) h)
+    subst (λ ss. AreOutside (reverse ss) (cs ++ [])) (sym e) (subst (AreOutside (reverse s.subprograms)) (sym (append-nil cs)) h)
 
 more_both : (bs cs : List SubprogramBody) (s t u : State) → More bs s t → More cs t u → More (bs ++ cs) s u
-more_both bs cs s t u h k ds before = subst (AreWithin (reverse u.subprograms)) (append_assoc ds bs cs) (k (ds ++ bs) (h ds before))
+more_both bs cs s t u h k ds before = subst (AreOutside (reverse u.subprograms)) (append_assoc ds bs cs) (k (ds ++ bs) (h ds before))
 
-more_made : (b : SubprogramBody) (s t : State) (m : Subprogram) → t.subprograms ≡ (m ∷ s.subprograms) → IsWithin m b → More (b ∷ []) s t
+more_made : (b : SubprogramBody) (s t : State) (m : Subprogram) → t.subprograms ≡ (m ∷ s.subprograms) → IsOutside m b → More (b ∷ []) s t
 more_made b s t m e h cs before =
-    subst (λ ss. AreWithin ss (cs ++ b ∷ [])) (sym (ap reverse e ∙ reverse-cons m s.subprograms))
-    (within_joined (reverse s.subprograms) (m ∷ []) cs (b ∷ []) before (h, tt))
+    subst (λ ss. AreOutside ss (cs ++ b ∷ [])) (sym (ap reverse e ∙ reverse-cons m s.subprograms))
+    (outside_joined (reverse s.subprograms) (m ∷ []) cs (b ∷ []) before (h, tt))
 
 -- parameters
 parameter_count : (n : ℕ) (qs : List Parameter) → length (typed_parameters n qs) ≡ length qs
@@ -161,15 +163,15 @@ module _ (env : Env) (step : env.step ≡ typing) (whole : IsWholeEnv env) (befo
     body = block_of x.made f.value;
   }
 
-  one_within : (x : Declared) (f : Given Frame) → size.declarations_nodes x.made ≤ sum_by declaration_nodes b.declarations → FrameAs (handled_nodes b.statements) f → IsWithin (one_made x f) b
+  one_within : (x : Declared) (f : Given Frame) → size.declarations_nodes x.made ≤ sum_by declaration_outside b.declarations → FrameAs (handled_outside b.statements) f → IsOutside (one_made x f) b
   one_within x f h k = record {
     parameters = subst (λ n. n ≤ sum_by parameter_nodes b.specification.parameters) (sym (parameter_count 0 q.value.parameters)) few;
-    block = block_in x.made f.value (sum_by declaration_nodes b.declarations) (handled_nodes b.statements) h k;
+    block = block_in x.made f.value (sum_by declaration_outside b.declarations) (handled_outside b.statements) h k;
   }
 
   judged_within : IfOk (body_judged env before b region name q).answer (More (b ∷ []) before)
   judged_within =
-      let declared_in = sum_by declaration_nodes b.declarations in
+      let declared_in = sum_by declaration_outside b.declarations in
       answered (More (b ∷ []) before) b.specification.pos _
       (part_so (λ x. DeclaresIn declared_in x × AddsOn q.next x) (More (b ∷ []) before) (all_declared inside q.next b.specification.pos b.declarations).answer
       (λ x. all_handled (with_local inside x.region) x.next b.specification.pos b.statements
@@ -178,10 +180,10 @@ module _ (env : Env) (step : env.step ≡ typing) (whole : IsWholeEnv env) (befo
       (both_ok (DeclaresIn declared_in) (AddsOn q.next) (all_declared inside q.next b.specification.pos b.declarations).answer
       (declarations_few inside q.next b.specification.pos b.declarations step inside_whole refl)
       (declarations_add inside q.next b.specification.pos b.declarations))
-      (λ x h. part_so (λ f. FrameAs (handled_nodes b.statements) f × Add x.next f) (More (b ∷ []) before) (all_handled (with_local inside x.region) x.next b.specification.pos b.statements).answer
+      (λ x h. part_so (λ f. FrameAs (handled_outside b.statements) f × Add x.next f) (More (b ∷ []) before) (all_handled (with_local inside x.region) x.next b.specification.pos b.statements).answer
       (λ f. closed_by b.specification.pos b.specification.name b.end_name
       >>= (λ u. typed_rule env.step (made x f) (if may_end b q.value.result then Some (made x f) else None)))
-      (both_ok (FrameAs (handled_nodes b.statements)) (Add x.next) (all_handled (with_local inside x.region) x.next b.specification.pos b.statements).answer
+      (both_ok (FrameAs (handled_outside b.statements)) (Add x.next) (all_handled (with_local inside x.region) x.next b.specification.pos b.statements).answer
       (handled_few (with_local inside x.region) x.next b.specification.pos b.statements step (local_whole inside x.region inside_whole h.0.1) filled)
       (handled_add (with_local inside x.region) x.next b.specification.pos b.statements))
       (λ f k. part_so (λ u. Unit {0}) (More (b ∷ []) before) (closed_by b.specification.pos b.specification.name b.end_name).answer
@@ -332,97 +334,147 @@ module _ (l : Library) where
       (λ x k. part_so (More (bodies_in us) x) (More (bodies_in (u ∷ us)) s) (all_bodies_judged typing l w x (n + 1) us).answer (λ rest. rule (Some rest))
       (all_bodies_within w x (n + 1) us h.1 world parts.1) (λ rest r. more_both (bodies_of_item u.item) (bodies_in us) s x rest k r)))
 
-pub subprograms_within : (l : Library) (main : List ℕ) (p : Program) → IsLegal l main p → IsWholeStandard l.standard → UnitsHaveChoices l.units
-    → AreWithin p.subprograms (bodies_in l.units)
-subprograms_within l main p is standard filled =
+subprograms_outside : (l : Library) (main : List ℕ) (p : Program) → IsLegal l main p → IsWholeStandard l.standard → UnitsHaveChoices l.units
+    → AreOutside p.subprograms (bodies_in l.units)
+subprograms_outside l main p is standard filled =
     let seen = of_ok (λ y. Seen beginning_state y)
     (all_interfaces typing l (record { world = world_before l; next = beginning_state }) l.order).answer is.walk.seen is.walk.interfaces
     (interfaces_seen l (record { world = world_before l; next = beginning_state }) l.order
     (record { standard = standard; interfaces = none_declared l.units })) in
-    subst (λ q. AreWithin q.subprograms (bodies_in l.units)) (sym is.made)
+    subst (λ q. AreOutside q.subprograms (bodies_in l.units)) (sym is.made)
     (of_ok (More (bodies_in l.units) is.walk.seen.next) (all_bodies_judged typing l is.walk.seen.world is.walk.seen.next 0 l.units).answer is.walked.next is.walk.bodies
     (all_bodies_within l is.walk.seen.world is.walk.seen.next 0 l.units (have_homes l 0 l.units (are_headed l 0 l.units is.walk.headings)) seen.1 filled)
-    [] (subst (λ ss. AreWithin (reverse ss) []) (sym (states_of l main p is).seen.subprograms) tt))
+    [] (subst (λ ss. AreOutside (reverse ss) []) (sym (states_of l main p is).seen.subprograms) tt))
+
+pub subprograms_within : (l : Library) (main : List ℕ) (p : Program) → IsLegal l main p → IsWholeStandard l.standard → UnitsHaveChoices l.units
+    → AreWithin p.subprograms (bodies_in l.units)
+subprograms_within l main p is standard filled =
+    within_text p.subprograms (bodies_in l.units) (subprograms_outside l main p is standard filled)
 
 -- whole programs
-one_few : (s : Subprogram) (b : SubprogramBody) → IsWithin s b → size.subprogram_nodes s ≤ body_nodes b
+one_few : (s : Subprogram) (b : SubprogramBody) → IsOutside s b → size.subprogram_nodes s + body_types b ≤ body_nodes b
 one_few s b h =
-    one_in (length s.parameters) (size.block_nodes s.body) (sum_by parameter_nodes b.specification.parameters) (sum_by declaration_nodes b.declarations) (handled_nodes b.statements)
-    (if_present (λ n. 1 + name_nodes n) b.specification.result_mark) (one_if_present b.end_name) h.parameters h.block
+    one_in (length s.parameters) (size.block_nodes s.body) (sum_by parameter_nodes b.specification.parameters)
+    (sum_by declaration_outside b.declarations) (declared_types b.declarations) (sum_by declaration_nodes b.declarations)
+    (handled_outside b.statements) (handled_types b.statements) (handled_nodes b.statements)
+    (if_present (λ n. 1 + name_nodes n) b.specification.result_mark) (one_if_present b.end_name)
+    h.parameters h.block (declarations_split b.declarations) (handled_split b.statements)
   where
-    one_in : (n m a c d r e : ℕ) → n ≤ a → m ≤ c + d → suc (n + m) ≤ (2 + a + r) + 3 + c + d + e
-    one_in n m a c d r e h k = omega (arith, h, k)
+    one_in : (n m a c ct cn d dt dn r e : ℕ) → n ≤ a → m ≤ c + d → c + ct ≤ cn → d + dt ≤ dn → suc (n + m) + (ct + dt) ≤ (2 + a + r) + 3 + cn + dn + e
+    one_in n m a c ct cn d dt dn r e h k i j = omega (arith, h, k, i, j)
 
-all_few : (ss : List Subprogram) (bs : List SubprogramBody) → AreWithin ss bs → sum_by size.subprogram_nodes ss ≤ sum_by body_nodes bs
+all_few : (ss : List Subprogram) (bs : List SubprogramBody) → AreOutside ss bs → sum_by size.subprogram_nodes ss + sum_by body_types bs ≤ sum_by body_nodes bs
 all_few [] [] h = at_itself 0
   where
-    at_itself : (n : ℕ) → n ≤ n
+    at_itself : (n : ℕ) → n + 0 ≤ n
     at_itself n = omega (arith)
 all_few (s ∷ ss) (b ∷ bs) h =
     let left = sum_by-cons size.subprogram_nodes s ss in
+    let types = sum_by-cons body_types b bs in
     let right = sum_by-cons body_nodes b bs in
     let first = one_few s b h.0 in
     let rest = all_few ss bs h.1 in
-    omega (arith, left, right, first, rest)
+    omega (arith, left, types, right, first, rest)
 all_few [] (b ∷ bs) h = absurd h
 all_few (s ∷ ss) [] h = absurd h
 
-among_few : (is : List BodyItem) → sum_by body_nodes (bodies_among is) ≤ sum_by body_item_nodes is
+-- what stands beside the bodies has tokens of its own
+package_item_few : (i : PackageItem) → package_item_types i ≤ package_item_nodes i
+package_item_few (part.Declaration d) = let split = kind_split d.kind in under (kind_outside d.kind) (kind_types d.kind) (kind_nodes d.kind) split
+  where
+    under : (a b c : ℕ) → a + b ≤ c → b ≤ c
+    under a b c h = omega (arith, h)
+package_item_few (part.Subprogram x) = nothing_in (package_item_nodes (part.Subprogram x))
+  where
+    nothing_in : (n : ℕ) → 0 ≤ n
+    nothing_in n = omega (arith)
+
+package_items_few : (is : List PackageItem) → package_items_types is ≤ sum_by package_item_nodes is
+package_items_few [] = nothing_in (sum_by package_item_nodes [])
+  where
+    nothing_in : (n : ℕ) → 0 ≤ n
+    nothing_in n = omega (arith)
+package_items_few (i ∷ is) =
+    both_in (package_item_types i) (package_items_types is) (package_item_nodes i) (sum_by package_item_nodes is) (sum_by package_item_nodes (i ∷ is))
+    (sum_by-cons package_item_nodes i is) (package_item_few i) (package_items_few is)
+  where
+    both_in : (a b c d n : ℕ) → n ≡ c + d → a ≤ c → b ≤ d → a + b ≤ n
+    both_in a b c d n e h k = omega (arith, e, h, k)
+
+among_few : (is : List BodyItem) → sum_by body_nodes (bodies_among is) + body_items_types is ≤ sum_by body_item_nodes is + sum_by body_types (bodies_among is)
 among_few [] = at_itself 0
   where
-    at_itself : (n : ℕ) → n ≤ n
+    at_itself : (n : ℕ) → n + 0 ≤ n + 0
     at_itself n = omega (arith)
 among_few (item.Body b ∷ is) =
-    both_in (body_nodes b) (sum_by body_nodes (b ∷ bodies_among is)) (sum_by body_nodes (bodies_among is)) (sum_by body_item_nodes (item.Body b ∷ is)) (sum_by body_item_nodes is)
-    (sum_by-cons body_nodes b (bodies_among is)) (sum_by-cons body_item_nodes (item.Body b) is) (among_few is)
+    both_in (body_nodes b) (body_types b) (sum_by body_nodes (bodies_among is)) (body_items_types is) (sum_by body_item_nodes is) (sum_by body_types (bodies_among is))
+    (sum_by body_nodes (b ∷ bodies_among is)) (sum_by body_item_nodes (item.Body b ∷ is)) (sum_by body_types (b ∷ bodies_among is))
+    (sum_by-cons body_nodes b (bodies_among is)) (sum_by-cons body_item_nodes (item.Body b) is) (sum_by-cons body_types b (bodies_among is)) (among_few is)
   where
-    both_in : (n a b c d : ℕ) → a ≡ n + b → c ≡ n + d → b ≤ d → a ≤ c
-    both_in n a b c d e f h = omega (arith, e, f, h)
+    both_in : (n t a b c d x y z : ℕ) → x ≡ n + a → y ≡ n + c → z ≡ t + d → a + b ≤ c + d → x + (t + b) ≤ y + z
+    both_in n t a b c d x y z e f g h = omega (arith, e, f, g, h)
 among_few (item.Declared i ∷ is) =
-    more_in (sum_by body_nodes (bodies_among is)) (sum_by body_item_nodes (item.Declared i ∷ is)) (body_item_nodes (item.Declared i)) (sum_by body_item_nodes is)
-    (sum_by-cons body_item_nodes (item.Declared i) is) (among_few is)
+    more_in (package_item_types i) (package_item_nodes i) (sum_by body_nodes (bodies_among is)) (body_items_types is) (sum_by body_item_nodes is)
+    (sum_by body_types (bodies_among is)) (sum_by body_item_nodes (item.Declared i ∷ is))
+    (sum_by-cons body_item_nodes (item.Declared i) is) (package_item_few i) (among_few is)
   where
-    more_in : (a c n d : ℕ) → c ≡ n + d → a ≤ d → a ≤ c
-    more_in a c n d f h = omega (arith, f, h)
+    more_in : (t n a b c d y : ℕ) → y ≡ n + c → t ≤ n → a + b ≤ c + d → a + (t + b) ≤ y + d
+    more_in t n a b c d y f k h = omega (arith, f, k, h)
 
-item_few : (i : LibraryItem) → sum_by body_nodes (bodies_of_item i) ≤ item_nodes i
+item_few : (i : LibraryItem) → sum_by body_nodes (bodies_of_item i) + item_types i ≤ item_nodes i + sum_by body_types (bodies_of_item i)
 item_few (library.PackageBody b) =
-    around (sum_by body_nodes (bodies_among b.items)) (sum_by body_item_nodes b.items) (one_if_present b.end_name) (among_few b.items)
+    around (sum_by body_nodes (bodies_among b.items)) (body_items_types b.items) (sum_by body_item_nodes b.items) (sum_by body_types (bodies_among b.items))
+    (one_if_present b.end_name) (among_few b.items)
   where
-    around : (a c d : ℕ) → a ≤ c → a ≤ 5 + c + d
-    around a c d h = omega (arith, h)
-item_few (library.Subprogram b) = let one_body_in = sum_by-cons body_nodes b [] in alone (sum_by body_nodes (b ∷ [])) (body_nodes b) one_body_in
+    around : (a b c d e : ℕ) → a + b ≤ c + d → a + b ≤ (5 + c + e) + d
+    around a b c d e h = omega (arith, h)
+item_few (library.Subprogram b) =
+    let nodes = sum_by-cons body_nodes b [] in
+    let types = sum_by-cons body_types b [] in
+    alone (sum_by body_nodes (b ∷ [])) (body_nodes b) (sum_by body_types (b ∷ [])) (body_types b) nodes types
   where
-    alone : (n m : ℕ) → n ≡ m + 0 → n ≤ m
-    alone n m e = omega (arith, e)
-item_few (library.Package x) = nothing_in (item_nodes (library.Package x))
+    alone : (n m t u : ℕ) → n ≡ m + 0 → t ≡ u + 0 → n + u ≤ m + t
+    alone n m t u e f = omega (arith, e, f)
+item_few (library.Package x) =
+    items_in (if_present (λ fs. 1 + sum_by formal_nodes fs) x.formals) (package_items_types x.items) (sum_by package_item_nodes x.items) (one_if_present x.end_name)
+    (package_items_few x.items)
   where
-    nothing_in : (n : ℕ) → 0 ≤ n
-    nothing_in n = omega (arith)
+    items_in : (f t n e : ℕ) → t ≤ n → 0 + t ≤ (f + 4 + n + e) + 0
+    items_in f t n e h = omega (arith, h)
 item_few (library.Instance i) = nothing_in (item_nodes (library.Instance i))
   where
-    nothing_in : (n : ℕ) → 0 ≤ n
+    nothing_in : (n : ℕ) → 0 + 0 ≤ n + 0
     nothing_in n = omega (arith)
 
-units_few : (us : List LibraryUnit) → sum_by body_nodes (bodies_in us) ≤ sum_by unit_nodes us
+units_few : (us : List LibraryUnit) → sum_by body_nodes (bodies_in us) + units_types us ≤ sum_by unit_nodes us + sum_by body_types (bodies_in us)
 units_few [] = at_itself 0
   where
-    at_itself : (n : ℕ) → n ≤ n
+    at_itself : (n : ℕ) → n + 0 ≤ n + 0
     at_itself n = omega (arith)
 units_few (u ∷ us) =
-    both_in (sum_by body_nodes (bodies_of_item u.item ++ bodies_in us)) (sum_by body_nodes (bodies_of_item u.item)) (sum_by body_nodes (bodies_in us))
-    (sum_by unit_nodes (u ∷ us)) (sum_by with_nodes u.withs) (item_nodes u.item) (sum_by unit_nodes us)
-    (sum_by-append body_nodes (bodies_of_item u.item) (bodies_in us)) (sum_by-cons unit_nodes u us) (item_few u.item) (units_few us)
+    both_in (sum_by body_nodes (bodies_of_item u.item)) (item_types u.item) (item_nodes u.item) (sum_by body_types (bodies_of_item u.item))
+    (sum_by body_nodes (bodies_in us)) (units_types us) (sum_by unit_nodes us) (sum_by body_types (bodies_in us)) (sum_by with_nodes u.withs)
+    (sum_by body_nodes (bodies_of_item u.item ++ bodies_in us)) (sum_by unit_nodes (u ∷ us)) (sum_by body_types (bodies_of_item u.item ++ bodies_in us))
+    (sum_by-append body_nodes (bodies_of_item u.item) (bodies_in us)) (sum_by-cons unit_nodes u us) (sum_by-append body_types (bodies_of_item u.item) (bodies_in us))
+    (item_few u.item) (units_few us)
   where
-    both_in : (n a b all w i rest : ℕ) → n ≡ a + b → all ≡ (w + i) + rest → a ≤ i → b ≤ rest → n ≤ all
-    both_in n a b all w i rest e f h k = omega (arith, e, f, h, k)
+    both_in : (a b c d e f g h w x y z : ℕ) → x ≡ a + e → y ≡ (w + c) + g → z ≡ d + h → a + b ≤ c + d → e + f ≤ g + h → x + (b + f) ≤ y + z
+    both_in a b c d e f g h w x y z i j k l m = omega (arith, i, j, k, l, m)
+
+pub few_beside_types : (l : Library) (main : List ℕ) (p : Program) → IsLegal l main p → IsWholeStandard l.standard → UnitsHaveChoices l.units
+    → sum_by size.subprogram_nodes p.subprograms + units_types l.units ≤ sum_by unit_nodes l.units
+few_beside_types l main p is standard filled =
+    let bodies = all_few p.subprograms (bodies_in l.units) (subprograms_outside l main p is standard filled) in
+    let units = units_few l.units in
+    omega (arith, bodies, units)
 
 pub few_nodes : (l : Library) (main : List ℕ) (p : Program) → IsLegal l main p → IsWholeStandard l.standard → UnitsHaveChoices l.units
     → sum_by size.subprogram_nodes p.subprograms ≤ sum_by unit_nodes l.units
-few_nodes l main p is standard filled =
-    let bodies = all_few p.subprograms (bodies_in l.units) (subprograms_within l main p is standard filled) in
-    let units = units_few l.units in
-    omega (arith, bodies, units)
+few_nodes l main p is standard filled = let all = few_beside_types l main p is standard filled in omega (arith, all)
+
+pub few_beside_weights : (weight : ℕ) (l : Library) (main : List ℕ) (p : Program) → IsLegal l main p → IsWholeStandard l.standard → UnitsHaveChoices l.units
+    → weight ≤ units_types l.units → sum_by size.subprogram_nodes p.subprograms + weight ≤ sum_by unit_nodes l.units
+few_beside_weights weight l main p is standard filled light = let all = few_beside_types l main p is standard filled in omega (arith, all, light)
 
 -- so where the text has few, each body has
 each_of_sum : (limit : ℕ) (ss : List Subprogram) → sum_by size.subprogram_nodes ss ≤ limit → Everywhere (λ s. size.block_nodes s.body ≤ limit) ss

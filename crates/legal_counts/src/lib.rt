@@ -3,7 +3,8 @@
 //!
 //! - the conditions of decisions stand where those of the units stand, and no `not` stands directly in
 //!   another (`ConditionPlaces`); statement obligations hold the decisions;
-//! - each node has a token (`Within`), where alternatives and handlers have choices (`Choices`);
+//! - each node has a token (`Within`) outside the declarations of types, where alternatives and handlers have
+//!   choices (`Choices`); so nodes and what types weigh have tokens apart;
 //! - the words of objects keep to their limit in each instance, and are those that the rules count where
 //!   bounds are known (`ObjectWords`).
 //!
@@ -11,7 +12,7 @@
 //! call of one whose law they cite.
 #![tactic(auto)]
 
-ghost use Rattle.std.specs.Prelude.{true, length, slice_get, List, map, Some, sum_by, ℕ, ◌<◌, ◌≤◌, ◌≡◌};
+ghost use Rattle.std.specs.Prelude.{true, length, slice_get, List, map, Some, sum_by, ℕ, ◌+◌, ◌<◌, ◌≤◌, ◌≡◌};
 ghost use Rattle.cov_base.specs.Expr.{negates_once};
 ghost use Rattle.cov_base.specs.Lists.{Everywhere};
 ghost use Rattle.ada_syntax.specs.Nodes.{unit_nodes};
@@ -38,6 +39,8 @@ ghost use Rattle.legal_counts.specs.ConditionPlaces.{units_conditions};
 ghost use Rattle.statement_code.specs.Sizes.{block_nodes, subprogram_nodes};
 ghost use Rattle.legal_counts.specs.Generics.{generics_of};
 ghost use Rattle.legal_counts.specs.Within.{AreWithin};
+ghost use Rattle.legal_types.specs.TypeTokens.{units_types};
+ghost use Rattle.legal_types.specs.Weights.{types_weight};
 
 /// The conditions of each decision of a legal program stand where those of its units stand, decisions in
 /// the order of the text; and no `not` stands directly in another.
@@ -57,7 +60,8 @@ pub fn statements_hold_decisions()
 }
 
 /// The subprograms of a legal program are those of the bodies of its units, in the order of the text and in
-/// the generics in whose text these stand, and a body has no more nodes than its text has tokens that count.
+/// the generics in whose text these stand, and a body has no more nodes than its text has tokens that count,
+/// even without those of its declarations of types.
 pub fn each_node_of_a_body_has_a_token()
     ensures bodies { (l : Library) (main : List ℕ) (p : Program) → IsLegal l main p → IsWholeStandard l.standard
         → UnitsHaveChoices l.units → AreWithin p.subprograms (bodies_in l.units) }
@@ -68,7 +72,21 @@ pub fn each_node_of_a_body_has_a_token()
     ensures each { (l : Library) (main : List ℕ) (p : Program) → IsLegal l main p → IsWholeStandard l.standard
         → UnitsHaveChoices l.units → (limit : ℕ) → sum_by unit_nodes l.units ≤ limit
         → Everywhere (λ s. block_nodes s.body ≤ limit) p.subprograms }
+    ensures types { (l : Library) (main : List ℕ) (p : Program) → IsLegal l main p → IsWholeStandard l.standard
+        → UnitsHaveChoices l.units
+        → sum_by subprogram_nodes p.subprograms + units_types l.units ≤ sum_by unit_nodes l.units }
 {}
+
+/// The nodes of the subprograms of a legal program, and what the composite types that it declares weigh, are
+/// together no more than its units have tokens that count.
+pub fn nodes_and_types_have_tokens()
+    ensures { (standard : Standard) (units : List LibraryUnit) (main : List ℕ) (p : Program)
+        → (is : IsLegal (library_of standard units) main p) → IsWholeStandard standard → UnitsHaveChoices units
+        → sum_by subprogram_nodes p.subprograms + types_weight is.walked.next.types_declared
+        ≤ sum_by unit_nodes units }
+{
+    legal_types::types_weigh_no_more_than_their_text();
+}
 
 /// The objects of each subprogram of a legal program take no more words than the limit, in each instance in
 /// which it stands. Where the bounds of their types are known there, each has a size, and these are the words

@@ -17,7 +17,7 @@ use Rattle.ada_rules.specs.Entities.{key, mark, raisable, Region, redefined}
 use Rattle.ada_rules.specs.Environment.{typed_rule, State, Given, given, Env, with_local, owner_of, new_identity, one_type_more, hide, hide_all}
 use Rattle.ada_rules.specs.Denoted.{Judged}
 use Rattle.ada_rules.specs.Expressions.{itself, judged, Valued, value_named, entered_constant, static_part}
-use Rattle.ada_rules.specs.Declarations.{in_range, indicated, defined, value_for, any_value, initial_pos, NewValue, known_of, new_value, innermost, initial_for, LibraryValue, known_value, library_value, Declared, may_be_bare, one_name, numbered, known_constant, without_value, lying_in, object_entity, local_objects, local_bare, local_set, library_entities, library_declared, no_library_value, objects_declared, exception_declared, exceptions_from, type_declared, subtype_declared, kind_declared, declared, all_declared}
+use Rattle.ada_rules.specs.Declarations.{in_range, indicated, defined, value_for, any_value, NewValue, known_of, new_value, innermost, initial_for, LibraryValue, known_value, library_value, Declared, may_be_bare, one_name, numbered, known_constant, without_value, lying_in, object_entity, local_objects, local_bare, local_set, library_entities, library_declared, no_library_value, objects_declared, exception_declared, exceptions_from, type_declared, subtype_declared, kind_declared, declared, all_declared}
 use Rattle.legal_laws.proofs.Passing.{if_map, IfPassed, answered, part_so, typed_so}
 use Rattle.legal_instances.specs.Within.{Made, IsWithin, IsRangeWithin, AreConstantsWithin, IsSubtypeWithin, IsEntityWithin, IsRegionWithin, IsHere, Goes, own_of}
 use Rattle.legal_instances.proofs.WithinMore.{subtype_on, range_on, region_on, goes_same, goes_both, here_next, here_local}
@@ -43,9 +43,9 @@ module _ (had : Made) where
   any_of None = tt
   any_of (Some x) = tt
 
-  pub new_value_so : (env : Env) (s : State) (t : AdaSubtype) (i : Initial) → IsHere had env s → IfOk (new_value env s t i).answer (GivesSo had env.generic (NewSo env.generic) s)
-  new_value_so env s t i here =
-      answered (GivesSo had env.generic (NewSo env.generic) s) (initial_pos i) _
+  pub new_value_so : (env : Env) (s : State) (q : Pos) (t : AdaSubtype) (i : Initial) → IsHere had env s → IfOk (new_value env s q t i).answer (GivesSo had env.generic (NewSo env.generic) s)
+  new_value_so env s q t i here =
+      answered (GivesSo had env.generic (NewSo env.generic) s) q _
       (part_so (GivesSo had env.generic (JudgedSo had env.generic) s) (GivesSo had env.generic (NewSo env.generic) s) (judged env itself s i.value).answer
       (λ x. typed_rule env.step (given (record { value = any_value; known = None }) x.next)
       (option_map (λ v. given (record { value = v; known = known_of i.others x.value }) x.next) (value_for t i.others x.value)))
@@ -59,10 +59,10 @@ module _ (had : Made) where
   known_value_so o n [] v h = h.0
   known_value_so o n (p ∷ ps) v h = tt
 
-  pub library_value_so : (env : Env) (s : State) (t : AdaSubtype) (i : Initial) → IsHere had env s
-      → IfOk (library_value env s t i).answer (GivesSo had env.generic (LibrarySo env.generic) s)
-  library_value_so env s t i here =
-      answered (GivesSo had env.generic (LibrarySo env.generic) s) (initial_pos i) _
+  pub library_value_so : (env : Env) (s : State) (q : Pos) (t : AdaSubtype) (i : Initial) → IsHere had env s
+      → IfOk (library_value env s q t i).answer (GivesSo had env.generic (LibrarySo env.generic) s)
+  library_value_so env s q t i here =
+      answered (GivesSo had env.generic (LibrarySo env.generic) s) q _
       (part_so (GivesSo had env.generic (ValuedSo had env.generic) s) (GivesSo had env.generic (LibrarySo env.generic) s)
       (static_part env s (λ k. true) (in_range (range_in (innermost t i.others))) i.value).answer
       (λ x. typed_rule env.step (given no_library_value x.next)
@@ -203,22 +203,22 @@ module _ (had : Made) where
         here_then = here_local had env t.next region (here_next had env s t.next here k.goes) (region_later s t.next region k.goes h)
 
         by_level : (b : Bool) → IfPassed (if b
-            then library_value (with_local env region) t.next t.value i >>= (λ v.
+            then library_value (with_local env region) t.next q t.value i >>= (λ v.
             typed_rule env.step (library_declared env c region is t.value v.value v.next)
             (option_map (λ u. library_declared env c region is t.value v.value v.next) (one_name is)))
-            else new_value (with_local env region) t.next t.value i >>= (λ v.
+            else new_value (with_local env region) t.next q t.value i >>= (λ v.
             typed_rule env.step (local_set env q c region is t.value v) (option_map (λ u. local_set env q c region is t.value v) (one_name is)))).outcome (DeclaredSo o s)
         by_level true =
-            part_so (GivesSo had o (LibrarySo o) t.next) (DeclaredSo o s) (library_value (with_local env region) t.next t.value i).answer
+            part_so (GivesSo had o (LibrarySo o) t.next) (DeclaredSo o s) (library_value (with_local env region) t.next q t.value i).answer
             (λ v. typed_rule env.step (library_declared env c region is t.value v.value v.next)
             (option_map (λ u. library_declared env c region is t.value v.value v.next) (one_name is)))
-            (library_value_so (with_local env region) t.next t.value i here_then)
+            (library_value_so (with_local env region) t.next q t.value i here_then)
             (λ v l. typed_so (DeclaredSo o s) env.step _ _ here.place.step
             (may_so (DeclaredSo o s) (library_declared env c region is t.value v.value v.next) (one_name is) (set_library_so s c region is t v h k l)))
         by_level false =
-            part_so (GivesSo had o (NewSo o) t.next) (DeclaredSo o s) (new_value (with_local env region) t.next t.value i).answer
+            part_so (GivesSo had o (NewSo o) t.next) (DeclaredSo o s) (new_value (with_local env region) t.next q t.value i).answer
             (λ v. typed_rule env.step (local_set env q c region is t.value v) (option_map (λ u. local_set env q c region is t.value v) (one_name is)))
-            (new_value_so (with_local env region) t.next t.value i here_then)
+            (new_value_so (with_local env region) t.next q t.value i here_then)
             (λ v l. typed_so (DeclaredSo o s) env.step _ _ here.place.step
             (may_so (DeclaredSo o s) (local_set env q c region is t.value v) (one_name is) (set_so s q c region is t v h k l)))
 

@@ -59,8 +59,8 @@ module _ (had : Made) where
     pub name_goes : (s : State) (n : source.Name) → IsHere had env s → IfOk (denoted env s n).answer (Go o s)
     name_goes s n here = weaker_ok (λ x. OnlyDecides s x.next) (Go o s) (denoted env s n).answer (denoted_behind env s n) (λ x h. decides_go env s x.next here h)
 
-    decision_goes : (s : State) (e : source.Expr) → IsHere had env s → IfOk (decision env s e).answer (Go o s)
-    decision_goes s e here = weaker_ok (λ x. OnlyDecides s x.next) (Go o s) (decision env s e).answer (decision_behind env s e) (λ x h. decides_go env s x.next here h)
+    decision_goes : (s : State) (q : Pos) (e : source.Expr) → IsHere had env s → IfOk (decision env s q e).answer (Go o s)
+    decision_goes s q e here = weaker_ok (λ x. OnlyDecides s x.next) (Go o s) (decision env s q e).answer (decision_behind env s q e) (λ x h. decides_go env s x.next here h)
 
     pub judged_goes : (s : State) (e : source.Expr) → IsHere had env s → IfOk (judged env itself s e).answer (Go o s)
     judged_goes s e here = weaker_ok (λ x. OnlyDecides s x.next) (Go o s) (judged env itself s e).answer (judged_behind env itself s e) (λ x h. decides_go env s x.next here h)
@@ -167,11 +167,11 @@ module _ (had : Made) where
     stated_goes env s (text.assignment q n i) here =
         answered (Go env.generic s) q _
         (part_so (Go env.generic (started s)) (Go env.generic s) (target env (started s) n).answer
-        (λ v. new_value env v.next v.value.subtype i >>= (λ x. rule (Some (one (tree.assignment (statement_label s q) v.value.object v.value.parts x.value.value) x.next))))
+        (λ v. new_value env v.next q v.value.subtype i >>= (λ x. rule (Some (one (tree.assignment (statement_label s q) v.value.object v.value.parts x.value.value) x.next))))
         (target_goes env (started s) n (begun env s here))
-        (λ v h. part_so (GivesSo had env.generic (NewSo had env.generic) v.next) (Go env.generic s) (new_value env v.next v.value.subtype i).answer
+        (λ v h. part_so (GivesSo had env.generic (NewSo had env.generic) v.next) (Go env.generic s) (new_value env v.next q v.value.subtype i).answer
         (λ x. rule (Some (one (tree.assignment (statement_label s q) v.value.object v.value.parts x.value.value) x.next)))
-        (new_value_so had env v.next v.value.subtype i (here_next had env (started s) v.next (begun env s here) h))
+        (new_value_so had env v.next q v.value.subtype i (here_next had env (started s) v.next (begun env s here) h))
         (λ x k. restart env.generic s x.next (goes_both had env.generic (started s) v.next x.next h k.goes))))
     stated_goes env s (text.call q n) here =
         answered (Go env.generic s) q _
@@ -181,10 +181,10 @@ module _ (had : Made) where
     stated_goes env s (text.exemption q a) here = goes_same had env.generic s s refl here.constants
     stated_goes env s (text.conditional q e ss bs es) here =
         answered (Go env.generic s) q _
-        (part_so (Go env.generic (started s)) (Go env.generic s) (decision env (started s) e).answer
+        (part_so (Go env.generic (started s)) (Go env.generic s) (decision env (started s) q e).answer
         (λ t. all_stated env t.next q ss >>= (λ xs. branched env xs.next q bs >>= (λ ys. all_stated env ys.next q es
         >>= (λ zs. rule (Some (one (tree.if_statement (statement_label s q) (tree.branch t.value.0 t.value.1 (stmts_of xs.value) (branches_of ys.value zs.value))) zs.next))))))
-        (decision_goes env (started s) e (begun env s here))
+        (decision_goes env (started s) q e (begun env s here))
         (λ t u. part_so (Go env.generic t.next) (Go env.generic s) (all_stated env t.next q ss).answer
         (λ xs. branched env xs.next q bs >>= (λ ys. all_stated env ys.next q es
         >>= (λ zs. rule (Some (one (tree.if_statement (statement_label s q) (tree.branch t.value.0 t.value.1 (stmts_of xs.value) (branches_of ys.value zs.value))) zs.next)))))
@@ -219,9 +219,9 @@ module _ (had : Made) where
         (λ xs h. restart env.generic s xs.next h))
     stated_goes env s (text.repeat q (scheme.While e) ss) here =
         answered (Go env.generic s) q _
-        (part_so (Go env.generic (started s)) (Go env.generic s) (decision env (started s) e).answer
+        (part_so (Go env.generic (started s)) (Go env.generic s) (decision env (started s) q e).answer
         (λ t. all_stated (in_loop env) t.next q ss >>= (λ xs. rule (Some (one (tree.while_loop (statement_label s q) t.value.0 t.value.1 (stmts_of xs.value)) xs.next))))
-        (decision_goes env (started s) e (begun env s here))
+        (decision_goes env (started s) q e (begun env s here))
         (λ t u. part_so (Go env.generic t.next) (Go env.generic s) (all_stated (in_loop env) t.next q ss).answer
         (λ xs. rule (Some (one (tree.while_loop (statement_label s q) t.value.0 t.value.1 (stmts_of xs.value)) xs.next)))
         (all_stated_go (in_loop env) t.next q ss (here_loop had env t.next (here_next had env (started s) t.next (begun env s here) u)))
@@ -256,9 +256,9 @@ module _ (had : Made) where
         (goes_same had env.generic s (started s) refl here.constants))
     stated_goes env s (text.exit q (Some e)) here =
         answered (Go env.generic s) q _
-        (part_so (Go env.generic (started s)) (Go env.generic s) (decision env (started s) e).answer
+        (part_so (Go env.generic (started s)) (Go env.generic s) (decision env (started s) q e).answer
         (λ t. typed_stmt env (statement_label s q) t.next (where_allowed env.is_looping (tree.exit_when (statement_label s q) t.value.0 t.value.1)))
-        (decision_goes env (started s) e (begun env s here))
+        (decision_goes env (started s) q e (begun env s here))
         (λ t u. stmt_goes env s t.next (statement_label s q) (where_allowed env.is_looping (tree.exit_when (statement_label s q) t.value.0 t.value.1)) here
         (restart env.generic s t.next u)))
     stated_goes env s (text.returns q None) here =
@@ -304,10 +304,10 @@ module _ (had : Made) where
     branched_go env s q text.no_branches here = goes_same had env.generic s s refl here.constants
     branched_go env s q (text.branch e ss bs) here =
         answered (Go env.generic s) q _
-        (part_so (Go env.generic s) (Go env.generic s) (decision env s e).answer
+        (part_so (Go env.generic s) (Go env.generic s) (decision env s q e).answer
         (λ t. all_stated env t.next q ss >>= (λ xs. branched env xs.next q bs
         >>= (λ ys. rule (Some (given (record { label = t.value.0; test = t.value.1; statements = xs.value } ∷ ys.value) ys.next)))))
-        (decision_goes env s e here)
+        (decision_goes env s q e here)
         (λ t u. part_so (Go env.generic t.next) (Go env.generic s) (all_stated env t.next q ss).answer
         (λ xs. branched env xs.next q bs >>= (λ ys. rule (Some (given (record { label = t.value.0; test = t.value.1; statements = xs.value } ∷ ys.value) ys.next))))
         (all_stated_go env t.next q ss (here_next had env s t.next here u))

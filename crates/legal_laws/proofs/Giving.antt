@@ -140,11 +140,11 @@ mutual
   stated_gives env s (text.assignment q n i) step =
       answered (As env false) q _
       (part_so (λ x. Unit {0}) (As env false) (target env (started s) n).answer
-      (λ v. new_value env v.next v.value.subtype i >>= (λ x. rule (Some (one (tree.assignment (statement_label s q) v.value.object v.value.parts x.value.value) x.next))))
+      (λ v. new_value env v.next q v.value.subtype i >>= (λ x. rule (Some (one (tree.assignment (statement_label s q) v.value.object v.value.parts x.value.value) x.next))))
       (any_answer (target env (started s) n).answer)
-      (λ v u. part_so (λ x. Unit {0}) (As env false) (new_value env v.next v.value.subtype i).answer
+      (λ v u. part_so (λ x. Unit {0}) (As env false) (new_value env v.next q v.value.subtype i).answer
       (λ x. rule (Some (one (tree.assignment (statement_label s q) v.value.object v.value.parts x.value.value) x.next)))
-      (any_answer (new_value env v.next v.value.subtype i).answer) (λ x w. refl)))
+      (any_answer (new_value env v.next q v.value.subtype i).answer) (λ x w. refl)))
   stated_gives env s (text.call q n) step =
       answered (As env false) q _
       (part_so (λ x. Unit {0}) (As env false) (denoted env (started s) n).answer
@@ -153,10 +153,10 @@ mutual
   stated_gives env s (text.exemption q a) step = refl
   stated_gives env s (text.conditional q e ss bs es) step =
       answered (As env (any_return ss || branches_return bs || any_return es)) q _
-      (part_so (λ x. Unit {0}) (As env (any_return ss || branches_return bs || any_return es)) (decision env (started s) e).answer
+      (part_so (λ x. Unit {0}) (As env (any_return ss || branches_return bs || any_return es)) (decision env (started s) q e).answer
       (λ t. all_stated env t.next q ss >>= (λ xs. branched env xs.next q bs >>= (λ ys. all_stated env ys.next q es
       >>= (λ zs. rule (Some (one (tree.if_statement (statement_label s q) (tree.branch t.value.0 t.value.1 (stmts_of xs.value) (branches_of ys.value zs.value))) zs.next))))))
-      (any_answer (decision env (started s) e).answer)
+      (any_answer (decision env (started s) q e).answer)
       (λ t u. part_so (As env (any_return ss)) (As env (any_return ss || branches_return bs || any_return es)) (all_stated env t.next q ss).answer
       (λ xs. branched env xs.next q bs >>= (λ ys. all_stated env ys.next q es
       >>= (λ zs. rule (Some (one (tree.if_statement (statement_label s q) (tree.branch t.value.0 t.value.1 (stmts_of xs.value) (branches_of ys.value zs.value))) zs.next)))))
@@ -192,9 +192,9 @@ mutual
       (all_give (in_loop env) (started s) q ss step) (λ xs h. or_false (some_gives (stmts_of xs.value)) ∙ h))
   stated_gives env s (text.repeat q (scheme.While e) ss) step =
       answered (As env (any_return ss)) q _
-      (part_so (λ x. Unit {0}) (As env (any_return ss)) (decision env (started s) e).answer
+      (part_so (λ x. Unit {0}) (As env (any_return ss)) (decision env (started s) q e).answer
       (λ t. all_stated (in_loop env) t.next q ss >>= (λ xs. rule (Some (one (tree.while_loop (statement_label s q) t.value.0 t.value.1 (stmts_of xs.value)) xs.next))))
-      (any_answer (decision env (started s) e).answer)
+      (any_answer (decision env (started s) q e).answer)
       (λ t u. part_so (As env (any_return ss)) (As env (any_return ss)) (all_stated (in_loop env) t.next q ss).answer
       (λ xs. rule (Some (one (tree.while_loop (statement_label s q) t.value.0 t.value.1 (stmts_of xs.value)) xs.next)))
       (all_give (in_loop env) t.next q ss step) (λ xs h. or_false (some_gives (stmts_of xs.value)) ∙ h)))
@@ -220,9 +220,9 @@ mutual
       (allowed_quiet env.is_looping (tree.exit_statement (statement_label s q)) refl))
   stated_gives env s (text.exit q (Some e)) step =
       answered (As env false) q _
-      (part_so (λ x. Unit {0}) (As env false) (decision env (started s) e).answer
+      (part_so (λ x. Unit {0}) (As env false) (decision env (started s) q e).answer
       (λ t. typed_stmt env (statement_label s q) t.next (where_allowed env.is_looping (tree.exit_when (statement_label s q) t.value.0 t.value.1)))
-      (any_answer (decision env (started s) e).answer)
+      (any_answer (decision env (started s) q e).answer)
       (λ t u. stmt_quiet env step t.next (statement_label s q) (where_allowed env.is_looping (tree.exit_when (statement_label s q) t.value.0 t.value.1))
       (allowed_quiet env.is_looping (tree.exit_when (statement_label s q) t.value.0 t.value.1) refl)))
   stated_gives env s (text.returns q None) step =
@@ -270,10 +270,10 @@ mutual
   branched_give env s q text.no_branches step = refl
   branched_give env s q (text.branch e ss bs) step =
       answered (BranchesAs env (any_return ss || branches_return bs)) q _
-      (part_so (λ x. Unit {0}) (BranchesAs env (any_return ss || branches_return bs)) (decision env s e).answer
+      (part_so (λ x. Unit {0}) (BranchesAs env (any_return ss || branches_return bs)) (decision env s q e).answer
       (λ t. all_stated env t.next q ss >>= (λ xs. branched env xs.next q bs
       >>= (λ ys. rule (Some (given (record { label = t.value.0; test = t.value.1; statements = xs.value } ∷ ys.value) ys.next)))))
-      (any_answer (decision env s e).answer)
+      (any_answer (decision env s q e).answer)
       (λ t u. part_so (As env (any_return ss)) (BranchesAs env (any_return ss || branches_return bs)) (all_stated env t.next q ss).answer
       (λ xs. branched env xs.next q bs >>= (λ ys. rule (Some (given (record { label = t.value.0; test = t.value.1; statements = xs.value } ∷ ys.value) ys.next))))
       (all_give env t.next q ss step)

@@ -162,9 +162,9 @@ module _ (env : Env) where
   measured_typed typing s t u e first None h = tt
   measured_typed typing s t u e first (Some x) h = only_both s t (measured (expr_pos e) x t) h (only_exceeded t _ (expr_pos e))
 
-  pub decision_behind : (s : State) (e : source.Expr) → IfOk (decision env s e).answer (Behind s)
-  decision_behind s e =
-      answered (Behind s) (expr_pos e) _
+  pub decision_behind : (s : State) (q : Pos) (e : source.Expr) → IfOk (decision env s q e).answer (Behind s)
+  decision_behind s q e =
+      answered (Behind s) q _
       (part_so (Behind (decided s)) (Behind s) (judged env operand (decided s) e).answer
       (λ x. typed_rule env.step (given (decision_label s (expr_pos e), test_of x.value.at x.value.form) x.next)
       (option_map (λ t. given (decision_label s (expr_pos e), t) (measured (expr_pos e) t x.next)) (tested x.value)))

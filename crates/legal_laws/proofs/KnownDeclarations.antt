@@ -359,9 +359,9 @@ module _ (p : Program) (facts : List Facts) (has : HaveFacts p.instances facts) 
         (may_be_bare_so (AreMade types Sees env s) c (local_bare c region is x) (bare_made types Sees env s st c region h is x k)))
     objects_plan q c region h is x (Some i) k =
         inside_only (AreMade types Sees env s) env.is_library _ _ inside
-        (part_so (Valued types Sees env s st region h x.next x.value) (AreMade types Sees env s) (new_value (with_local env region) x.next x.value i).answer
+        (part_so (Valued types Sees env s st region h x.next x.value) (AreMade types Sees env s) (new_value (with_local env region) x.next q x.value i).answer
         (λ v. typed_rule env.step (local_set env q c region is x.value v) (option_map (λ u. local_set env q c region is x.value v) (one_name is)))
-        (new_value_known p inst types st.apart shape_of Sees (with_local env region) (regions.local_known p inst types shape_of Sees env region st.place h) x.next x.value i)
+        (new_value_known p inst types st.apart shape_of Sees (with_local env region) (regions.local_known p inst types shape_of Sees env region st.place h) x.next q x.value i)
         (λ v g. typed_so (AreMade types Sees env s) env.step _ _ st.place.step
         (of_one (AreMade types Sees env s) is (λ js. local_set env q c region js x.value v) tt
         (λ j same. subst (λ js. AreMade types Sees env s (local_set env q c region js x.value v)) (sym same)

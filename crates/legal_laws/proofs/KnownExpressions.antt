@@ -281,9 +281,9 @@ module _ (p : Program) (inst : ℕ) (declared : AdaType → Type 0) (apart : Are
     abbrev pub GivesTest : Given (tree.Label × tree.Test) → Type 0
     GivesTest g = Tests g.value.1
 
-    pub decision_known : (s : State) (e : source.Expr) → IfOk (decision env s e).answer GivesTest
-    decision_known s e =
-        answered GivesTest (expr_pos e)
+    pub decision_known : (s : State) (q : Pos) (e : source.Expr) → IfOk (decision env s q e).answer GivesTest
+    decision_known s q e =
+        answered GivesTest q
         (outcome_after (judged env operand (decided s) e).answer
         (λ x. typed_rule env.step (given (decision_label s (expr_pos e), test_of x.value.at x.value.form) x.next)
         (option_map (λ t. given (decision_label s (expr_pos e), t) (measured (expr_pos e) t x.next)) (tested x.value))))

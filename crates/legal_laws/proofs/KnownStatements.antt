@@ -158,16 +158,16 @@ module _ (p : Program) (facts : List Facts) (has : HaveFacts p.instances facts) 
   abbrev Tested : (tree.Object → Type 0) → Env → State → Given (tree.Label × tree.Test) → Type 0
   Tested Sees env s t = Ahead env.generic s t × IsTest p inst shape_of Sees t.value.1
 
-  test : (types : AdaType → Type 0) (Sees : tree.Object → Type 0) (env : Env) (s : State) (e : source.Expr) → Standing types Sees env s
-      → IfOk (decision env s e).answer (Tested Sees env s)
-  test types Sees env s e st =
-      ok_pair (decision_behind env s e) (decision_known p inst types st.apart shape_of Sees env st.place s e)
+  test : (types : AdaType → Type 0) (Sees : tree.Object → Type 0) (env : Env) (s : State) (q : Pos) (e : source.Expr) → Standing types Sees env s
+      → IfOk (decision env s q e).answer (Tested Sees env s)
+  test types Sees env s q e st =
+      ok_pair (decision_behind env s q e) (decision_known p inst types st.apart shape_of Sees env st.place s q e)
     where
-      ok_pair : IfOk (decision env s e).answer (λ g. OnlyDecides s g.next) → IfOk (decision env s e).answer (λ g. IsTest p inst shape_of Sees g.value.1)
-          → IfOk (decision env s e).answer (Tested Sees env s)
+      ok_pair : IfOk (decision env s q e).answer (λ g. OnlyDecides s g.next) → IfOk (decision env s q e).answer (λ g. IsTest p inst shape_of Sees g.value.1)
+          → IfOk (decision env s q e).answer (Tested Sees env s)
       ok_pair h k =
-          weaker_ok (λ g. OnlyDecides s g.next × IsTest p inst shape_of Sees g.value.1) (Tested Sees env s) (decision env s e).answer
-          (both_ok (λ g. OnlyDecides s g.next) (λ g. IsTest p inst shape_of Sees g.value.1) (decision env s e).answer h k)
+          weaker_ok (λ g. OnlyDecides s g.next × IsTest p inst shape_of Sees g.value.1) (Tested Sees env s) (decision env s q e).answer
+          (both_ok (λ g. OnlyDecides s g.next) (λ g. IsTest p inst shape_of Sees g.value.1) (decision env s q e).answer h k)
           (λ g l. (decided_go env.generic s g.next l.0, l.1))
 
   -- an assignment
@@ -203,11 +203,11 @@ module _ (p : Program) (facts : List Facts) (has : HaveFacts p.instances facts) 
         let first = led types Sees env s (started s) st (start env.generic s) in
         answered (Shown Sees env) q _
         (part_so (IsTarget p inst types first.apart shape_of Sees env first.place (started s)) (Shown Sees env) (target env (started s) n).answer
-        (λ v. new_value env v.next v.value.subtype i >>= (λ x. rule (Some (one (tree.assignment (statement_label s q) v.value.object v.value.parts x.value.value) x.next))))
+        (λ v. new_value env v.next q v.value.subtype i >>= (λ x. rule (Some (one (tree.assignment (statement_label s q) v.value.object v.value.parts x.value.value) x.next))))
         (target_known p inst types first.apart shape_of Sees env first.place (started s) n)
-        (λ v h. part_so (IsNewValue p inst types first.apart shape_of Sees env first.place v.next v.value.subtype) (Shown Sees env) (new_value env v.next v.value.subtype i).answer
+        (λ v h. part_so (IsNewValue p inst types first.apart shape_of Sees env first.place v.next v.value.subtype) (Shown Sees env) (new_value env v.next q v.value.subtype i).answer
         (λ x. rule (Some (one (tree.assignment (statement_label s q) v.value.object v.value.parts x.value.value) x.next)))
-        (new_value_known p inst types first.apart shape_of Sees env first.place v.next v.value.subtype i)
+        (new_value_known p inst types first.apart shape_of Sees env first.place v.next q v.value.subtype i)
         (λ x k all. (assigned types Sees env (started s) (statement_label s q) first (started s) v x h k, tt))))
     stated_known types Sees env s (text.call q n) st returns written =
         let first = led types Sees env s (started s) st (start env.generic s) in
@@ -221,10 +221,10 @@ module _ (p : Program) (facts : List Facts) (has : HaveFacts p.instances facts) 
     stated_known types Sees env s (text.conditional q e ss bs es) st returns written =
         let first = led types Sees env s (started s) st (start env.generic s) in
         answered (Shown Sees env) q _
-        (part_so (Tested Sees env (started s)) (Shown Sees env) (decision env (started s) e).answer
+        (part_so (Tested Sees env (started s)) (Shown Sees env) (decision env (started s) q e).answer
         (λ t. all_stated env t.next q ss >>= (λ xs. branched env xs.next q bs >>= (λ ys. all_stated env ys.next q es
         >>= (λ zs. rule (Some (one (tree.if_statement (statement_label s q) (tree.branch t.value.0 t.value.1 (stmts_of xs.value) (branches_of ys.value zs.value))) zs.next))))))
-        (test types Sees env (started s) e first)
+        (test types Sees env (started s) q e first)
         (λ t h. let at_t = led types Sees env (started s) t.next first h.0 in
         part_so (λ xs. Ahead env.generic t.next xs × Shown Sees env xs) (Shown Sees env) (all_stated env t.next q ss).answer
         (λ xs. branched env xs.next q bs >>= (λ ys. all_stated env ys.next q es
@@ -281,9 +281,9 @@ module _ (p : Program) (facts : List Facts) (has : HaveFacts p.instances facts) 
     stated_known types Sees env s (text.repeat q (scheme.While e) ss) st returns written =
         let first = led types Sees env s (started s) st (start env.generic s) in
         answered (Shown Sees env) q _
-        (part_so (Tested Sees env (started s)) (Shown Sees env) (decision env (started s) e).answer
+        (part_so (Tested Sees env (started s)) (Shown Sees env) (decision env (started s) q e).answer
         (λ t. all_stated (in_loop env) t.next q ss >>= (λ xs. rule (Some (one (tree.while_loop (statement_label s q) t.value.0 t.value.1 (stmts_of xs.value)) xs.next))))
-        (test types Sees env (started s) e first)
+        (test types Sees env (started s) q e first)
         (λ t h. part_so (Shown Sees (in_loop env)) (Shown Sees env) (all_stated (in_loop env) t.next q ss).answer
         (λ xs. rule (Some (one (tree.while_loop (statement_label s q) t.value.0 t.value.1 (stmts_of xs.value)) xs.next)))
         (all_known types Sees (in_loop env) t.next q ss (in_loop_stands types Sees env t.next (led types Sees env (started s) t.next first h.0)) returns written)
@@ -328,9 +328,9 @@ module _ (p : Program) (facts : List Facts) (has : HaveFacts p.instances facts) 
     stated_known types Sees env s (text.exit q (Some e)) st returns written =
         let first = led types Sees env s (started s) st (start env.generic s) in
         answered (Shown Sees env) q _
-        (part_so (Tested Sees env (started s)) (Shown Sees env) (decision env (started s) e).answer
+        (part_so (Tested Sees env (started s)) (Shown Sees env) (decision env (started s) q e).answer
         (λ t. typed_stmt env (statement_label s q) t.next (where_allowed env.is_looping (tree.exit_when (statement_label s q) t.value.0 t.value.1)))
-        (test types Sees env (started s) e first)
+        (test types Sees env (started s) q e first)
         (λ t h. stmt_known types Sees env s t.next (statement_label s q) (where_allowed env.is_looping (tree.exit_when (statement_label s q) t.value.0 t.value.1)) st
         (allowed Sees env env.is_looping (tree.exit_when (statement_label s q) t.value.0 t.value.1) (λ b. (b, h.1)))))
     stated_known types Sees env s (text.returns q None) st returns written =
@@ -405,10 +405,10 @@ module _ (p : Program) (facts : List Facts) (has : HaveFacts p.instances facts) 
     branches_shown types Sees env s q text.no_branches st returns written = λ all. tt
     branches_shown types Sees env s q (text.branch e ss bs) st returns written =
         answered (BranchesShown Sees env) q _
-        (part_so (Tested Sees env s) (BranchesShown Sees env) (decision env s e).answer
+        (part_so (Tested Sees env s) (BranchesShown Sees env) (decision env s q e).answer
         (λ t. all_stated env t.next q ss >>= (λ xs. branched env xs.next q bs
         >>= (λ ys. rule (Some (given (record { label = t.value.0; test = t.value.1; statements = xs.value } ∷ ys.value) ys.next)))))
-        (test types Sees env s e st)
+        (test types Sees env s q e st)
         (λ t h. let at_t = led types Sees env s t.next st h.0 in
         part_so (λ xs. Ahead env.generic t.next xs × Shown Sees env xs) (BranchesShown Sees env) (all_stated env t.next q ss).answer
         (λ xs. branched env xs.next q bs >>= (λ ys. rule (Some (given (record { label = t.value.0; test = t.value.1; statements = xs.value } ∷ ys.value) ys.next))))

@@ -61,9 +61,9 @@ module _ (p : Program) (facts : List Facts) (are : Everywhere AreFactsInBase fac
     name_leads s n =
         weaker_ok (λ x. OnlyDecides s x.next) (Ahead o s) (denoted env s n).answer (denoted_behind env s n) (λ x h. leads_decides p facts are inst shape_of o s x.next h)
 
-    pub decision_leads : (s : State) (e : source.Expr) → IfOk (decision env s e).answer (Ahead o s)
-    decision_leads s e =
-        weaker_ok (λ x. OnlyDecides s x.next) (Ahead o s) (decision env s e).answer (decision_behind env s e) (λ x h. leads_decides p facts are inst shape_of o s x.next h)
+    pub decision_leads : (s : State) (q : Pos) (e : source.Expr) → IfOk (decision env s q e).answer (Ahead o s)
+    decision_leads s q e =
+        weaker_ok (λ x. OnlyDecides s x.next) (Ahead o s) (decision env s q e).answer (decision_behind env s q e) (λ x h. leads_decides p facts are inst shape_of o s x.next h)
 
     target_leads : (s : State) (n : source.Name) → IfOk (target env s n).answer (Ahead o s)
     target_leads s n =
@@ -176,11 +176,11 @@ module _ (p : Program) (facts : List Facts) (are : Everywhere AreFactsInBase fac
     stated_leads env s (text.assignment q n i) =
         answered (Ahead env.generic s) q _
         (part_so (Ahead env.generic (started s)) (Ahead env.generic s) (target env (started s) n).answer
-        (λ v. new_value env v.next v.value.subtype i >>= (λ x. rule (Some (one (tree.assignment (statement_label s q) v.value.object v.value.parts x.value.value) x.next))))
+        (λ v. new_value env v.next q v.value.subtype i >>= (λ x. rule (Some (one (tree.assignment (statement_label s q) v.value.object v.value.parts x.value.value) x.next))))
         (target_leads env (started s) n)
-        (λ v h. part_so (Ahead env.generic v.next) (Ahead env.generic s) (new_value env v.next v.value.subtype i).answer
+        (λ v h. part_so (Ahead env.generic v.next) (Ahead env.generic s) (new_value env v.next q v.value.subtype i).answer
         (λ x. rule (Some (one (tree.assignment (statement_label s q) v.value.object v.value.parts x.value.value) x.next)))
-        (new_value_leads p facts are inst shape_of env v.next v.value.subtype i)
+        (new_value_leads p facts are inst shape_of env v.next q v.value.subtype i)
         (λ x k. both env.generic s (started s) x.next (start env s) (both env.generic (started s) v.next x.next h k))))
     stated_leads env s (text.call q n) =
         answered (Ahead env.generic s) q _
@@ -190,10 +190,10 @@ module _ (p : Program) (facts : List Facts) (are : Everywhere AreFactsInBase fac
     stated_leads env s (text.exemption q a) = leads_same p facts are inst shape_of env.generic s
     stated_leads env s (text.conditional q e ss bs es) =
         answered (Ahead env.generic s) q _
-        (part_so (Ahead env.generic (started s)) (Ahead env.generic s) (decision env (started s) e).answer
+        (part_so (Ahead env.generic (started s)) (Ahead env.generic s) (decision env (started s) q e).answer
         (λ t. all_stated env t.next q ss >>= (λ xs. branched env xs.next q bs >>= (λ ys. all_stated env ys.next q es
         >>= (λ zs. rule (Some (one (tree.if_statement (statement_label s q) (tree.branch t.value.0 t.value.1 (stmts_of xs.value) (branches_of ys.value zs.value))) zs.next))))))
-        (decision_leads env (started s) e)
+        (decision_leads env (started s) q e)
         (λ t h. part_so (Ahead env.generic t.next) (Ahead env.generic s) (all_stated env t.next q ss).answer
         (λ xs. branched env xs.next q bs >>= (λ ys. all_stated env ys.next q es
         >>= (λ zs. rule (Some (one (tree.if_statement (statement_label s q) (tree.branch t.value.0 t.value.1 (stmts_of xs.value) (branches_of ys.value zs.value))) zs.next)))))
@@ -225,9 +225,9 @@ module _ (p : Program) (facts : List Facts) (are : Everywhere AreFactsInBase fac
         (λ xs h. both env.generic s (started s) xs.next (start env s) h))
     stated_leads env s (text.repeat q (scheme.While e) ss) =
         answered (Ahead env.generic s) q _
-        (part_so (Ahead env.generic (started s)) (Ahead env.generic s) (decision env (started s) e).answer
+        (part_so (Ahead env.generic (started s)) (Ahead env.generic s) (decision env (started s) q e).answer
         (λ t. all_stated (in_loop env) t.next q ss >>= (λ xs. rule (Some (one (tree.while_loop (statement_label s q) t.value.0 t.value.1 (stmts_of xs.value)) xs.next))))
-        (decision_leads env (started s) e)
+        (decision_leads env (started s) q e)
         (λ t h. part_so (Ahead env.generic t.next) (Ahead env.generic s) (all_stated (in_loop env) t.next q ss).answer
         (λ xs. rule (Some (one (tree.while_loop (statement_label s q) t.value.0 t.value.1 (stmts_of xs.value)) xs.next))) (all_lead (in_loop env) t.next q ss)
         (λ xs k. both env.generic s (started s) xs.next (start env s) (both env.generic (started s) t.next xs.next h k))))
@@ -253,9 +253,9 @@ module _ (p : Program) (facts : List Facts) (are : Everywhere AreFactsInBase fac
         (stmt_leads env s (started s) (statement_label s q) (where_allowed env.is_looping (tree.exit_statement (statement_label s q))) (start env s))
     stated_leads env s (text.exit q (Some e)) =
         answered (Ahead env.generic s) q _
-        (part_so (Ahead env.generic (started s)) (Ahead env.generic s) (decision env (started s) e).answer
+        (part_so (Ahead env.generic (started s)) (Ahead env.generic s) (decision env (started s) q e).answer
         (λ t. typed_stmt env (statement_label s q) t.next (where_allowed env.is_looping (tree.exit_when (statement_label s q) t.value.0 t.value.1)))
-        (decision_leads env (started s) e)
+        (decision_leads env (started s) q e)
         (λ t h. stmt_leads env s t.next (statement_label s q) (where_allowed env.is_looping (tree.exit_when (statement_label s q) t.value.0 t.value.1))
         (both env.generic s (started s) t.next (start env s) h)))
     stated_leads env s (text.returns q None) =
@@ -300,10 +300,10 @@ module _ (p : Program) (facts : List Facts) (are : Everywhere AreFactsInBase fac
     branches_lead env s q text.no_branches = leads_same p facts are inst shape_of env.generic s
     branches_lead env s q (text.branch e ss bs) =
         answered (Ahead env.generic s) q _
-        (part_so (Ahead env.generic s) (Ahead env.generic s) (decision env s e).answer
+        (part_so (Ahead env.generic s) (Ahead env.generic s) (decision env s q e).answer
         (λ t. all_stated env t.next q ss >>= (λ xs. branched env xs.next q bs
         >>= (λ ys. rule (Some (given (record { label = t.value.0; test = t.value.1; statements = xs.value } ∷ ys.value) ys.next)))))
-        (decision_leads env s e)
+        (decision_leads env s q e)
         (λ t h. part_so (Ahead env.generic t.next) (Ahead env.generic s) (all_stated env t.next q ss).answer
         (λ xs. branched env xs.next q bs >>= (λ ys. rule (Some (given (record { label = t.value.0; test = t.value.1; statements = xs.value } ∷ ys.value) ys.next))))
         (all_lead env t.next q ss)

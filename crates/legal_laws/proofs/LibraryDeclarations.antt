@@ -141,9 +141,9 @@ module _ (p : Program) (facts : List Facts) (has : HaveFacts p.instances facts) 
       pub only : g.next.objects_declared ≡ t.objects_declared
       pub initial : Final env.generic g.next → IsInitial p inst g.value.initial
 
-    value_made : (region : Region) (h : IsRegion p inst types shape_of Sees region) (t : State) (a : AdaSubtype) (i : Initial)
-        → IfOk (library_value (with_local env region) t a i).answer (IsLibraryValue t)
-    value_made region h t a i =
+    value_made : (region : Region) (h : IsRegion p inst types shape_of Sees region) (t : State) (q : Pos) (a : AdaSubtype) (i : Initial)
+        → IfOk (library_value (with_local env region) t q a i).answer (IsLibraryValue t)
+    value_made region h t q a i =
         answered (IsLibraryValue t) _ _
         (part_so (IsStaticPart p facts has are inst types st.apart shape_of Sees (with_local env region) (local_known p inst types shape_of Sees env region st.place h) st.world
         t (λ k. true))
@@ -176,12 +176,12 @@ module _ (p : Program) (facts : List Facts) (has : HaveFacts p.instances facts) 
           (ap (λ y. y.objects_declared) k.only) (λ f. (k.subtype f.serves, tt)))))
       objects_known q c region h is x (Some i) k =
           at_library Made env.is_library _
-          (new_value (with_local env region) x.next x.value i >>= (λ v. typed_rule env.step (local_set env q c region is x.value v)
+          (new_value (with_local env region) x.next q x.value i >>= (λ v. typed_rule env.step (local_set env q c region is x.value v)
           (option_map (λ u. local_set env q c region is x.value v) (one_name is)))) library
-          (part_so (IsLibraryValue x.next) Made (library_value (with_local env region) x.next x.value i).answer
+          (part_so (IsLibraryValue x.next) Made (library_value (with_local env region) x.next q x.value i).answer
           (λ v. typed_rule env.step (library_declared env c region is x.value v.value v.next)
           (option_map (λ u. library_declared env c region is x.value v.value v.next) (one_name is)))
-          (value_made region h x.next x.value i)
+          (value_made region h x.next q x.value i)
           (λ v g. typed_so Made env.step _ _ st.place.step
           (mapped_any Made (one_name is) (library_declared env c region is x.value v.value v.next)
           (objects_made c region h is x.value v.value v.next

@@ -128,9 +128,9 @@ module _ (env : Env) (step : env.step ≡ typing) (inside : env.is_library ≡ f
       (mapped_any (Declares s) (may_be_bare c) (local_bare c region is t) made))
   objects_count q c region is s t (Some i) h =
       inside_only (Declares s) env.is_library _ _ inside
-      (part_so (Behind t.next) (Declares s) (new_value (with_local env region) t.next t.value i).answer
+      (part_so (Behind t.next) (Declares s) (new_value (with_local env region) t.next q t.value i).answer
       (λ v. typed_rule env.step (local_set env q c region is t.value v) (option_map (λ u. local_set env q c region is t.value v) (one_name is)))
-      (new_value_keeps (with_local env region) t.next t.value i)
+      (new_value_keeps (with_local env region) t.next q t.value i)
       (λ v k. typed_so (Declares s) env.step _ _ step
       (of_one (Declares s) is (λ js. local_set env q c region js t.value v) tt
       (λ j same. subst (λ js. Declares s (local_set env q c region js t.value v)) (sym same)
@@ -282,11 +282,11 @@ mutual
   stated_counts env s (text.assignment q n i) step =
       answered (As s) q _
       (part_so (Behind (started s)) (As s) (target env (started s) n).answer
-      (λ v. new_value env v.next v.value.subtype i >>= (λ x. rule (Some (one (tree.assignment (statement_label s q) v.value.object v.value.parts x.value.value) x.next))))
+      (λ v. new_value env v.next q v.value.subtype i >>= (λ x. rule (Some (one (tree.assignment (statement_label s q) v.value.object v.value.parts x.value.value) x.next))))
       (target_keeps env (started s) n)
-      (λ v h. part_so (Behind v.next) (As s) (new_value env v.next v.value.subtype i).answer
+      (λ v h. part_so (Behind v.next) (As s) (new_value env v.next q v.value.subtype i).answer
       (λ x. rule (Some (one (tree.assignment (statement_label s q) v.value.object v.value.parts x.value.value) x.next)))
-      (new_value_keeps env v.next v.value.subtype i)
+      (new_value_keeps env v.next q v.value.subtype i)
       (λ x k. counts_none s x.next (same_objects v.next x.next k ∙ same_objects (started s) v.next h))))
   stated_counts env s (text.call q n) step =
       answered (As s) q _
@@ -297,10 +297,10 @@ mutual
   stated_counts env s (text.exemption q a) step = counts_none s s refl
   stated_counts env s (text.conditional q e ss bs es) step =
       answered (As s) q _
-      (part_so (Behind (started s)) (As s) (decision env (started s) e).answer
+      (part_so (Behind (started s)) (As s) (decision env (started s) q e).answer
       (λ t. all_stated env t.next q ss >>= (λ xs. branched env xs.next q bs >>= (λ ys. all_stated env ys.next q es
       >>= (λ zs. rule (Some (one (tree.if_statement (statement_label s q) (tree.branch t.value.0 t.value.1 (stmts_of xs.value) (branches_of ys.value zs.value))) zs.next))))))
-      (decision_keeps env (started s) e)
+      (decision_keeps env (started s) q e)
       (λ t u. part_so (As t.next) (As s) (all_stated env t.next q ss).answer
       (λ xs. branched env xs.next q bs >>= (λ ys. all_stated env ys.next q es
       >>= (λ zs. rule (Some (one (tree.if_statement (statement_label s q) (tree.branch t.value.0 t.value.1 (stmts_of xs.value) (branches_of ys.value zs.value))) zs.next)))))
@@ -342,9 +342,9 @@ mutual
       (counts_behind s (started s) xs.next _ (counts_none s (started s) refl) h)))
   stated_counts env s (text.repeat q (scheme.While e) ss) step =
       answered (As s) q _
-      (part_so (Behind (started s)) (As s) (decision env (started s) e).answer
+      (part_so (Behind (started s)) (As s) (decision env (started s) q e).answer
       (λ t. all_stated (in_loop env) t.next q ss >>= (λ xs. rule (Some (one (tree.while_loop (statement_label s q) t.value.0 t.value.1 (stmts_of xs.value)) xs.next))))
-      (decision_keeps env (started s) e)
+      (decision_keeps env (started s) q e)
       (λ t u. part_so (As t.next) (As s) (all_stated (in_loop env) t.next q ss).answer
       (λ xs. rule (Some (one (tree.while_loop (statement_label s q) t.value.0 t.value.1 (stmts_of xs.value)) xs.next)))
       (all_count (in_loop env) t.next q ss step)
@@ -375,9 +375,9 @@ mutual
       (allowed_plain env.is_looping (tree.exit_statement (statement_label s q)) refl))
   stated_counts env s (text.exit q (Some e)) step =
       answered (As s) q _
-      (part_so (Behind (started s)) (As s) (decision env (started s) e).answer
+      (part_so (Behind (started s)) (As s) (decision env (started s) q e).answer
       (λ t. typed_stmt env (statement_label s q) t.next (where_allowed env.is_looping (tree.exit_when (statement_label s q) t.value.0 t.value.1)))
-      (decision_keeps env (started s) e)
+      (decision_keeps env (started s) q e)
       (λ t u. stmt_plain env s t.next (statement_label s q) (where_allowed env.is_looping (tree.exit_when (statement_label s q) t.value.0 t.value.1))
       (same_objects (started s) t.next u) (allowed_plain env.is_looping (tree.exit_when (statement_label s q) t.value.0 t.value.1) refl)))
   stated_counts env s (text.returns q None) step =
@@ -426,10 +426,10 @@ mutual
   branched_count env s q text.no_branches step = counts_none s s refl
   branched_count env s q (text.branch e ss bs) step =
       answered (BranchesAs s) q _
-      (part_so (Behind s) (BranchesAs s) (decision env s e).answer
+      (part_so (Behind s) (BranchesAs s) (decision env s q e).answer
       (λ t. all_stated env t.next q ss >>= (λ xs. branched env xs.next q bs
       >>= (λ ys. rule (Some (given (record { label = t.value.0; test = t.value.1; statements = xs.value } ∷ ys.value) ys.next)))))
-      (decision_keeps env s e)
+      (decision_keeps env s q e)
       (λ t u. part_so (As t.next) (BranchesAs s) (all_stated env t.next q ss).answer
       (λ xs. branched env xs.next q bs >>= (λ ys. rule (Some (given (record { label = t.value.0; test = t.value.1; statements = xs.value } ∷ ys.value) ys.next))))
       (all_count env t.next q ss step)

@@ -110,10 +110,10 @@ module _ (p : Program) (facts : List Facts) (has : HaveFacts p.instances facts) 
         counted_typed x.value is x.next.words (is_typed x.value (k.subtype first.serves)) (typed_statics s x.next k.only ws))))
     objects_typed q c region h is x (Some i) k =
         inside_only (TypedOn env.generic s) env.is_library _ _ inside
-        (part_so (λ v. Behind x.next v × Ahead env.generic x.next v) (TypedOn env.generic s) (new_value (with_local env region) x.next x.value i).answer
+        (part_so (λ v. Behind x.next v × Ahead env.generic x.next v) (TypedOn env.generic s) (new_value (with_local env region) x.next q x.value i).answer
         (λ v. typed_rule env.step (local_set env q c region is x.value v) (option_map (λ u. local_set env q c region is x.value v) (one_name is)))
-        (both_ok (Behind x.next) (Ahead env.generic x.next) (new_value (with_local env region) x.next x.value i).answer
-        (new_value_keeps (with_local env region) x.next x.value i) (new_value_leads p facts are inst shape_of (with_local env region) x.next x.value i))
+        (both_ok (Behind x.next) (Ahead env.generic x.next) (new_value (with_local env region) x.next q x.value i).answer
+        (new_value_keeps (with_local env region) x.next q x.value i) (new_value_leads p facts are inst shape_of (with_local env region) x.next q x.value i))
         (λ v g. typed_so (TypedOn env.generic s) env.step _ _ st.place.step
         (mapped_any (TypedOn env.generic s) (one_name is) (local_set env q c region is x.value v)
         (λ all ws. let first = (set_leads p facts are inst shape_of env q c region is x.value v x.next g.1).back (now x.next k.only) all in
@@ -210,11 +210,11 @@ module _ (p : Program) (facts : List Facts) (has : HaveFacts p.instances facts) 
     stated_typed types Sees env s (text.assignment q n i) st written =
         answered (TypedBy env.generic s) q _
         (part_so (Behind (started s)) (TypedBy env.generic s) (target env (started s) n).answer
-        (λ v. new_value env v.next v.value.subtype i >>= (λ x. rule (Some (one (tree.assignment (statement_label s q) v.value.object v.value.parts x.value.value) x.next))))
+        (λ v. new_value env v.next q v.value.subtype i >>= (λ x. rule (Some (one (tree.assignment (statement_label s q) v.value.object v.value.parts x.value.value) x.next))))
         (target_keeps env (started s) n)
-        (λ v h. part_so (Behind v.next) (TypedBy env.generic s) (new_value env v.next v.value.subtype i).answer
+        (λ v h. part_so (Behind v.next) (TypedBy env.generic s) (new_value env v.next q v.value.subtype i).answer
         (λ x. rule (Some (one (tree.assignment (statement_label s q) v.value.object v.value.parts x.value.value) x.next)))
-        (new_value_keeps env v.next v.value.subtype i)
+        (new_value_keeps env v.next q v.value.subtype i)
         (λ x k all. typed_same s x.next (words_of v.next x.next k ∙ words_of (started s) v.next h))))
     stated_typed types Sees env s (text.call q n) st written =
         answered (TypedBy env.generic s) q _
@@ -225,11 +225,11 @@ module _ (p : Program) (facts : List Facts) (has : HaveFacts p.instances facts) 
     stated_typed types Sees env s (text.conditional q e ss bs es) st written =
         let first = led types Sees env s (started s) st (start env.generic s) in
         answered (TypedBy env.generic s) q _
-        (part_so (Kept env.generic (started s)) (TypedBy env.generic s) (decision env (started s) e).answer
+        (part_so (Kept env.generic (started s)) (TypedBy env.generic s) (decision env (started s) q e).answer
         (λ t. all_stated env t.next q ss >>= (λ xs. branched env xs.next q bs >>= (λ ys. all_stated env ys.next q es
         >>= (λ zs. rule (Some (one (tree.if_statement (statement_label s q) (tree.branch t.value.0 t.value.1 (stmts_of xs.value) (branches_of ys.value zs.value))) zs.next))))))
-        (both_ok (Ahead env.generic (started s)) (Behind (started s)) (decision env (started s) e).answer
-        (decision_leads p facts are inst shape_of env (started s) e) (decision_keeps env (started s) e))
+        (both_ok (Ahead env.generic (started s)) (Behind (started s)) (decision env (started s) q e).answer
+        (decision_leads p facts are inst shape_of env (started s) q e) (decision_keeps env (started s) q e))
         (λ t h. let at_t = led types Sees env (started s) t.next first h.0 in
         part_so (Both env.generic t.next) (TypedBy env.generic s) (all_stated env t.next q ss).answer
         (λ xs. branched env xs.next q bs >>= (λ ys. all_stated env ys.next q es
@@ -281,10 +281,10 @@ module _ (p : Program) (facts : List Facts) (has : HaveFacts p.instances facts) 
     stated_typed types Sees env s (text.repeat q (scheme.While e) ss) st written =
         let first = led types Sees env s (started s) st (start env.generic s) in
         answered (TypedBy env.generic s) q _
-        (part_so (Kept env.generic (started s)) (TypedBy env.generic s) (decision env (started s) e).answer
+        (part_so (Kept env.generic (started s)) (TypedBy env.generic s) (decision env (started s) q e).answer
         (λ t. all_stated (in_loop env) t.next q ss >>= (λ xs. rule (Some (one (tree.while_loop (statement_label s q) t.value.0 t.value.1 (stmts_of xs.value)) xs.next))))
-        (both_ok (Ahead env.generic (started s)) (Behind (started s)) (decision env (started s) e).answer
-        (decision_leads p facts are inst shape_of env (started s) e) (decision_keeps env (started s) e))
+        (both_ok (Ahead env.generic (started s)) (Behind (started s)) (decision env (started s) q e).answer
+        (decision_leads p facts are inst shape_of env (started s) q e) (decision_keeps env (started s) q e))
         (λ t h. part_so (TypedBy env.generic t.next) (TypedBy env.generic s) (all_stated (in_loop env) t.next q ss).answer
         (λ xs. rule (Some (one (tree.while_loop (statement_label s q) t.value.0 t.value.1 (stmts_of xs.value)) xs.next)))
         (all_typed types Sees (in_loop env) t.next q ss
@@ -328,9 +328,9 @@ module _ (p : Program) (facts : List Facts) (has : HaveFacts p.instances facts) 
         (stmt_typed env s (started s) (statement_label s q) (where_allowed env.is_looping (tree.exit_statement (statement_label s q))) refl)
     stated_typed types Sees env s (text.exit q (Some e)) st written =
         answered (TypedBy env.generic s) q _
-        (part_so (Behind (started s)) (TypedBy env.generic s) (decision env (started s) e).answer
+        (part_so (Behind (started s)) (TypedBy env.generic s) (decision env (started s) q e).answer
         (λ t. typed_stmt env (statement_label s q) t.next (where_allowed env.is_looping (tree.exit_when (statement_label s q) t.value.0 t.value.1)))
-        (decision_keeps env (started s) e)
+        (decision_keeps env (started s) q e)
         (λ t h. stmt_typed env s t.next (statement_label s q) (where_allowed env.is_looping (tree.exit_when (statement_label s q) t.value.0 t.value.1))
         (words_of (started s) t.next h)))
     stated_typed types Sees env s (text.returns q None) st written =
@@ -391,10 +391,10 @@ module _ (p : Program) (facts : List Facts) (has : HaveFacts p.instances facts) 
     branches_typed types Sees env s q text.no_branches st written = λ all ws. ws
     branches_typed types Sees env s q (text.branch e ss bs) st written =
         answered (TypedBy env.generic s) q _
-        (part_so (Kept env.generic s) (TypedBy env.generic s) (decision env s e).answer
+        (part_so (Kept env.generic s) (TypedBy env.generic s) (decision env s q e).answer
         (λ t. all_stated env t.next q ss >>= (λ xs. branched env xs.next q bs
         >>= (λ ys. rule (Some (given (record { label = t.value.0; test = t.value.1; statements = xs.value } ∷ ys.value) ys.next)))))
-        (both_ok (Ahead env.generic s) (Behind s) (decision env s e).answer (decision_leads p facts are inst shape_of env s e) (decision_keeps env s e))
+        (both_ok (Ahead env.generic s) (Behind s) (decision env s q e).answer (decision_leads p facts are inst shape_of env s q e) (decision_keeps env s q e))
         (λ t h. let at_t = led types Sees env s t.next st h.0 in
         part_so (Both env.generic t.next) (TypedBy env.generic s) (all_stated env t.next q ss).answer
         (λ xs. branched env xs.next q bs >>= (λ ys. rule (Some (given (record { label = t.value.0; test = t.value.1; statements = xs.value } ∷ ys.value) ys.next))))

@@ -39,9 +39,9 @@ module _ (env : Env) where
   name_keeps s n =
       weaker_ok (λ x. OnlyDecides s x.next) (Keep s) (denoted env s n).answer (denoted_behind env s n) (λ x h. keeps_decides s x.next h)
 
-  pub decision_keeps : (s : State) (e : source.Expr) → IfOk (decision env s e).answer (Keep s)
-  decision_keeps s e =
-      weaker_ok (λ x. OnlyDecides s x.next) (Keep s) (decision env s e).answer (decision_behind env s e) (λ x h. keeps_decides s x.next h)
+  pub decision_keeps : (s : State) (q : Pos) (e : source.Expr) → IfOk (decision env s q e).answer (Keep s)
+  decision_keeps s q e =
+      weaker_ok (λ x. OnlyDecides s x.next) (Keep s) (decision env s q e).answer (decision_behind env s q e) (λ x h. keeps_decides s x.next h)
 
   target_keeps : (s : State) (n : source.Name) → IfOk (target env s n).answer (Keep s)
   target_keeps s n =
@@ -158,11 +158,11 @@ mutual
   stated_keeps env s (text.assignment q n i) named spelled =
       answered (Keep s) q _
       (part_so (Keep (started s)) (Keep s) (target env (started s) n).answer
-      (λ v. new_value env v.next v.value.subtype i >>= (λ x. rule (Some (one (tree.assignment (statement_label s q) v.value.object v.value.parts x.value.value) x.next))))
+      (λ v. new_value env v.next q v.value.subtype i >>= (λ x. rule (Some (one (tree.assignment (statement_label s q) v.value.object v.value.parts x.value.value) x.next))))
       (target_keeps env (started s) n)
-      (λ v h. part_so (Keep v.next) (Keep s) (new_value env v.next v.value.subtype i).answer
+      (λ v h. part_so (Keep v.next) (Keep s) (new_value env v.next q v.value.subtype i).answer
       (λ x. rule (Some (one (tree.assignment (statement_label s q) v.value.object v.value.parts x.value.value) x.next)))
-      (new_value_keeps env v.next v.value.subtype i)
+      (new_value_keeps env v.next q v.value.subtype i)
       (λ x k. keeps_both s (started s) x.next (start env s) (keeps_both (started s) v.next x.next h k))))
   stated_keeps env s (text.call q n) named spelled =
       answered (Keep s) q _
@@ -172,10 +172,10 @@ mutual
   stated_keeps env s (text.exemption q a) named spelled = keeps_same s
   stated_keeps env s (text.conditional q e ss bs es) named spelled =
       answered (Keep s) q _
-      (part_so (Keep (started s)) (Keep s) (decision env (started s) e).answer
+      (part_so (Keep (started s)) (Keep s) (decision env (started s) q e).answer
       (λ t. all_stated env t.next q ss >>= (λ xs. branched env xs.next q bs >>= (λ ys. all_stated env ys.next q es
       >>= (λ zs. rule (Some (one (tree.if_statement (statement_label s q) (tree.branch t.value.0 t.value.1 (stmts_of xs.value) (branches_of ys.value zs.value))) zs.next))))))
-      (decision_keeps env (started s) e)
+      (decision_keeps env (started s) q e)
       (λ t h. part_so (Keep t.next) (Keep s) (all_stated env t.next q ss).answer
       (λ xs. branched env xs.next q bs >>= (λ ys. all_stated env ys.next q es
       >>= (λ zs. rule (Some (one (tree.if_statement (statement_label s q) (tree.branch t.value.0 t.value.1 (stmts_of xs.value) (branches_of ys.value zs.value))) zs.next)))))
@@ -207,9 +207,9 @@ mutual
       (λ xs h. keeps_both s (started s) xs.next (start env s) h))
   stated_keeps env s (text.repeat q (scheme.While e) ss) named spelled =
       answered (Keep s) q _
-      (part_so (Keep (started s)) (Keep s) (decision env (started s) e).answer
+      (part_so (Keep (started s)) (Keep s) (decision env (started s) q e).answer
       (λ t. all_stated (in_loop env) t.next q ss >>= (λ xs. rule (Some (one (tree.while_loop (statement_label s q) t.value.0 t.value.1 (stmts_of xs.value)) xs.next))))
-      (decision_keeps env (started s) e)
+      (decision_keeps env (started s) q e)
       (λ t h. part_so (Keep t.next) (Keep s) (all_stated (in_loop env) t.next q ss).answer
       (λ xs. rule (Some (one (tree.while_loop (statement_label s q) t.value.0 t.value.1 (stmts_of xs.value)) xs.next))) (all_keep (in_loop env) t.next q ss named spelled)
       (λ xs k. keeps_both s (started s) xs.next (start env s) (keeps_both (started s) t.next xs.next h k))))
@@ -235,9 +235,9 @@ mutual
       (stmt_keeps env s (started s) (statement_label s q) (where_allowed env.is_looping (tree.exit_statement (statement_label s q))) (start env s))
   stated_keeps env s (text.exit q (Some e)) named spelled =
       answered (Keep s) q _
-      (part_so (Keep (started s)) (Keep s) (decision env (started s) e).answer
+      (part_so (Keep (started s)) (Keep s) (decision env (started s) q e).answer
       (λ t. typed_stmt env (statement_label s q) t.next (where_allowed env.is_looping (tree.exit_when (statement_label s q) t.value.0 t.value.1)))
-      (decision_keeps env (started s) e)
+      (decision_keeps env (started s) q e)
       (λ t h. stmt_keeps env s t.next (statement_label s q) (where_allowed env.is_looping (tree.exit_when (statement_label s q) t.value.0 t.value.1))
       (keeps_both s (started s) t.next (start env s) h)))
   stated_keeps env s (text.returns q None) named spelled =
@@ -282,10 +282,10 @@ mutual
   branches_keep env s q text.no_branches named spelled = keeps_same s
   branches_keep env s q (text.branch e ss bs) named spelled =
       answered (Keep s) q _
-      (part_so (Keep s) (Keep s) (decision env s e).answer
+      (part_so (Keep s) (Keep s) (decision env s q e).answer
       (λ t. all_stated env t.next q ss >>= (λ xs. branched env xs.next q bs
       >>= (λ ys. rule (Some (given (record { label = t.value.0; test = t.value.1; statements = xs.value } ∷ ys.value) ys.next)))))
-      (decision_keeps env s e)
+      (decision_keeps env s q e)
       (λ t h. part_so (Keep t.next) (Keep s) (all_stated env t.next q ss).answer
       (λ xs. branched env xs.next q bs >>= (λ ys. rule (Some (given (record { label = t.value.0; test = t.value.1; statements = xs.value } ∷ ys.value) ys.next))))
       (all_keep env t.next q ss named spelled.0)

@@ -37,9 +37,9 @@ module _ (env : Env) where
   name_adds s n =
       weaker_ok (λ x. OnlyDecides s x.next) (Add s) (denoted env s n).answer (denoted_behind env s n) (λ x h. adds_decides s x.next h)
 
-  pub decision_adds : (s : State) (e : source.Expr) → IfOk (decision env s e).answer (Add s)
-  decision_adds s e =
-      weaker_ok (λ x. OnlyDecides s x.next) (Add s) (decision env s e).answer (decision_behind env s e) (λ x h. adds_decides s x.next h)
+  pub decision_adds : (s : State) (q : Pos) (e : source.Expr) → IfOk (decision env s q e).answer (Add s)
+  decision_adds s q e =
+      weaker_ok (λ x. OnlyDecides s x.next) (Add s) (decision env s q e).answer (decision_behind env s q e) (λ x h. adds_decides s x.next h)
 
   target_adds : (s : State) (n : source.Name) → IfOk (target env s n).answer (Add s)
   target_adds s n =
@@ -152,11 +152,11 @@ mutual
   stated_adds env s (text.assignment q n i) =
       answered (Add s) q _
       (part_so (Add (started s)) (Add s) (target env (started s) n).answer
-      (λ v. new_value env v.next v.value.subtype i >>= (λ x. rule (Some (one (tree.assignment (statement_label s q) v.value.object v.value.parts x.value.value) x.next))))
+      (λ v. new_value env v.next q v.value.subtype i >>= (λ x. rule (Some (one (tree.assignment (statement_label s q) v.value.object v.value.parts x.value.value) x.next))))
       (target_adds env (started s) n)
-      (λ v h. part_so (Add v.next) (Add s) (new_value env v.next v.value.subtype i).answer
+      (λ v h. part_so (Add v.next) (Add s) (new_value env v.next q v.value.subtype i).answer
       (λ x. rule (Some (one (tree.assignment (statement_label s q) v.value.object v.value.parts x.value.value) x.next)))
-      (new_value_adds env v.next v.value.subtype i)
+      (new_value_adds env v.next q v.value.subtype i)
       (λ x k. adds_both s (started s) x.next (start env s) (adds_both (started s) v.next x.next h k))))
   stated_adds env s (text.call q n) =
       answered (Add s) q _
@@ -166,10 +166,10 @@ mutual
   stated_adds env s (text.exemption q a) = adds_same s
   stated_adds env s (text.conditional q e ss bs es) =
       answered (Add s) q _
-      (part_so (Add (started s)) (Add s) (decision env (started s) e).answer
+      (part_so (Add (started s)) (Add s) (decision env (started s) q e).answer
       (λ t. all_stated env t.next q ss >>= (λ xs. branched env xs.next q bs >>= (λ ys. all_stated env ys.next q es
       >>= (λ zs. rule (Some (one (tree.if_statement (statement_label s q) (tree.branch t.value.0 t.value.1 (stmts_of xs.value) (branches_of ys.value zs.value))) zs.next))))))
-      (decision_adds env (started s) e)
+      (decision_adds env (started s) q e)
       (λ t h. part_so (Add t.next) (Add s) (all_stated env t.next q ss).answer
       (λ xs. branched env xs.next q bs >>= (λ ys. all_stated env ys.next q es
       >>= (λ zs. rule (Some (one (tree.if_statement (statement_label s q) (tree.branch t.value.0 t.value.1 (stmts_of xs.value) (branches_of ys.value zs.value))) zs.next)))))
@@ -201,9 +201,9 @@ mutual
       (λ xs h. adds_both s (started s) xs.next (start env s) h))
   stated_adds env s (text.repeat q (scheme.While e) ss) =
       answered (Add s) q _
-      (part_so (Add (started s)) (Add s) (decision env (started s) e).answer
+      (part_so (Add (started s)) (Add s) (decision env (started s) q e).answer
       (λ t. all_stated (in_loop env) t.next q ss >>= (λ xs. rule (Some (one (tree.while_loop (statement_label s q) t.value.0 t.value.1 (stmts_of xs.value)) xs.next))))
-      (decision_adds env (started s) e)
+      (decision_adds env (started s) q e)
       (λ t h. part_so (Add t.next) (Add s) (all_stated (in_loop env) t.next q ss).answer
       (λ xs. rule (Some (one (tree.while_loop (statement_label s q) t.value.0 t.value.1 (stmts_of xs.value)) xs.next))) (all_add (in_loop env) t.next q ss)
       (λ xs k. adds_both s (started s) xs.next (start env s) (adds_both (started s) t.next xs.next h k))))
@@ -229,9 +229,9 @@ mutual
       (stmt_adds env s (started s) (statement_label s q) (where_allowed env.is_looping (tree.exit_statement (statement_label s q))) (start env s))
   stated_adds env s (text.exit q (Some e)) =
       answered (Add s) q _
-      (part_so (Add (started s)) (Add s) (decision env (started s) e).answer
+      (part_so (Add (started s)) (Add s) (decision env (started s) q e).answer
       (λ t. typed_stmt env (statement_label s q) t.next (where_allowed env.is_looping (tree.exit_when (statement_label s q) t.value.0 t.value.1)))
-      (decision_adds env (started s) e)
+      (decision_adds env (started s) q e)
       (λ t h. stmt_adds env s t.next (statement_label s q) (where_allowed env.is_looping (tree.exit_when (statement_label s q) t.value.0 t.value.1))
       (adds_both s (started s) t.next (start env s) h)))
   stated_adds env s (text.returns q None) =
@@ -276,10 +276,10 @@ mutual
   branches_add env s q text.no_branches = adds_same s
   branches_add env s q (text.branch e ss bs) =
       answered (Add s) q _
-      (part_so (Add s) (Add s) (decision env s e).answer
+      (part_so (Add s) (Add s) (decision env s q e).answer
       (λ t. all_stated env t.next q ss >>= (λ xs. branched env xs.next q bs
       >>= (λ ys. rule (Some (given (record { label = t.value.0; test = t.value.1; statements = xs.value } ∷ ys.value) ys.next)))))
-      (decision_adds env s e)
+      (decision_adds env s q e)
       (λ t h. part_so (Add t.next) (Add s) (all_stated env t.next q ss).answer
       (λ xs. branched env xs.next q bs >>= (λ ys. rule (Some (given (record { label = t.value.0; test = t.value.1; statements = xs.value } ∷ ys.value) ys.next))))
       (all_add env t.next q ss)

@@ -164,8 +164,8 @@ library_calm env c region is t v s u h =
     calm_both s u _ h (decides_before u k.next _ [] (constant_calm env c t (λ e. Some e) v.known u) refl refl)
 
 module _ (env : Env) (step : env.step ≡ typing) (is : IsWholeEnv env) (library : env.is_library ≡ true) where
-  value_calm : (region : Region) → IsWholeRegion region → (s : State) (t : AdaSubtype) (i : Initial) → IfOk (library_value (with_local env region) s t i).answer (Calm s)
-  value_calm region h s t i =
+  value_calm : (region : Region) → IsWholeRegion region → (s : State) (q : Pos) (t : AdaSubtype) (i : Initial) → IfOk (library_value (with_local env region) s q t i).answer (Calm s)
+  value_calm region h s q t i =
       answered (Calm s) _ _
       (part_so (Calm s) (Calm s) (static_part (with_local env region) s (λ k. true) (in_range (range_in (innermost t i.others))) i.value).answer
       (λ x. typed_rule env.step (given (record { initial = _; known = None }) x.next)
@@ -186,14 +186,14 @@ module _ (env : Env) (step : env.step ≡ typing) (is : IsWholeEnv env) (library
       (typed_either (CalmOn s) env.step _ _ all (mapped_any (CalmOn s) (may_be_bare c) _ all))
   objects_calm q c region h names s t (Some i) k =
       at_library (CalmOn s) env.is_library
-      (library_value (with_local env region) t.next t.value i >>= (λ v. typed_rule env.step (library_declared env c region names t.value v.value v.next)
+      (library_value (with_local env region) t.next q t.value i >>= (λ v. typed_rule env.step (library_declared env c region names t.value v.value v.next)
       (option_map (λ u. library_declared env c region names t.value v.value v.next) (one_name names))))
-      (new_value (with_local env region) t.next t.value i >>= (λ v. typed_rule env.step (local_set env q c region names t.value v)
+      (new_value (with_local env region) t.next q t.value i >>= (λ v. typed_rule env.step (local_set env q c region names t.value v)
       (option_map (λ u. local_set env q c region names t.value v) (one_name names)))) library
-      (part_so (Calm t.next) (CalmOn s) (library_value (with_local env region) t.next t.value i).answer
+      (part_so (Calm t.next) (CalmOn s) (library_value (with_local env region) t.next q t.value i).answer
       (λ v. typed_rule env.step (library_declared env c region names t.value v.value v.next)
       (option_map (λ u. library_declared env c region names t.value v.value v.next) (one_name names)))
-      (value_calm region h t.next t.value i)
+      (value_calm region h t.next q t.value i)
       (λ v l. let all = library_calm env c region names t.value v.value s v.next (calm_both s t.next v.next k l) in
       typed_either (CalmOn s) env.step _ _ all (mapped_any (CalmOn s) (one_name names) _ all)))
 

@@ -584,10 +584,10 @@ module _ (env : Env) (step : env.step ≡ typing) (is : IsWholeEnv env) where
         (λ xs k. record { decides = λ n. decides_joined s x.next xs.next _ _ (h.decides n) (k.decides n); own = ((h.clear, h.is_plain), k.own) })))
 
   -- the decision of a statement
-  pub decision_decides : (s : State) (e : source.Expr) → IfOk (decision env s e).answer
+  pub decision_decides : (s : State) (q : Pos) (e : source.Expr) → IfOk (decision env s q e).answer
       (λ g. (k : ℕ) (standing : Standing) → Decides s (in_decision k standing g.value.0 g.value.1) g.next)
-  decision_decides s e =
-      answered (Decided s) (expr_pos e) _
+  decision_decides s q e =
+      answered (Decided s) q _
       (part_so (JudgesFrom operand (is_circuit e) (decided s)) (Decided s) (judged env operand (decided s) e).answer
       (λ x. typed_rule env.step (given (decision_label s (expr_pos e), test_of x.value.at x.value.form) x.next)
       (option_map (λ t. given (decision_label s (expr_pos e), t) (measured (expr_pos e) t x.next)) (tested x.value)))

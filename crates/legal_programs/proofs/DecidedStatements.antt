@@ -72,9 +72,9 @@ module _ (env : Env) (step : env.step ≡ typing) (whole : IsWholeEnv env) (insi
       (mapped_any (Declares s) (may_be_bare c) (local_bare c region is t) made))
   objects_decide q c region h is s t (Some i) k =
       inside_only (Declares s) env.is_library _ _ inside
-      (part_so (λ v. (j : ℕ) → Decides t.next (in_value j v.value.value) v.next) (Declares s) (new_value (with_local env region) t.next t.value i).answer
+      (part_so (λ v. (j : ℕ) → Decides t.next (in_value j v.value.value) v.next) (Declares s) (new_value (with_local env region) t.next q t.value i).answer
       (λ v. typed_rule env.step (local_set env q c region is t.value v) (option_map (λ u. local_set env q c region is t.value v) (one_name is)))
-      (new_value_decides (with_local env region) step (local_whole env region whole h) t.next t.value i)
+      (new_value_decides (with_local env region) step (local_whole env region whole h) t.next q t.value i)
       (λ v l. typed_so (Declares s) env.step _ _ step
       (of_one (Declares s) is (λ js. local_set env q c region js t.value v) tt
       (λ j same. subst (λ js. Declares s (local_set env q c region js t.value v)) (sym same)
@@ -232,11 +232,11 @@ mutual
   stated_decides env s (text.assignment q n i) step whole =
       answered (As s) q _
       (part_so (λ v. (k : ℕ) → Decides (started s) (in_parts k v.value.parts) v.next) (As s) (target env (started s) n).answer
-      (λ v. new_value env v.next v.value.subtype i >>= (λ x. rule (Some (one (tree.assignment (statement_label s q) v.value.object v.value.parts x.value.value) x.next))))
+      (λ v. new_value env v.next q v.value.subtype i >>= (λ x. rule (Some (one (tree.assignment (statement_label s q) v.value.object v.value.parts x.value.value) x.next))))
       (target_decides env step whole (started s) n)
-      (λ v h. part_so (λ x. (k : ℕ) → Decides v.next (in_value k x.value.value) x.next) (As s) (new_value env v.next v.value.subtype i).answer
+      (λ v h. part_so (λ x. (k : ℕ) → Decides v.next (in_value k x.value.value) x.next) (As s) (new_value env v.next q v.value.subtype i).answer
       (λ x. rule (Some (one (tree.assignment (statement_label s q) v.value.object v.value.parts x.value.value) x.next)))
-      (new_value_decides env step whole v.next v.value.subtype i)
+      (new_value_decides env step whole v.next q v.value.subtype i)
       (λ x k. one_decided s x.next (tree.assignment (statement_label s q) v.value.object v.value.parts x.value.value)
       (from_start s x.next _ (decides_joined (started s) v.next x.next _ _ (h s.statements) (k s.statements))))))
   stated_decides env s (text.call q n) step whole =
@@ -249,10 +249,10 @@ mutual
   stated_decides env s (text.exemption q a) step whole = decides_same s
   stated_decides env s (text.conditional q e ss bs es) step whole =
       answered (As s) q _
-      (part_so (Decided (started s)) (As s) (decision env (started s) e).answer
+      (part_so (Decided (started s)) (As s) (decision env (started s) q e).answer
       (λ t. all_stated env t.next q ss >>= (λ xs. branched env xs.next q bs >>= (λ ys. all_stated env ys.next q es
       >>= (λ zs. rule (Some (one (tree.if_statement (statement_label s q) (tree.branch t.value.0 t.value.1 (stmts_of xs.value) (branches_of ys.value zs.value))) zs.next))))))
-      (decision_decides env step whole (started s) e)
+      (decision_decides env step whole (started s) q e)
       (λ t u. part_so (As t.next) (As s) (all_stated env t.next q ss).answer
       (λ xs. branched env xs.next q bs >>= (λ ys. all_stated env ys.next q es
       >>= (λ zs. rule (Some (one (tree.if_statement (statement_label s q) (tree.branch t.value.0 t.value.1 (stmts_of xs.value) (branches_of ys.value zs.value))) zs.next)))))
@@ -294,9 +294,9 @@ mutual
       (λ xs h. one_decided s xs.next (tree.bare_loop (statement_label s q) (stmts_of xs.value)) (from_start s xs.next _ h)))
   stated_decides env s (text.repeat q (scheme.While e) ss) step whole =
       answered (As s) q _
-      (part_so (Decided (started s)) (As s) (decision env (started s) e).answer
+      (part_so (Decided (started s)) (As s) (decision env (started s) q e).answer
       (λ t. all_stated (in_loop env) t.next q ss >>= (λ xs. rule (Some (one (tree.while_loop (statement_label s q) t.value.0 t.value.1 (stmts_of xs.value)) xs.next))))
-      (decision_decides env step whole (started s) e)
+      (decision_decides env step whole (started s) q e)
       (λ t u. part_so (As t.next) (As s) (all_stated (in_loop env) t.next q ss).answer
       (λ xs. rule (Some (one (tree.while_loop (statement_label s q) t.value.0 t.value.1 (stmts_of xs.value)) xs.next)))
       (all_decide (in_loop env) t.next q ss step (loop_whole env whole))
@@ -327,9 +327,9 @@ mutual
       (some_decided s (started s) [] _ (allowed_decisions env.is_looping (tree.exit_statement (statement_label s q))) (begun s)))
   stated_decides env s (text.exit q (Some e)) step whole =
       answered (As s) q _
-      (part_so (Decided (started s)) (As s) (decision env (started s) e).answer
+      (part_so (Decided (started s)) (As s) (decision env (started s) q e).answer
       (λ t. typed_stmt env (statement_label s q) t.next (where_allowed env.is_looping (tree.exit_when (statement_label s q) t.value.0 t.value.1)))
-      (decision_decides env step whole (started s) e)
+      (decision_decides env step whole (started s) q e)
       (λ t u. stmt_decided env s t.next (statement_label s q) (where_allowed env.is_looping (tree.exit_when (statement_label s q) t.value.0 t.value.1)) step
       (some_decided s t.next _ _ (allowed_decisions env.is_looping (tree.exit_when (statement_label s q) t.value.0 t.value.1))
       (from_start s t.next _ (u s.statements after_exit)))))
@@ -380,10 +380,10 @@ mutual
   branched_decide env s q text.no_branches step whole = λ k. decides_same s
   branched_decide env s q (text.branch e ss bs) step whole =
       answered (BranchesAs s) q _
-      (part_so (Decided s) (BranchesAs s) (decision env s e).answer
+      (part_so (Decided s) (BranchesAs s) (decision env s q e).answer
       (λ t. all_stated env t.next q ss >>= (λ xs. branched env xs.next q bs
       >>= (λ ys. rule (Some (given (record { label = t.value.0; test = t.value.1; statements = xs.value } ∷ ys.value) ys.next)))))
-      (decision_decides env step whole s e)
+      (decision_decides env step whole s q e)
       (λ t u. part_so (As t.next) (BranchesAs s) (all_stated env t.next q ss).answer
       (λ xs. branched env xs.next q bs >>= (λ ys. rule (Some (given (record { label = t.value.0; test = t.value.1; statements = xs.value } ∷ ys.value) ys.next))))
       (all_decide env t.next q ss step whole)

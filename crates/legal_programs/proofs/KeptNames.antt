@@ -147,19 +147,19 @@ module _ (m : List ℕ) (kept : Entity) where
       (typed_either RegionHas env.step _ _ bare (mapped_any RegionHas (may_be_bare c) _ bare))
   objects_has env q c region is t (Some i) apart all =
       either_plan RegionHas env.is_library
-      (library_value (with_local env region) t.next t.value i >>= (λ v. typed_rule env.step (library_declared env c region is t.value v.value v.next)
+      (library_value (with_local env region) t.next q t.value i >>= (λ v. typed_rule env.step (library_declared env c region is t.value v.value v.next)
       (option_map (λ u. library_declared env c region is t.value v.value v.next) (one_name is))))
-      (new_value (with_local env region) t.next t.value i >>= (λ v. typed_rule env.step (local_set env q c region is t.value v)
+      (new_value (with_local env region) t.next q t.value i >>= (λ v. typed_rule env.step (local_set env q c region is t.value v)
       (option_map (λ u. local_set env q c region is t.value v) (one_name is))))
-      (part_so (λ v. Unit {0}) RegionHas (library_value (with_local env region) t.next t.value i).answer
+      (part_so (λ v. Unit {0}) RegionHas (library_value (with_local env region) t.next q t.value i).answer
       (λ v. typed_rule env.step (library_declared env c region is t.value v.value v.next)
       (option_map (λ u. library_declared env c region is t.value v.value v.next) (one_name is)))
-      (any_answer (library_value (with_local env region) t.next t.value i).answer)
+      (any_answer (library_value (with_local env region) t.next q t.value i).answer)
       (λ v u. let made = library_entities_has env c t.value _ _ region is apart all in
       typed_either RegionHas env.step _ _ made (mapped_any RegionHas (one_name is) _ made)))
-      (part_so (λ v. Unit {0}) RegionHas (new_value (with_local env region) t.next t.value i).answer
+      (part_so (λ v. Unit {0}) RegionHas (new_value (with_local env region) t.next q t.value i).answer
       (λ v. typed_rule env.step (local_set env q c region is t.value v) (option_map (λ u. local_set env q c region is t.value v) (one_name is)))
-      (any_answer (new_value (with_local env region) t.next t.value i).answer)
+      (any_answer (new_value (with_local env region) t.next q t.value i).answer)
       (λ v u. let made = local_objects_has c t.value _ _ region is apart all in
       typed_either RegionHas env.step _ _ made (mapped_any RegionHas (one_name is) _ made)))
 

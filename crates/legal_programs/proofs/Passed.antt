@@ -114,3 +114,10 @@ is_legal l main p h =
       limited = counts.0;
       made = sym (ap (program_in p) counts.1);
     }
+
+-- its walk is what the rules come to in the step of types
+pub legal_comes : (l : Library) (main : List ℕ) (p : Program) → (h : checked_in l main ≡ legal p) → (judged_in typing l main).answer ≡ Ok (is_legal l main p h).walked
+unfolding is_legal step_reached
+legal_comes l main p h =
+    let names = step_reached unnamed (judged_in naming l main).answer (λ x. after_names l main) p not_legal.0 h in
+    (step_reached mistyped (judged_in typing l main).answer (λ x. after_values l main x) p not_legal.1.0 names.rest).is

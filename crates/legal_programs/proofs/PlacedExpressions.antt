@@ -348,9 +348,9 @@ module _ (env : Env) (step : env.step ≡ typing) (is : IsWholeEnv env) where
         (λ xs k n. at_joined (in_form n x.value.form) (all_forms n xs.value) (expr_decisions itself e) (exprs_decisions es) (h n) (k n))))
 
   -- the decision of a statement
-  pub decision_placed : (s : State) (e : source.Expr) → IfOk (decision env s e).answer (TestAt (test_decisions e))
-  decision_placed s e =
-      answered (TestAt (test_decisions e)) (expr_pos e) _
+  pub decision_placed : (s : State) (q : Pos) (e : source.Expr) → IfOk (decision env s q e).answer (TestAt (test_decisions e))
+  decision_placed s q e =
+      answered (TestAt (test_decisions e)) q _
       (part_so (λ x. ValueAt (expr_decisions operand e) x.value) (TestAt (test_decisions e)) (judged env operand (decided s) e).answer
       (λ x. typed_rule env.step (given (decision_label s (expr_pos e), test_of x.value.at x.value.form) x.next)
       (option_map (λ t. given (decision_label s (expr_pos e), t) (measured (expr_pos e) t x.next)) (tested x.value)))

@@ -47,9 +47,9 @@ module _ (env : Env) (step : env.step ≡ typing) (inside : env.is_library ≡ f
       (mapped_any (Declares []) (may_be_bare c) (local_bare c region is t) (stand_as [] _ [] (sym (bare_labels t.value t.next.objects is)) refl)))
   objects_placed q c region is t (Some i) =
       inside_only (Declares (q ∷ [])) env.is_library _ _ inside
-      (part_so (λ v. Unit {0}) (Declares (q ∷ [])) (new_value (with_local env region) t.next t.value i).answer
+      (part_so (λ v. Unit {0}) (Declares (q ∷ [])) (new_value (with_local env region) t.next q t.value i).answer
       (λ v. typed_rule env.step (local_set env q c region is t.value v) (option_map (λ u. local_set env q c region is t.value v) (one_name is)))
-      (any_answer (new_value (with_local env region) t.next t.value i).answer)
+      (any_answer (new_value (with_local env region) t.next q t.value i).answer)
       (λ v k. typed_so (Declares (q ∷ [])) env.step _ _ step
       (mapped_any (Declares (q ∷ [])) (one_name is) (local_set env q c region is t.value v) refl)))
 
@@ -140,11 +140,11 @@ mutual
   stated_placed env s (text.assignment q n i) step =
       answered (As (q ∷ [])) q _
       (part_so (λ x. Unit {0}) (As (q ∷ [])) (target env (started s) n).answer
-      (λ v. new_value env v.next v.value.subtype i >>= (λ x. rule (Some (one (tree.assignment (statement_label s q) v.value.object v.value.parts x.value.value) x.next))))
+      (λ v. new_value env v.next q v.value.subtype i >>= (λ x. rule (Some (one (tree.assignment (statement_label s q) v.value.object v.value.parts x.value.value) x.next))))
       (any_answer (target env (started s) n).answer)
-      (λ v h. part_so (λ x. Unit {0}) (As (q ∷ [])) (new_value env v.next v.value.subtype i).answer
+      (λ v h. part_so (λ x. Unit {0}) (As (q ∷ [])) (new_value env v.next q v.value.subtype i).answer
       (λ x. rule (Some (one (tree.assignment (statement_label s q) v.value.object v.value.parts x.value.value) x.next)))
-      (any_answer (new_value env v.next v.value.subtype i).answer) (λ x k. refl)))
+      (any_answer (new_value env v.next q v.value.subtype i).answer) (λ x k. refl)))
   stated_placed env s (text.call q n) step =
       answered (As (q ∷ [])) q _
       (part_so (λ x. Unit {0}) (As (q ∷ [])) (denoted env (started s) n).answer
@@ -153,10 +153,10 @@ mutual
   stated_placed env s (text.exemption q a) step = refl
   stated_placed env s (text.conditional q e ss bs es) step =
       answered (As (places (text.conditional q e ss bs es))) q _
-      (part_so (λ x. Unit {0}) (As (places (text.conditional q e ss bs es))) (decision env (started s) e).answer
+      (part_so (λ x. Unit {0}) (As (places (text.conditional q e ss bs es))) (decision env (started s) q e).answer
       (λ t. all_stated env t.next q ss >>= (λ xs. branched env xs.next q bs >>= (λ ys. all_stated env ys.next q es
       >>= (λ zs. rule (Some (one (tree.if_statement (statement_label s q) (tree.branch t.value.0 t.value.1 (stmts_of xs.value) (branches_of ys.value zs.value))) zs.next))))))
-      (any_answer (decision env (started s) e).answer)
+      (any_answer (decision env (started s) q e).answer)
       (λ t u. part_so (As (all_places ss)) (As (places (text.conditional q e ss bs es))) (all_stated env t.next q ss).answer
       (λ xs. branched env xs.next q bs >>= (λ ys. all_stated env ys.next q es
       >>= (λ zs. rule (Some (one (tree.if_statement (statement_label s q) (tree.branch t.value.0 t.value.1 (stmts_of xs.value) (branches_of ys.value zs.value))) zs.next)))))
@@ -197,9 +197,9 @@ mutual
       (first_place (statement_label s q) q (all_labels (stmts_of xs.value)) (all_places ss) refl h)))
   stated_placed env s (text.repeat q (scheme.While e) ss) step =
       answered (As (q ∷ all_places ss)) q _
-      (part_so (λ x. Unit {0}) (As (q ∷ all_places ss)) (decision env (started s) e).answer
+      (part_so (λ x. Unit {0}) (As (q ∷ all_places ss)) (decision env (started s) q e).answer
       (λ t. all_stated (in_loop env) t.next q ss >>= (λ xs. rule (Some (one (tree.while_loop (statement_label s q) t.value.0 t.value.1 (stmts_of xs.value)) xs.next))))
-      (any_answer (decision env (started s) e).answer)
+      (any_answer (decision env (started s) q e).answer)
       (λ t u. part_so (As (all_places ss)) (As (q ∷ all_places ss)) (all_stated (in_loop env) t.next q ss).answer
       (λ xs. rule (Some (one (tree.while_loop (statement_label s q) t.value.0 t.value.1 (stmts_of xs.value)) xs.next)))
       (all_placed (in_loop env) t.next q ss step)
@@ -228,9 +228,9 @@ mutual
       (allowed_plain (statement_label s q) env.is_looping (tree.exit_statement (statement_label s q)) refl))
   stated_placed env s (text.exit q (Some e)) step =
       answered (As (q ∷ [])) q _
-      (part_so (λ x. Unit {0}) (As (q ∷ [])) (decision env (started s) e).answer
+      (part_so (λ x. Unit {0}) (As (q ∷ [])) (decision env (started s) q e).answer
       (λ t. typed_stmt env (statement_label s q) t.next (where_allowed env.is_looping (tree.exit_when (statement_label s q) t.value.0 t.value.1)))
-      (any_answer (decision env (started s) e).answer)
+      (any_answer (decision env (started s) q e).answer)
       (λ t u. stmt_plain env s t.next q (where_allowed env.is_looping (tree.exit_when (statement_label s q) t.value.0 t.value.1))
       (allowed_plain (statement_label s q) env.is_looping (tree.exit_when (statement_label s q) t.value.0 t.value.1) refl)))
   stated_placed env s (text.returns q None) step =
@@ -278,10 +278,10 @@ mutual
   branched_placed env s q text.no_branches step = refl
   branched_placed env s q (text.branch e ss bs) step =
       answered (BranchesAs (all_places ss ++ branch_places bs)) q _
-      (part_so (λ x. Unit {0}) (BranchesAs (all_places ss ++ branch_places bs)) (decision env s e).answer
+      (part_so (λ x. Unit {0}) (BranchesAs (all_places ss ++ branch_places bs)) (decision env s q e).answer
       (λ t. all_stated env t.next q ss >>= (λ xs. branched env xs.next q bs
       >>= (λ ys. rule (Some (given (record { label = t.value.0; test = t.value.1; statements = xs.value } ∷ ys.value) ys.next)))))
-      (any_answer (decision env s e).answer)
+      (any_answer (decision env s q e).answer)
       (λ t u. part_so (As (all_places ss)) (BranchesAs (all_places ss ++ branch_places bs)) (all_stated env t.next q ss).answer
       (λ xs. branched env xs.next q bs >>= (λ ys. rule (Some (given (record { label = t.value.0; test = t.value.1; statements = xs.value } ∷ ys.value) ys.next))))
       (all_placed env t.next q ss step)

@@ -132,19 +132,19 @@ objects_whole env q c region is t None all =
     (typed_either RegionWhole env.step _ _ bare (mapped_any RegionWhole (may_be_bare c) _ bare))
 objects_whole env q c region is t (Some i) all =
     either_plan RegionWhole env.is_library
-    (library_value (with_local env region) t.next t.value i >>= (λ v. typed_rule env.step (library_declared env c region is t.value v.value v.next)
+    (library_value (with_local env region) t.next q t.value i >>= (λ v. typed_rule env.step (library_declared env c region is t.value v.value v.next)
     (option_map (λ u. library_declared env c region is t.value v.value v.next) (one_name is))))
-    (new_value (with_local env region) t.next t.value i >>= (λ v. typed_rule env.step (local_set env q c region is t.value v)
+    (new_value (with_local env region) t.next q t.value i >>= (λ v. typed_rule env.step (local_set env q c region is t.value v)
     (option_map (λ u. local_set env q c region is t.value v) (one_name is))))
-    (part_so (λ v. Unit {0}) RegionWhole (library_value (with_local env region) t.next t.value i).answer
+    (part_so (λ v. Unit {0}) RegionWhole (library_value (with_local env region) t.next q t.value i).answer
     (λ v. typed_rule env.step (library_declared env c region is t.value v.value v.next)
     (option_map (λ u. library_declared env c region is t.value v.value v.next) (one_name is)))
-    (any_answer (library_value (with_local env region) t.next t.value i).answer)
+    (any_answer (library_value (with_local env region) t.next q t.value i).answer)
     (λ v u. let made = library_entities_whole env c t.value _ _ region is all in
     typed_either RegionWhole env.step _ _ made (mapped_any RegionWhole (one_name is) _ made)))
-    (part_so (λ v. Unit {0}) RegionWhole (new_value (with_local env region) t.next t.value i).answer
+    (part_so (λ v. Unit {0}) RegionWhole (new_value (with_local env region) t.next q t.value i).answer
     (λ v. typed_rule env.step (local_set env q c region is t.value v) (option_map (λ u. local_set env q c region is t.value v) (one_name is)))
-    (any_answer (new_value (with_local env region) t.next t.value i).answer)
+    (any_answer (new_value (with_local env region) t.next q t.value i).answer)
     (λ v u. let made = local_objects_whole c t.value _ _ region is all in
     typed_either RegionWhole env.step _ _ made (mapped_any RegionWhole (one_name is) _ made)))
 

@@ -152,17 +152,17 @@ module _ (l : Library) where
       let none : wants_body (Some u) ≡ false = ap (λ i. wants_body (Some (record u { item = i }))) item in
       false≢true (sym none ∙ (sym (ap wants_body found) ∙ wants))
 
-  record IsUnitAt (n : ℕ) (u : LibraryUnit) (i : LibraryItem) : Type 0 where
-    there : slice_get l.units n ≡ Some u
-    item : u.item ≡ i
-    well : is_declared_well l n i ≡ true
+  pub record IsUnitAt (n : ℕ) (u : LibraryUnit) (i : LibraryItem) : Type 0 where
+    pub there : slice_get l.units n ≡ Some u
+    pub item : u.item ≡ i
+    pub well : is_declared_well l n i ≡ true
 
-  abbrev HasBodies : LibraryItem → Type 0
+  abbrev pub HasBodies : LibraryItem → Type 0
   HasBodies (library.PackageBody b) = Unit {0}
   HasBodies (library.Subprogram b) = Unit {0}
   HasBodies i = ⊥
 
-  other_name : (n m : ℕ) (u v : LibraryUnit) (i j : LibraryItem) → IsUnitAt n u i → IsUnitAt m v j → (n ≡ m → ⊥) → HasBodies i → HasBodies j
+  pub other_name : (n m : ℕ) (u v : LibraryUnit) (i j : LibraryItem) → IsUnitAt n u i → IsUnitAt m v j → (n ≡ m → ⊥) → HasBodies i → HasBodies j
       → key (item_name i) ≡ key (item_name j) → ⊥
   other_name n m u v (library.Subprogram b) (library.Subprogram c) h k other x y same =
       other (same_some (sym (subprogram_named n b h.well) ∙ (ap (unit_named l.names) same ∙ subprogram_named m c k.well)))

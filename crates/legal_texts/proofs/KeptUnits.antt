@@ -26,7 +26,7 @@ use Rattle.legal_texts.proofs.Kept.{IsKept, kept_same, kept_none, kept_both, kep
 use Rattle.legal_texts.proofs.KeptBodies.{IsShort, specified_short, judged_kept}
 use Rattle.legal_texts.proofs.KeptDeclarations.{KeepOn, declaration_keeps}
 
-abbrev KeptBy : {A : Type 0} → Bool → State → Given A → Type 0
+abbrev pub KeptBy : {A : Type 0} → Bool → State → Given A → Type 0
 KeptBy b s g = IsKept b s g.next
 
 pub kept_weaker : (a b : Bool) (s t : State) → (b ≡ false → a ≡ false) → IsKept a s t → IsKept b s t
@@ -72,7 +72,7 @@ module _ (env : Env) (s : State) (b : SubprogramBody) where
   abbrev after_completed : Region → Plan (Given Region)
   after_completed region = specified (with_local env region) s b.specification >>= after_specified region
 
-  packaged_keeps : IfOk (packaged_body env s b).answer (KeptBy false s)
+  pub packaged_keeps : IfOk (packaged_body env s b).answer (KeptBy false s)
   packaged_keeps =
       answered (KeptBy false s) b.specification.pos _
       (part_so (λ r. Unit {0}) (KeptBy false s) (completed env.local b.specification.name).answer after_completed
@@ -93,7 +93,7 @@ body_item_keeps env s (item.Body b) =
     part_so (KeptBy false s) (KeptBy env.is_library s) (packaged_body env s b).answer (λ r. rule (Some r)) (packaged_keeps env s b)
     (λ r h. kept_inside env.is_library s r.next h)
 
-body_items_keep : (env : Env) (s : State) (p : Pos) (is : List BodyItem) → IfOk (body_items env s p is).answer (KeptBy env.is_library s)
+pub body_items_keep : (env : Env) (s : State) (p : Pos) (is : List BodyItem) → IfOk (body_items env s p is).answer (KeptBy env.is_library s)
 body_items_keep env s p [] = kept_same env.is_library s
 body_items_keep env s p (i ∷ is) =
     answered (KeptBy env.is_library s) p _

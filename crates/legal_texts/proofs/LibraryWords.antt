@@ -65,14 +65,14 @@ module _ (env : Env) (library : env.is_library ≡ true) where
       (typed_either (KeepsOn s) env.step _ _ all (mapped_any (KeepsOn s) (may_be_bare c) _ all))
   objects_keep q c region is s t (Some i) h =
       at_library (KeepsOn s) env.is_library
-      (library_value (with_local env region) t.next t.value i >>= (λ v. typed_rule env.step (library_declared env c region is t.value v.value v.next)
+      (library_value (with_local env region) t.next q t.value i >>= (λ v. typed_rule env.step (library_declared env c region is t.value v.value v.next)
       (option_map (λ u. library_declared env c region is t.value v.value v.next) (one_name is))))
-      (new_value (with_local env region) t.next t.value i >>= (λ v. typed_rule env.step (local_set env q c region is t.value v)
+      (new_value (with_local env region) t.next q t.value i >>= (λ v. typed_rule env.step (local_set env q c region is t.value v)
       (option_map (λ u. local_set env q c region is t.value v) (one_name is)))) library
-      (part_so (Keep t.next) (KeepsOn s) (library_value (with_local env region) t.next t.value i).answer
+      (part_so (Keep t.next) (KeepsOn s) (library_value (with_local env region) t.next q t.value i).answer
       (λ v. typed_rule env.step (library_declared env c region is t.value v.value v.next)
       (option_map (λ u. library_declared env c region is t.value v.value v.next) (one_name is)))
-      (statics_keep t.next (library_value (with_local env region) t.next t.value i).answer (library_value_keeps (with_local env region) t.next t.value i))
+      (statics_keep t.next (library_value (with_local env region) t.next q t.value i).answer (library_value_keeps (with_local env region) t.next q t.value i))
       (λ v k. let all = library_keeps env c region is t.value v.value s v.next (k ∙ h) in
       typed_either (KeepsOn s) env.step _ _ all (mapped_any (KeepsOn s) (one_name is) _ all)))
 

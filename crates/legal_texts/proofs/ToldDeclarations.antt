@@ -85,6 +85,13 @@ module _ (table : Table) (o : Owner) (u n : ℕ) (t : AdaSubtype) (new : table (
           never s = omega (arith, less, s)
       by_test false e = none
 
+  tells_others : (j : Identity) → (j ≡ declared_in o u n → ⊥) → now j ≡ table j
+  tells_others j other = by_test (same_identity (declared_in o u n) j) refl
+    where
+      by_test : (b : Bool) → same_identity (declared_in o u n) j ≡ b → (if b then Some t else table j) ≡ table j
+      by_test true e = absurd (other (sym (identity_is (declared_in o u n) j e)))
+      by_test false e = refl
+
 -- a table that tells more tells of the same regions
 told_more : (table more : Table) → TellsMore table more → (q : Parameter) → IsTold table q → IsTold more q
 told_more table more so q h = record { identity = h.identity; is = h.is; names = so h.identity q.subtype h.names }
@@ -241,19 +248,19 @@ module _ (table : Table) where
       (typed_either RegionTold env.step _ _ bare (mapped_any RegionTold (may_be_bare c) _ bare))
   objects_told env q c region is t (Some i) all =
       either_plan RegionTold env.is_library
-      (library_value (with_local env region) t.next t.value i >>= (λ v. typed_rule env.step (library_declared env c region is t.value v.value v.next)
+      (library_value (with_local env region) t.next q t.value i >>= (λ v. typed_rule env.step (library_declared env c region is t.value v.value v.next)
       (option_map (λ u. library_declared env c region is t.value v.value v.next) (one_name is))))
-      (new_value (with_local env region) t.next t.value i >>= (λ v. typed_rule env.step (local_set env q c region is t.value v)
+      (new_value (with_local env region) t.next q t.value i >>= (λ v. typed_rule env.step (local_set env q c region is t.value v)
       (option_map (λ u. local_set env q c region is t.value v) (one_name is))))
-      (part_so (λ v. Unit {0}) RegionTold (library_value (with_local env region) t.next t.value i).answer
+      (part_so (λ v. Unit {0}) RegionTold (library_value (with_local env region) t.next q t.value i).answer
       (λ v. typed_rule env.step (library_declared env c region is t.value v.value v.next)
       (option_map (λ u. library_declared env c region is t.value v.value v.next) (one_name is)))
-      (any_answer (library_value (with_local env region) t.next t.value i).answer)
+      (any_answer (library_value (with_local env region) t.next q t.value i).answer)
       (λ v u. let made = library_told env c t.value _ _ region is all in
       typed_either RegionTold env.step _ _ made (mapped_any RegionTold (one_name is) _ made)))
-      (part_so (λ v. Unit {0}) RegionTold (new_value (with_local env region) t.next t.value i).answer
+      (part_so (λ v. Unit {0}) RegionTold (new_value (with_local env region) t.next q t.value i).answer
       (λ v. typed_rule env.step (local_set env q c region is t.value v) (option_map (λ u. local_set env q c region is t.value v) (one_name is)))
-      (any_answer (new_value (with_local env region) t.next t.value i).answer)
+      (any_answer (new_value (with_local env region) t.next q t.value i).answer)
       (λ v u. let made = local_told c t.value _ _ region is all in
       typed_either RegionTold env.step _ _ made (mapped_any RegionTold (one_name is) _ made)))
 
@@ -280,6 +287,7 @@ module _ (table : Table) (env : Env) (s : State) (open_here : IsOpen table env s
       record {
         table = now;
         more = so;
+        others = λ j other. tells_others table (owner_of env) env.unit_number s.types t none j (other s.types);
         region = redefined_told now (key i) (mark (new_identity env s) t) region (tells_new table (owner_of env) env.unit_number s.types t none) (region_more table now so region all);
         is_open = λ k less.
             let above : s.types + 1 ≤ k = omega (arith, less, more) in
@@ -287,7 +295,7 @@ module _ (table : Table) (env : Env) (s : State) (open_here : IsOpen table env s
       }
 
   as_before : (x : Declared) → s.types ≤ x.next.types → IsToldRegion table x.region → Tells x
-  as_before x rise all = record { table = table; more = λ i t h. h; region = all; is_open = λ k less. open_here k (omega (arith, rise, less)) }
+  as_before x rise all = record { table = table; more = λ i t h. h; others = λ i other. refl; region = all; is_open = λ k less. open_here k (omega (arith, rise, less)) }
 
   abbrev IfRisen : Declared → Type 0
   IfRisen x = s.types ≤ x.next.types → Tells x

@@ -1,5 +1,5 @@
 -- Declarations and bodies of packages keep marks told by their identities, in the step of types.
-use Rattle.std.proofs.Common.{◌≡◌, ◌≤◌, ℕ, Bool, true, false, if◌then◌else◌, List, [], ◌∷◌, ◌++◌, Option, Some, None, option_map, IfSome, IfOk, arith}
+use Rattle.std.proofs.Common.{◌≡◌, ◌≤◌, ℕ, refl, ◌∙◌, Bool, true, false, if◌then◌else◌, List, [], ◌∷◌, ◌++◌, Option, Some, None, option_map, IfSome, IfOk, arith}
 use Rattle.cov_base.specs.Lists.{Everywhere}
 use Rattle.cov_base.specs.declared.position.Pos.{Pos}
 use Rattle.ada_syntax.specs.declared.name.Identifier.{Identifier}
@@ -23,7 +23,7 @@ use Rattle.legal_laws.proofs.Leading.{LeadsOn, declarations_lead}
 use Rattle.legal_laws.proofs.LeadingStatements.{handled_lead}
 use Rattle.legal_laws.proofs.Leading.{Lead}
 use Rattle.legal_laws.proofs.Passing.{IfPassed, if_map, if_test, answered, ruled_so, part_so, both_ok, typed_either, any_answer, every_so, some_so, every_end}
-use Rattle.legal_texts.specs.Told.{Table, IsTold, IsToldEntity, IsToldRegion, IsOpen, TellsMore, TellsOn, Names, TellsBehind, IsToldPlace}
+use Rattle.legal_texts.specs.Told.{Table, IsTold, IsToldEntity, IsToldRegion, IsOpen, TellsMore, TellsOthers, TellsOn, Names, TellsBehind, IsToldPlace}
 use Rattle.legal_texts.proofs.KeptBodies.{IsShort, specified_short}
 use Rattle.legal_texts.proofs.MarkedNames.{IsMarked, IsMarkedEntity, IsMarkedRegion, IsMarkedPlace, IsMarkedAs, IsMarkedProfile, local_marked, specified_marked}
 use Rattle.legal_texts.proofs.ToldDeclarations.{no_program, redefined_told, declaration_tells}
@@ -41,7 +41,7 @@ mark_of table component h = tt
 mark_of table test_io h = tt
 mark_of table (unit n) h = tt
 
-marks_of : (table : Table) (region : Region) → IsToldRegion table region → IsMarkedRegion (Names table) region
+pub marks_of : (table : Table) (region : Region) → IsToldRegion table region → IsMarkedRegion (Names table) region
 marks_of table region h = every_so (λ e. IsToldEntity table e.1) (λ e. IsMarkedEntity (Names table) e.1) region (λ e k. mark_of table e.1 k) h
 
 -- a table that tells more
@@ -58,7 +58,7 @@ module _ (table later : Table) (so : TellsMore table later) where
   marked_more (Some the_test_io) h = tt
   marked_more (Some a_thing) h = tt
 
-  marks_more : (region : Region) → IsMarkedRegion (Names table) region → IsMarkedRegion (Names later) region
+  pub marks_more : (region : Region) → IsMarkedRegion (Names table) region → IsMarkedRegion (Names later) region
   marks_more region h = every_so (λ e. IsMarkedEntity (Names table) e.1) (λ e. IsMarkedEntity (Names later) e.1) region (λ e k. marked_more _ k) h
 
   pub place_more : (env : Env) → IsMarkedPlace (Names table) env → IsMarkedPlace (Names later) env
@@ -102,23 +102,23 @@ module _ (table : Table) (env : Env) (s : State) (is : IsToldPlace table env s) 
   Behind g = TellsBehind table env g
 
   same_table : (g : Given Region) → s.types ≤ g.next.types → IsToldRegion table g.value → Behind g
-  same_table g rise all = record { table = table; more = λ i t h. h; region = all; is_open = λ k less. is.is_open k (omega (arith, rise, less)) }
+  same_table g rise all = record { table = table; more = λ i t h. h; others = λ i other. refl; region = all; is_open = λ k less. is.is_open k (omega (arith, rise, less)) }
 
   with_routine_told : (region : Region) → IsToldRegion table region → (name : List ℕ) (callee_name : List ℕ) (awaits : Bool) (q : Profile) → IsMarkedProfile (Names table) q
       → IsToldRegion table (redefined name (routine (routine_of env callee_name awaits q)) region)
   with_routine_told region all name callee_name awaits q h =
       redefined_told table name (routine (routine_of env callee_name awaits q)) region (profile_told table q h) all
 
-  abbrev Specified : Given Profile → Type 0
+  abbrev pub Specified : Given Profile → Type 0
   Specified q = IsMarkedProfile (Names table) q.value × IsShort s q
 
-  specified_so : (region : Region) → IsToldRegion table region → (x : Specification) → IfOk (specified (with_local env region) s x).answer Specified
+  pub specified_so : (region : Region) → IsToldRegion table region → (x : Specification) → IfOk (specified (with_local env region) s x).answer Specified
   specified_so region all x =
       both_ok (λ q. IsMarkedProfile (Names table) q.value) (IsShort s) (specified (with_local env region) s x).answer
       (specified_marked (Names table) (with_local env region) s x (local_marked (Names table) env region is.place (marks_of table region all)))
       (specified_short (with_local env region) s x)
 
-  subprogram_tells : (x : Specification) → IfOk (subprogram_declared env s x).answer Behind
+  pub subprogram_tells : (x : Specification) → IfOk (subprogram_declared env s x).answer Behind
   subprogram_tells x =
       answered Behind x.pos _
       (part_so (IsToldRegion table) Behind (hide env.local x.name).answer
@@ -137,29 +137,35 @@ module _ (table : Table) (env : Env) (s : State) (is : IsToldPlace table env s) 
       same_table (given (redefined (key x.name) (routine (routine_of env (key x.name) true q.value)) region) (declared_only s q.next)) (omega (arith, same))
       (with_routine_told region u (key x.name) (key x.name) true q.value h.0))))))
 
-  item_tells : (i : PackageItem) → IfPassed (package_item env s i).outcome Behind
+  pub item_tells : (i : PackageItem) → IfPassed (package_item env s i).outcome Behind
   item_tells (part.Declaration d) =
       part_so (TellsOn table env) Behind (declared env s d).answer (λ x. rule (Some (given x.region x.next))) (declaration_tells table env s is.is_open d is.local)
-      (λ x h. record { table = h.table; more = h.more; region = h.region; is_open = h.is_open })
+      (λ x h. record { table = h.table; more = h.more; others = h.others; region = h.region; is_open = h.is_open })
   item_tells (part.Subprogram x) =
       part_so Behind Behind (subprogram_declared env s x).answer (λ r. rule (Some r)) (subprogram_tells x) (λ r h. h)
 
 -- items in order
 behind_both : (table : Table) (env after : Env) (r g : Given Region) → (h : TellsBehind table env r) → ((t : Table) → IsOpen t after g.next → IsOpen t env g.next)
-    → TellsBehind h.table after g → TellsBehind table env g
-behind_both table env after r g h so k =
-    record { table = k.table; more = λ i t e. k.more i t (h.more i t e); region = k.region; is_open = so k.table k.is_open }
+    → ((t u : Table) → TellsOthers after t u → TellsOthers env t u) → TellsBehind h.table after g → TellsBehind table env g
+behind_both table env after r g h so others k =
+    record {
+      table = k.table;
+      more = λ i t e. k.more i t (h.more i t e);
+      others = λ i other. others h.table k.table k.others i other ∙ h.others i other;
+      region = k.region;
+      is_open = so k.table k.is_open;
+    }
 
 pub items_tell : (table : Table) (env : Env) (s : State) (p : Pos) (items : List PackageItem) → IsToldPlace table env s
     → IfOk (package_items env s p items).answer (TellsBehind table env)
-items_tell table env s p [] is = record { table = table; more = λ i t h. h; region = is.local; is_open = is.is_open }
+items_tell table env s p [] is = record { table = table; more = λ i t h. h; others = λ i other. refl; region = is.local; is_open = is.is_open }
 items_tell table env s p (i ∷ items) is =
     answered (TellsBehind table env) p _
     (part_so (TellsBehind table env) (TellsBehind table env) _ (λ r. package_items (with_local env r.value) r.next p items >>= (λ rest. rule (Some rest)))
     (answered (TellsBehind table env) p (package_item env s i).outcome (item_tells table env s is i))
     (λ r h. part_so (TellsBehind h.table (with_local env r.value)) (TellsBehind table env) (package_items (with_local env r.value) r.next p items).answer (λ rest. rule (Some rest))
     (items_tell h.table (with_local env r.value) r.next p items (next_place table env s r is h))
-    (λ rest k. behind_both table env (with_local env r.value) r rest h (λ t o. o) k)))
+    (λ rest k. behind_both table env (with_local env r.value) r rest h (λ t o. o) (λ t u o. o) k)))
 
 -- a body takes numbers of types in turn
 module _ (env : Env) (step : env.step ≡ typing) (before : State) (b : SubprogramBody) (region : Region) (name : List ℕ) (q : Given Profile) where
@@ -172,7 +178,7 @@ module _ (env : Env) (step : env.step ≡ typing) (before : State) (b : Subprogr
   abbrev Rises : State → Type 0
   Rises t = q.next.types ≤ t.types
 
-  judged_rises : IfOk (body_judged env before b region name q).answer Rises
+  pub judged_rises : IfOk (body_judged env before b region name q).answer Rises
   judged_rises =
       answered Rises b.specification.pos _
       (part_so (LeadsOn no_program [] tt 0 (λ o. group no_shape) env.generic q.next) Rises (all_declared inside q.next b.specification.pos b.declarations).answer
@@ -219,7 +225,7 @@ module _ (table : Table) (env : Env) (s : State) (is : IsToldPlace table env s) 
   abbrev after_completed : Region → Plan (Given Region)
   after_completed region = specified (with_local env region) s b.specification >>= after_specified region
 
-  packaged_tells : IfOk (packaged_body env s b).answer Told
+  pub packaged_tells : IfOk (packaged_body env s b).answer Told
   packaged_tells =
       answered Told b.specification.pos _
       (part_so (IsToldRegion table) Told (completed env.local b.specification.name).answer after_completed
@@ -236,18 +242,18 @@ module _ (table : Table) (env : Env) (s : State) (is : IsToldPlace table env s) 
       same_table table env s is (given (with_routine env region b.specification.name q.value) next) (omega (arith, same, k))
       (with_routine_told table env s is region u (key b.specification.name) (key b.specification.name) false q.value h.0))))))
 
-body_item_tells : (table : Table) (env : Env) (s : State) → IsToldPlace table env s → (i : BodyItem) → IfPassed (body_item env s i).outcome (TellsBehind table env)
+pub body_item_tells : (table : Table) (env : Env) (s : State) → IsToldPlace table env s → (i : BodyItem) → IfPassed (body_item env s i).outcome (TellsBehind table env)
 body_item_tells table env s is (item.Declared i) = item_tells table env s is i
 body_item_tells table env s is (item.Body b) =
     part_so (TellsBehind table env) (TellsBehind table env) (packaged_body env s b).answer (λ r. rule (Some r)) (packaged_tells table env s is b) (λ r h. h)
 
 pub body_items_tell : (table : Table) (env : Env) (s : State) (p : Pos) (items : List BodyItem) → IsToldPlace table env s
     → IfOk (body_items env s p items).answer (TellsBehind table env)
-body_items_tell table env s p [] is = record { table = table; more = λ i t h. h; region = is.local; is_open = is.is_open }
+body_items_tell table env s p [] is = record { table = table; more = λ i t h. h; others = λ i other. refl; region = is.local; is_open = is.is_open }
 body_items_tell table env s p (i ∷ items) is =
     answered (TellsBehind table env) p _
     (part_so (TellsBehind table env) (TellsBehind table env) _ (λ r. body_items (with_local env r.value) r.next p items >>= (λ rest. rule (Some rest)))
     (answered (TellsBehind table env) p (body_item env s i).outcome (body_item_tells table env s is i))
     (λ r h. part_so (TellsBehind h.table (with_local env r.value)) (TellsBehind table env) (body_items (with_local env r.value) r.next p items).answer (λ rest. rule (Some rest))
     (body_items_tell h.table (with_local env r.value) r.next p items (next_place table env s r is h))
-    (λ rest k. behind_both table env (with_local env r.value) r rest h (λ t o. o) k)))
+    (λ rest k. behind_both table env (with_local env r.value) r rest h (λ t o. o) (λ t u o. o) k)))

@@ -1,7 +1,7 @@
 pub mod UnitTexts
 pub mod Leading
 pub mod Subprograms
-pub mod Plain
+pub mod Packages
 pub mod Numbers
 pub mod Marked
 pub mod Told

@@ -35,10 +35,16 @@ IsOpen table env s = (k : ℕ) → s.types ≤ k → table (declared_in (owner_o
 abbrev pub TellsMore : Table → Table → Type 0
 TellsMore table more = (i : Identity) (t : AdaSubtype) → table i ≡ Some t → more i ≡ Some t
 
+-- and of identities that are not to come here, the same
+abbrev pub TellsOthers : Env → Table → Table → Type 0
+TellsOthers env table more =
+    (i : Identity) → ((k : ℕ) → i ≡ declared_in (owner_of env) env.unit_number k → ⊥) → more i ≡ table i
+
 -- what a declaration leaves behind a table
 pub record TellsOn (before : Table) (env : Env) (x : Declared) : Type 0 where
   pub table : Table
   pub more : TellsMore before table
+  pub others : TellsOthers env before table
   pub region : IsToldRegion table x.region
   pub is_open : IsOpen table env x.next
 
@@ -60,5 +66,6 @@ pub record IsToldPlace (table : Table) (env : Env) (s : State) : Type 0 where
 pub record TellsBehind (before : Table) (env : Env) (g : Given Region) : Type 0 where
   pub table : Table
   pub more : TellsMore before table
+  pub others : TellsOthers env before table
   pub region : IsToldRegion table g.value
   pub is_open : IsOpen table env g.next

@@ -27,7 +27,7 @@ use Rattle.ada_rules.specs.Entities.{component, Region}
 use Rattle.ada_rules.specs.Environment.{typed_rule, State, Given, given, map_given, Env, with_local, opened, new_identity, one_type_more, demanded, hide, hide_all, started}
 use Rattle.ada_rules.specs.Denoted.{Judged}
 use Rattle.ada_rules.specs.Expressions.{itself, judged, Valued, any_valued, value_named, static_known, accepted, static_part, Marked, mark_part, scalar_mark}
-use Rattle.ada_rules.specs.Declarations.{in_range, ordered, bounded, constrained, constraint_of, indicated, index_between, index_of, with_fields, all_as, fields_of, enumerated, unchanged, Defined, defined, value_for, any_value, initial_pos, known_of, NewValue, new_value, innermost, initial_for, LibraryValue, known_value, library_value, Declared, may_be_bare, one_name, numbered, known_constant, lying_in, with_objects, local_bare, local_set, with_library_objects, library_declared, no_library_value, objects_declared, exception_declared, exceptions_from, type_counted, type_declared, subtype_declared, kind_declared, declared, all_declared}
+use Rattle.ada_rules.specs.Declarations.{in_range, ordered, bounded, constrained, constraint_of, indicated, index_between, index_of, with_fields, all_as, fields_of, enumerated, unchanged, Defined, defined, value_for, any_value, known_of, NewValue, new_value, innermost, initial_for, LibraryValue, known_value, library_value, Declared, may_be_bare, one_name, numbered, known_constant, lying_in, with_objects, local_bare, local_set, with_library_objects, library_declared, no_library_value, objects_declared, exception_declared, exceptions_from, type_counted, type_declared, subtype_declared, kind_declared, declared, all_declared}
 use Rattle.ada_rules.specs.Statics.{Test, in_order}
 use Rattle.legal_laws.specs.Kept.{OnlyDecides}
 use Rattle.legal_laws.proofs.Passing.{IfPassed, if_test, answered, part_so, weaker_ok, typed_either, any_answer}
@@ -232,18 +232,18 @@ module _ (env : Env) where
   mapped_keeps s t f None h = tt
   mapped_keeps s t f (Some v) h = h
 
-  pub new_value_keeps : (s : State) (t : AdaSubtype) (i : Initial) → IfOk (new_value env s t i).answer (Keep s)
-  new_value_keeps s t i =
-      answered (Keep s) (initial_pos i) _
+  pub new_value_keeps : (s : State) (q : Pos) (t : AdaSubtype) (i : Initial) → IfOk (new_value env s q t i).answer (Keep s)
+  new_value_keeps s q t i =
+      answered (Keep s) q _
       (part_so (Keep s) (Keep s) (judged env itself s i.value).answer
       (λ x. typed_rule env.step (given (record { value = any_value; known = None }) x.next)
       (option_map (λ v. given (record { value = v; known = known_of i.others x.value }) x.next) (value_for t i.others x.value)))
       (expression_keeps s i.value)
       (λ x h. typed_either (Keep s) env.step _ _ h (mapped_keeps s x.next (λ v. record { value = v; known = known_of i.others x.value }) (value_for t i.others x.value) h)))
 
-  library_value_keeps : (s : State) (t : AdaSubtype) (i : Initial) → IfOk (library_value env s t i).answer (Keep s)
-  library_value_keeps s t i =
-      answered (Keep s) (initial_pos i) _
+  library_value_keeps : (s : State) (q : Pos) (t : AdaSubtype) (i : Initial) → IfOk (library_value env s q t i).answer (Keep s)
+  library_value_keeps s q t i =
+      answered (Keep s) q _
       (part_so (Keep s) (Keep s) (static_part env s (λ k. true) (in_range (range_in (innermost t i.others))) i.value).answer
       (λ x. typed_rule env.step (given (record { initial = program.no_initial; known = None }) x.next)
       (option_map (λ v. given (record { initial = v; known = known_value i.others x.value }) x.next) (initial_for t i.others x.value)))
@@ -332,19 +332,19 @@ objects_keep env q c region is s t None h =
     (typed_either (KeepsOn s) env.step _ _ bare (mapped_any (KeepsOn s) (may_be_bare c) _ bare))
 objects_keep env q c region is s t (Some i) h =
     either_plan (KeepsOn s) env.is_library
-    (library_value (with_local env region) t.next t.value i >>= (λ v. typed_rule env.step (library_declared env c region is t.value v.value v.next)
+    (library_value (with_local env region) t.next q t.value i >>= (λ v. typed_rule env.step (library_declared env c region is t.value v.value v.next)
     (option_map (λ u. library_declared env c region is t.value v.value v.next) (one_name is))))
-    (new_value (with_local env region) t.next t.value i >>= (λ v. typed_rule env.step (local_set env q c region is t.value v)
+    (new_value (with_local env region) t.next q t.value i >>= (λ v. typed_rule env.step (local_set env q c region is t.value v)
     (option_map (λ u. local_set env q c region is t.value v) (one_name is))))
-    (part_so (Keep t.next) (KeepsOn s) (library_value (with_local env region) t.next t.value i).answer
+    (part_so (Keep t.next) (KeepsOn s) (library_value (with_local env region) t.next q t.value i).answer
     (λ v. typed_rule env.step (library_declared env c region is t.value v.value v.next)
     (option_map (λ u. library_declared env c region is t.value v.value v.next) (one_name is)))
-    (library_value_keeps (with_local env region) t.next t.value i)
+    (library_value_keeps (with_local env region) t.next q t.value i)
     (λ v k. let all = keeps_both s t.next _ h (keeps_both t.next v.next _ k (library_keeps env c region is t.value v.value v.next)) in
     typed_either (KeepsOn s) env.step _ _ all (mapped_any (KeepsOn s) (one_name is) _ all)))
-    (part_so (Keep t.next) (KeepsOn s) (new_value (with_local env region) t.next t.value i).answer
+    (part_so (Keep t.next) (KeepsOn s) (new_value (with_local env region) t.next q t.value i).answer
     (λ v. typed_rule env.step (local_set env q c region is t.value v) (option_map (λ u. local_set env q c region is t.value v) (one_name is)))
-    (new_value_keeps (with_local env region) t.next t.value i)
+    (new_value_keeps (with_local env region) t.next q t.value i)
     (λ v k. let all = set_keeps env q c region is t.value v s (keeps_both s t.next v.next h k) in
     typed_either (KeepsOn s) env.step _ _ all (mapped_any (KeepsOn s) (one_name is) _ all)))
 

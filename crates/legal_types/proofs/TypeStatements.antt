@@ -38,9 +38,9 @@ module _ (env : Env) where
   name_keeps s n =
       weaker_ok (λ x. OnlyDecides s x.next) (Keep s) (denoted env s n).answer (denoted_behind env s n) (λ x h. keeps_decides s x.next h)
 
-  pub decision_keeps : (s : State) (e : source.Expr) → IfOk (decision env s e).answer (Keep s)
-  decision_keeps s e =
-      weaker_ok (λ x. OnlyDecides s x.next) (Keep s) (decision env s e).answer (decision_behind env s e) (λ x h. keeps_decides s x.next h)
+  pub decision_keeps : (s : State) (q : Pos) (e : source.Expr) → IfOk (decision env s q e).answer (Keep s)
+  decision_keeps s q e =
+      weaker_ok (λ x. OnlyDecides s x.next) (Keep s) (decision env s q e).answer (decision_behind env s q e) (λ x h. keeps_decides s x.next h)
 
   target_keeps : (s : State) (n : source.Name) → IfOk (target env s n).answer (Keep s)
   target_keeps s n =
@@ -160,11 +160,11 @@ mutual
   stated_weighs env s (text.assignment q n i) = light s (stated env s (text.assignment q n i)).answer
       (answered (Keep s) q _
       (part_so (Keep (started s)) (Keep s) (target env (started s) n).answer
-      (λ v. new_value env v.next v.value.subtype i >>= (λ x. rule (Some (one (tree.assignment (statement_label s q) v.value.object v.value.parts x.value.value) x.next))))
+      (λ v. new_value env v.next q v.value.subtype i >>= (λ x. rule (Some (one (tree.assignment (statement_label s q) v.value.object v.value.parts x.value.value) x.next))))
       (target_keeps env (started s) n)
-      (λ v h. part_so (Keep v.next) (Keep s) (new_value env v.next v.value.subtype i).answer
+      (λ v h. part_so (Keep v.next) (Keep s) (new_value env v.next q v.value.subtype i).answer
       (λ x. rule (Some (one (tree.assignment (statement_label s q) v.value.object v.value.parts x.value.value) x.next)))
-      (new_value_keeps env v.next v.value.subtype i)
+      (new_value_keeps env v.next q v.value.subtype i)
       (λ x k. keeps_both s (started s) x.next (start env s) (keeps_both (started s) v.next x.next h k)))))
   stated_weighs env s (text.call q n) = light s (stated env s (text.call q n)).answer
       (answered (Keep s) q _
@@ -178,9 +178,9 @@ mutual
       (stmt_keeps env s (started s) (statement_label s q) (where_allowed env.is_looping (tree.exit_statement (statement_label s q))) (start env s)))
   stated_weighs env s (text.exit q (Some e)) = light s (stated env s (text.exit q (Some e))).answer
       (answered (Keep s) q _
-      (part_so (Keep (started s)) (Keep s) (decision env (started s) e).answer
+      (part_so (Keep (started s)) (Keep s) (decision env (started s) q e).answer
       (λ t. typed_stmt env (statement_label s q) t.next (where_allowed env.is_looping (tree.exit_when (statement_label s q) t.value.0 t.value.1)))
-      (decision_keeps env (started s) e)
+      (decision_keeps env (started s) q e)
       (λ t h. stmt_keeps env s t.next (statement_label s q) (where_allowed env.is_looping (tree.exit_when (statement_label s q) t.value.0 t.value.1))
       (keeps_both s (started s) t.next (start env s) h))))
   stated_weighs env s (text.returns q None) = light s (stated env s (text.returns q None)).answer
@@ -206,10 +206,10 @@ mutual
   stated_weighs env s (text.conditional q e ss bs es) =
       let n = statements_types ss + (branches_types bs + statements_types es) in
       answered (Weigh n s) q _
-      (part_so (Keep (started s)) (Weigh n s) (decision env (started s) e).answer
+      (part_so (Keep (started s)) (Weigh n s) (decision env (started s) q e).answer
       (λ t. all_stated env t.next q ss >>= (λ xs. branched env xs.next q bs >>= (λ ys. all_stated env ys.next q es
       >>= (λ zs. rule (Some (one (tree.if_statement (statement_label s q) (tree.branch t.value.0 t.value.1 (stmts_of xs.value) (branches_of ys.value zs.value))) zs.next))))))
-      (decision_keeps env (started s) e)
+      (decision_keeps env (started s) q e)
       (λ t h. part_so (Weigh (statements_types ss) t.next) (Weigh n s) (all_stated env t.next q ss).answer
       (λ xs. branched env xs.next q bs >>= (λ ys. all_stated env ys.next q es
       >>= (λ zs. rule (Some (one (tree.if_statement (statement_label s q) (tree.branch t.value.0 t.value.1 (stmts_of xs.value) (branches_of ys.value zs.value))) zs.next)))))
@@ -245,9 +245,9 @@ mutual
   stated_weighs env s (text.repeat q (scheme.While e) ss) =
       let n = statements_types ss in
       answered (Weigh n s) q _
-      (part_so (Keep (started s)) (Weigh n s) (decision env (started s) e).answer
+      (part_so (Keep (started s)) (Weigh n s) (decision env (started s) q e).answer
       (λ t. all_stated (in_loop env) t.next q ss >>= (λ xs. rule (Some (one (tree.while_loop (statement_label s q) t.value.0 t.value.1 (stmts_of xs.value)) xs.next))))
-      (decision_keeps env (started s) e)
+      (decision_keeps env (started s) q e)
       (λ t h. part_so (Weigh n t.next) (Weigh n s) (all_stated (in_loop env) t.next q ss).answer
       (λ xs. rule (Some (one (tree.while_loop (statement_label s q) t.value.0 t.value.1 (stmts_of xs.value)) xs.next))) (all_weigh (in_loop env) t.next q ss)
       (λ xs k. weighs_behind n s (started s) xs.next (start env s) (weighs_behind n (started s) t.next xs.next h k))))
@@ -294,10 +294,10 @@ mutual
   branches_weigh env s q (text.branch e ss bs) =
       let n = statements_types ss + branches_types bs in
       answered (Weigh n s) q _
-      (part_so (Keep s) (Weigh n s) (decision env s e).answer
+      (part_so (Keep s) (Weigh n s) (decision env s q e).answer
       (λ t. all_stated env t.next q ss >>= (λ xs. branched env xs.next q bs
       >>= (λ ys. rule (Some (given (record { label = t.value.0; test = t.value.1; statements = xs.value } ∷ ys.value) ys.next)))))
-      (decision_keeps env s e)
+      (decision_keeps env s q e)
       (λ t h. part_so (Weigh (statements_types ss) t.next) (Weigh n s) (all_stated env t.next q ss).answer
       (λ xs. branched env xs.next q bs >>= (λ ys. rule (Some (given (record { label = t.value.0; test = t.value.1; statements = xs.value } ∷ ys.value) ys.next))))
       (all_weigh env t.next q ss)

@@ -57,9 +57,9 @@ IsTypedValue symbols t p others x result =
     (answer_at p (ruled (option_map (λ v. given (record { value = v; known = known_of others (judged_of k x) }) n)
     (declarations.value_for (subtype_of k.types t) others (judged_of k x))))) result
 
--- in both steps, from these decisions to those
-abbrev pub IsNewValue : Site → (old new : Decisions) → Subtype → Initial → Result NewValue (Failure Refusal) → Type 0
-IsNewValue site old new t i result =
+-- in both steps, in a statement or declaration that begins at this place, from these decisions to those
+abbrev pub IsNewValue : Site → (old new : Decisions) → Pos → Subtype → Initial → Result NewValue (Failure Refusal) → Type 0
+IsNewValue site old new p t i result =
     (k : Tables) (env : Env) (s : State) → StandsAt site k env
     → Answers (λ v. given (new_value_of k v) (counted new s))
-    (declarations.new_value env (counted old s) (subtype_of k.types t) i).answer result
+    (declarations.new_value env (counted old s) p (subtype_of k.types t) i).answer result

@@ -40,16 +40,6 @@ impl NewValue {
     }
 }
 
-/// The place of the first token of an initial value, or of what is assigned.
-pub fn initial_pos(initial: &Initial) -> Pos
-    ensures { result ≡ rules.initial_pos initial.now }
-{
-    match initial.others.as_slice().first() {
-        Some(pos) => *pos,
-        None => initial.value.pos(),
-    }
-}
-
 /// The static value of an expression, where it stands in no `others`.
 fn known_for(others: &[Pos], known: Option<StaticTree>) -> Option<StaticTree>
     ensures { result ≡ known_for others.now known }
@@ -83,7 +73,8 @@ fn value_for(
 }
 
 /// What an object of this subtype is set to by an expression, with an `others` at each of these places
-/// round it, in the step of types. The first token stands at `pos`.
+/// round it, in the step of types. That it is of the type is asked of the statement or declaration, which
+/// begins at `pos`.
 #[tactic(auto, using(crate::proofs::NewValueLaws::parts))]
 fn typed_value(
     alloc: Global,
@@ -103,22 +94,23 @@ fn typed_value(
     Ok(NewValue { value, known })
 }
 
-/// What an object of this subtype is set to (RM 3.3.1, 5.2). Refused at the rules' own place.
+/// What an object of this subtype is set to in a statement or declaration that begins at `pos` (RM 3.3.1, 5.2).
+/// Refused at the rules' own place.
 #[tactic(auto, using(crate::proofs::NewValueLaws::parts))]
 pub fn new_value(
     alloc: Global,
     site: &Site<'_>,
     decisions: &mut Decisions,
+    pos: Pos,
     subtype: Subtype,
     initial: &Initial,
 ) -> Result<NewValue, Failure<Refusal>>
-    ensures { IsNewValue site.now decisions.old decisions.new subtype initial.now result }
+    ensures { IsNewValue site.now decisions.old decisions.new pos subtype initial.now result }
 {
     let value = site.judged(alloc, Role::Itself, decisions, &initial.value)?;
     match site.step {
         Step::Naming => Ok(NewValue::any()),
         Step::Typing => {
-            let pos = initial_pos(initial);
             let others = initial.others.as_slice();
             typed_value(alloc, site.symbols, subtype, pos, others, value)
         }

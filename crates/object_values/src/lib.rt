@@ -6,4 +6,4 @@ mod others;
 mod reach;
 mod single;
 
-pub use initial::{NewValue, initial_pos, new_value};
+pub use initial::{NewValue, new_value};

@@ -11,11 +11,11 @@ changes_of_table =
     -- index of another type
     of_table 0 15 15 ("   T (True) := 5;" ⏎ []) (types 0 15 4) ∷
     -- element to an array
-    of_table 0 17 17 ("   U := T (1);" ⏎ []) (types 0 17 9) ∷
+    of_table 0 17 17 ("   U := T (1);" ⏎ []) (types 0 17 4) ∷
     -- component unknown
     of_table 0 20 20 ("   P.Middle := T'First;" ⏎ []) (types 0 20 4) ∷
     -- aggregate for a record
-    of_table 0 23 23 ("   Q := (others => 0);" ⏎ []) (types 0 23 9) ∷
+    of_table 0 23 23 ("   Q := (others => 0);" ⏎ []) (types 0 23 4) ∷
     -- constant's element as an out actual
     of_table 0 24 24 ("   Test_IO.Get (Z (3));" ⏎ []) (types 0 24 4) ∷
     -- array indexes by a type name

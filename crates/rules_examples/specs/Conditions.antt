@@ -11,9 +11,9 @@ changes_of_walk =
     -- undeclared in an elsif
     of_walk 0 14 14 ("      elsif Lo = (N >= 5) then" ⏎ []) (names 0 14 13) ∷
     -- Boolean assigned to Integer
-    of_walk 0 10 10 ("      N := N = 1;" ⏎ []) (types 0 10 12) ∷
+    of_walk 0 10 10 ("      N := N = 1;" ⏎ []) (types 0 10 7) ∷
     -- elsif an Integer
-    of_walk 0 14 14 ("      elsif N then" ⏎ []) (types 0 14 13) ∷
+    of_walk 0 14 14 ("      elsif N then" ⏎ []) (types 0 12 7) ∷
     -- and is not of the language
     of_walk 0 11 11 ("      exit when N = 3 and Low;" ⏎ []) (types 0 11 17) ∷
     -- sign of a Boolean
@@ -40,7 +40,7 @@ changes_of_gate =
     -- condition is a call of a procedure
     of_gate 0 10 10 ("      if Gate then" ⏎ []) (types 0 10 10) ∷
     -- numeral for a Boolean
-    of_gate 0 6 6 ("   Open := 1;" ⏎ []) (types 0 6 12) ∷
+    of_gate 0 6 6 ("   Open := 1;" ⏎ []) (types 0 6 4) ∷
     -- Boolean in a sum
     of_gate 0 9 9 ("      Turns := Turns + True;" ⏎ []) (types 0 9 16) ∷
     -- comparison of Boolean and Integer
@@ -92,7 +92,7 @@ changes_of_nested =
     -- relation of a short-circuit and a numeral
     of_nested 0 4 4 ("   R : constant Boolean := (P and then Q) = 1;" ⏎ []) (types 0 4 28) ∷
     -- initial value of another type
-    of_nested 0 3 3 ("   Q : Integer := P or else not P;" ⏎ []) (types 0 3 19) ∷
+    of_nested 0 3 3 ("   Q : Integer := P or else not P;" ⏎ []) (types 0 3 4) ∷
     -- if of an Integer short-circuit
     of_nested 0 6 6 ("   if P and then Integer'Last then null; end if;" ⏎ []) (types 0 6 7) ∷
     []

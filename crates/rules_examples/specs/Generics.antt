@@ -46,11 +46,11 @@ changes_of_copies =
     -- actual beyond the base range
     of_copies 0 26 26 ("package C5 is new Clip (Integer'Last + 1);" ⏎ []) (types 0 26 25) ∷
     -- types of two instances mixed
-    of_copies 0 33 33 ("   X := C5.Value;" ⏎ []) (types 0 33 9) ∷
+    of_copies 0 33 33 ("   X := C5.Value;" ⏎ []) (types 0 33 4) ∷
     -- instance as a value
     of_copies 0 32 32 ("   C5.Set (C4);" ⏎ []) (types 0 32 12) ∷
     -- type rule of the generic, once
-    of_copies 0 16 16 ("      Value := N;" ⏎ []) (types 0 16 16) ∷
+    of_copies 0 16 16 ("      Value := N;" ⏎ []) (types 0 16 7) ∷
     -- two choices of a copy that is not there
     of_copies 0 26 26 ("package C5 is new Clip (2 * 2);" ⏎ []) (good 11 1 1) ∷
     -- least actual

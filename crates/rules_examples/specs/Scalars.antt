@@ -75,7 +75,7 @@ changes_of_reach =
     -- a choice that is a loop parameter
     of_reach 0 22 22 ("         when I => null;" ⏎ []) (types 0 22 15) ∷
     -- the own type of a loop over a type
-    of_reach 0 12 12 ("         when 0 | Low + 1 .. 3 => N := I;" ⏎ []) (types 0 12 40) ∷
+    of_reach 0 12 12 ("         when 0 | Low + 1 .. 3 => N := I;" ⏎ []) (types 0 12 35) ∷
     -- a constant in a choice of another type
     of_reach 0 22 22 ("         when Low => null;" ⏎ []) (types 0 22 15) ∷
     -- loop over an object

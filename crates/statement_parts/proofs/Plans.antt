@@ -59,23 +59,23 @@ abbrev then_assigned : tree.Label → Given Variable → Given NewValue → Plan
 then_assigned l v x = rule (Some (one (tree.assignment l v.value.object v.value.parts x.value.value) x.next))
 
 abbrev then_set : tree.Label → Env → Initial → Given Variable → Plan (Given (List tree.Stmt))
-then_set l env i v = new_value env v.next v.value.subtype i >>= then_assigned l v
+then_set l env i v = new_value env v.next l.place v.value.subtype i >>= then_assigned l v
 
 module _ (env : Env) (s : State) (n : Name) (i : Initial) (l : tree.Label) (p : Pos) where
   pub variable_refused : (f : Faults) → Refuses (target env s n).answer f → Refuses (answer_at p (assigning l env s n i).outcome) f
   variable_refused f h = in_part p (target env s n).answer (then_set l env i) f h
 
   module _ (v : Given Variable) (h : (target env s n).answer ≡ Ok v) where
-    pub value_refused : (f : Faults) → Refuses (new_value env v.next v.value.subtype i).answer f → Refuses (answer_at p (assigning l env s n i).outcome) f
+    pub value_refused : (f : Faults) → Refuses (new_value env v.next l.place v.value.subtype i).answer f → Refuses (answer_at p (assigning l env s n i).outcome) f
     value_refused f g =
         refused_as _ _ f (passes_on p (target env s n).answer (then_set l env i) v h)
-        (in_part p (new_value env v.next v.value.subtype i).answer (then_assigned l v) f g)
+        (in_part p (new_value env v.next l.place v.value.subtype i).answer (then_assigned l v) f g)
 
-    pub both_pass : (x : Given NewValue) → (new_value env v.next v.value.subtype i).answer ≡ Ok x
+    pub both_pass : (x : Given NewValue) → (new_value env v.next l.place v.value.subtype i).answer ≡ Ok x
         → answer_at p (assigning l env s n i).outcome ≡ Ok (one (tree.assignment l v.value.object v.value.parts x.value.value) x.next)
     both_pass x g =
         passes_on p (target env s n).answer (then_set l env i) v h
-        ∙ passes_on p (new_value env v.next v.value.subtype i).answer (then_assigned l v) x g
+        ∙ passes_on p (new_value env v.next l.place v.value.subtype i).answer (then_assigned l v) x g
 
 -- what stands behind an expression
 abbrev then_selector : Env → Given Judged → Plan (Given Selector)

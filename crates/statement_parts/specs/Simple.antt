@@ -34,7 +34,7 @@ in_program k x = alone (in_tree k x)
 abbrev pub assigning : tree.Label → Env → State → Name → Initial → Plan (Given (List tree.Stmt))
 assigning l env s n i = do
   v ← target env s n
-  x ← new_value env v.next v.value.subtype i
+  x ← new_value env v.next l.place v.value.subtype i
   rule (Some (one (tree.assignment l v.value.object v.value.parts x.value.value) x.next))
 
 -- a call of a procedure (RM 6.4)

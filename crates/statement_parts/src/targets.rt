@@ -94,7 +94,7 @@ fn assigned(label: Label, target: Variable, value: NewValue) -> Statement
     }
 }
 
-/// An assignment behind its label. Refused at the rules' own place.
+/// An assignment behind its label, whose place is that of its first token. Refused at the rules' own place.
 #[tactic(auto, using(crate::proofs::Ends::parts))]
 pub fn assignment(
     alloc: Global,
@@ -108,6 +108,6 @@ pub fn assignment(
         (λ l env s. assigning l env s name.now initial.now) result }
 {
     let target = target(alloc, site, decisions, name)?;
-    let set = new_value(alloc, site, decisions, target.subtype, initial)?;
+    let set = new_value(alloc, site, decisions, label.place, target.subtype, initial)?;
     Ok(assigned(label, target, set.value))
 }

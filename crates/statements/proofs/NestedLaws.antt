@@ -76,18 +76,18 @@ module _ (env : Env) (p : Pos) where
     abbrev pub one_branch : Result (Given Chosen) Pos
     one_branch = answer_at p (branched_once env s p e ss).outcome
 
-    pub condition_refused : (f : Failure Refusal) → Refuses (decision env s e).answer f → Refuses one_branch f
-    condition_refused f h = in_part p (decision env s e).answer then_chosen f h
+    pub condition_refused : (f : Failure Refusal) → Refuses (decision env s p e).answer f → Refuses one_branch f
+    condition_refused f h = in_part p (decision env s p e).answer then_chosen f h
 
-    module _ (t : Given (tree.Label × tree.Test)) (h : (decision env s e).answer ≡ Ok t) where
+    module _ (t : Given (tree.Label × tree.Test)) (h : (decision env s p e).answer ≡ Ok t) where
       pub branch_refused : (f : Failure Refusal) → Refuses (all_stated env t.next p ss).answer f → Refuses one_branch f
       branch_refused f g =
-          refused_as _ _ f (passes_on p (decision env s e).answer then_chosen t h)
+          refused_as _ _ f (passes_on p (decision env s p e).answer then_chosen t h)
           (in_part p (all_stated env t.next p ss).answer (λ xs. rule (Some (chosen_by t xs))) f g)
 
       pub branch_passes : (xs : Given (List tree.Stmt)) → (all_stated env t.next p ss).answer ≡ Ok xs → one_branch ≡ Ok (chosen_by t xs)
       branch_passes xs g =
-          passes_on p (decision env s e).answer then_chosen t h
+          passes_on p (decision env s p e).answer then_chosen t h
           ∙ passes_on p (all_stated env t.next p ss).answer (λ xs. rule (Some (chosen_by t xs))) xs g
 
   -- branches in order
@@ -117,7 +117,7 @@ module _ (env : Env) (p : Pos) where
   ungrouped bs ss (Err q) = refl
 
   pub first_branch : (s : State) (b : SourceBranch) (bs : List SourceBranch) → the_branches s (b ∷ bs) ≡ answer_at p (outcome_after (branch_at s b) (then_branches bs))
-  first_branch s b bs = ungrouped bs (statements_of b.statements.items) (decision env s b.condition).answer
+  first_branch s b bs = ungrouped bs (statements_of b.statements.items) (decision env s p b.condition).answer
 
   pub branches_walk : IsWalk branch_at (λ c. c ∷ []) the_branches
   branches_walk = record {
@@ -133,7 +133,7 @@ module _ (env : Env) (p : Pos) where
 
     abbrev pub conditional_plan : State → SourceBranch → List SourceBranch → Plan (Given (List tree.Stmt))
     conditional_plan s b bs = do
-      t ← decision env s b.condition
+      t ← decision env s p b.condition
       xs ← all_stated env t.next p (statements_of b.statements.items)
       ys ← branched env xs.next p (branches_of bs)
       zs ← all_stated env ys.next p es
@@ -165,7 +165,7 @@ module _ (env : Env) (p : Pos) where
 
     pub conditional_is : (s : State) (b : SourceBranch) (bs : List SourceBranch)
         → answer_at p (conditional_plan s b bs).outcome ≡ answer_at p (outcome_after (the_branches s (b ∷ bs)) then_else)
-    conditional_is s b bs = condition_behind (statements_of b.statements.items) bs (decision env s b.condition).answer
+    conditional_is s b bs = condition_behind (statements_of b.statements.items) bs (decision env s p b.condition).answer
 
   -- the alternatives of a case statement
   module _ (x : Selector) where
@@ -253,20 +253,20 @@ module _ (env : Env) (p : Pos) where
       then_while t = all_stated (in_loop env) t.next p ss >>= as_while t
 
       abbrev pub while_plan : Plan (Given (List tree.Stmt))
-      while_plan = decision env s e >>= then_while
+      while_plan = decision env s p e >>= then_while
 
-      pub while_refused : (f : Failure Refusal) → Refuses (decision env s e).answer f → Refuses (answer_at p while_plan.outcome) f
-      while_refused f h = in_part p (decision env s e).answer then_while f h
+      pub while_refused : (f : Failure Refusal) → Refuses (decision env s p e).answer f → Refuses (answer_at p while_plan.outcome) f
+      while_refused f h = in_part p (decision env s p e).answer then_while f h
 
-      module _ (t : Given (tree.Label × tree.Test)) (h : (decision env s e).answer ≡ Ok t) where
+      module _ (t : Given (tree.Label × tree.Test)) (h : (decision env s p e).answer ≡ Ok t) where
         pub turns_refused : (f : Failure Refusal) → Refuses (all_stated (in_loop env) t.next p ss).answer f → Refuses (answer_at p while_plan.outcome) f
         turns_refused f g =
-            refused_as _ _ f (passes_on p (decision env s e).answer then_while t h) (in_part p (all_stated (in_loop env) t.next p ss).answer (as_while t) f g)
+            refused_as _ _ f (passes_on p (decision env s p e).answer then_while t h) (in_part p (all_stated (in_loop env) t.next p ss).answer (as_while t) f g)
 
         pub while_passes : (xs : Given (List tree.Stmt)) → (all_stated (in_loop env) t.next p ss).answer ≡ Ok xs
             → answer_at p while_plan.outcome ≡ Ok (one (tree.while_loop l t.value.0 t.value.1 (stmts_of xs.value)) xs.next)
         while_passes xs g =
-            passes_on p (decision env s e).answer then_while t h ∙ passes_on p (all_stated (in_loop env) t.next p ss).answer (as_while t) xs g
+            passes_on p (decision env s p e).answer then_while t h ∙ passes_on p (all_stated (in_loop env) t.next p ss).answer (as_while t) xs g
 
   -- a for loop: what it begins with, and its statements
   module _ (l : tree.Label) (i : Identifier) (reversed : Bool) (r : DiscreteRange) (ss : text.Statements) where

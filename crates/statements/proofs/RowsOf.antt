@@ -34,23 +34,25 @@ statements_by k env p = the_statements env p
 pub rows_of_statements : (k : Tables) (env : Env) (p : Pos) → IsWalk (statement_by k env p) (λ ys. ys) (statements_by k env p)
 rows_of_statements k env p = statements_walk env p
 
-abbrev pub branch_by : Tables → Env → Pos → State → SourceBranch → Result (Given Chosen) Pos
-branch_by k env p s b = branch_at env s p b.condition b.statements.items
+-- the branches of an if statement at one place, wherever else they are asked for
+abbrev pub branch_by : Pos → Tables → Env → Pos → State → SourceBranch → Result (Given Chosen) Pos
+branch_by at k env p s b = branch_at env s at b.condition b.statements.items
 
-abbrev pub branches_by : Tables → Env → Pos → State → List SourceBranch → Result (Given (List Chosen)) Pos
-branches_by k env p = the_branches env p
+abbrev pub branches_by : Pos → Tables → Env → Pos → State → List SourceBranch → Result (Given (List Chosen)) Pos
+branches_by at k env p = the_branches env at
 
-pub rows_of_branches : (k : Tables) (env : Env) (p : Pos) → IsWalk (branch_by k env p) (λ y. y ∷ []) (branches_by k env p)
-rows_of_branches k env p = branches_walk env p
+pub rows_of_branches : (at : Pos) (k : Tables) (env : Env) (p : Pos)
+    → IsWalk (branch_by at k env p) (λ y. y ∷ []) (branches_by at k env p)
+rows_of_branches at k env p = branches_walk env at
 
 -- the first branch, before those behind it
-pub first_branch_reaches : (c : Context) (old new : Walk) (x : SourceBranch) (xs : List SourceBranch) (b : Branch) → Continues old new
+pub first_branch_reaches : (at : Pos) (c : Context) (old new : Walk) (x : SourceBranch) (xs : List SourceBranch) (b : Branch) → Continues old new
     → Grows old.symbols new.symbols
-    → ((p : Pos) (k : Tables) (env : Env) → StandsAt c old k env → Begins new k
-    → branch_by k env p (state_of k old) x ≡ Ok (given (branch_in k b) (state_of k new)))
-    → Reaches branches_by c old new (x ∷ xs) xs (λ k. map (branch_in k) (b ∷ []))
-first_branch_reaches c old new x xs b goes grows passes = record {
-  comes = λ p k env h begins. (branches_walk env p).passes (state_of k old) x xs (given (branch_in k b) (state_of k new)) (passes p k env h begins);
+    → ((k : Tables) (env : Env) → StandsAt c old k env → Begins new k
+    → branch_at env (state_of k old) at x.condition x.statements.items ≡ Ok (given (branch_in k b) (state_of k new)))
+    → Reaches (branches_by at) c old new (x ∷ xs) xs (λ k. map (branch_in k) (b ∷ []))
+first_branch_reaches at c old new x xs b goes grows passes = record {
+  comes = λ p k env h begins. (branches_walk env at).passes (state_of k old) x xs (given (branch_in k b) (state_of k new)) (passes k env h begins);
   continues = goes;
   grows = grows;
 }

@@ -37,6 +37,6 @@ abbrev pub then_exit : tree.Label → Env → Given (tree.Label × tree.Test) �
 then_exit l env t = typed_stmt env l t.next (where_allowed env.is_looping (tree.exit_when l t.value.0 t.value.1))
 
 abbrev pub exiting : tree.Label → Env → State → Expr → Plan Statements
-exiting l env s e = decision env s e >>= then_exit l env
+exiting l env s e = decision env s l.place e >>= then_exit l env
 
 pub ruleset parts = (no_memory, same_symbols)

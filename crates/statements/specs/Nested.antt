@@ -40,7 +40,7 @@ branch_in k b = record {
 -- one branch of an if statement
 abbrev pub branched_once : Env → State → Pos → source.Expr → text.Statements → Plan (Given Chosen)
 branched_once env s p e ss = do
-  t ← decision env s e
+  t ← decision env s p e
   xs ← all_stated env t.next p ss
   rule (Some (given (record { label = t.value.0; test = t.value.1; statements = xs.value }) xs.next))
 

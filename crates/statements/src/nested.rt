@@ -162,22 +162,24 @@ pub fn all_stated(
     Ok(made)
 }
 
-/// A condition after `if` or `elsif`, and the statements behind its `then` (RM 5.3).
+/// A condition after `if` or `elsif`, and the statements behind its `then`, in an if statement at this place
+/// (RM 5.3).
 #[tactic(auto, using(crate::proofs::SimpleLaws::parts))]
 #[cycle(statements)]
 fn branch(
     alloc: Global,
     context: &Context<'_>,
     walk: &mut Walk,
+    pos: Pos,
     source: &SourceBranch,
 ) -> Result<Branch, Failure<Refusal>>
-    ensures comes { (p : Pos) → ComesTo branch_in context.now walk.old walk.new
-        (λ k env s. branch_at env s p source.now.condition source.now.statements.items) result }
+    ensures comes { ComesTo branch_in context.now walk.old walk.new
+        (λ k env s. branch_at env s pos source.now.condition source.now.statements.items) result }
     ensures continues { UnlessMemory (Continues walk.old walk.new) result }
     ensures grown { OnOk result (Grows walk.old.symbols walk.new.symbols) }
 {
     let site = context.place(&walk.symbols).site;
-    let decision = site.decision(alloc, &mut walk.notes.decisions, &source.condition)?;
+    let decision = site.decision(alloc, &mut walk.notes.decisions, pos, &source.condition)?;
     let statements = all_stated(alloc, context, walk, source.statements.as_slice())?;
     Ok(Branch {
         decision,
@@ -185,26 +187,27 @@ fn branch(
     })
 }
 
-/// The branches of an if statement, in order.
+/// The branches of an if statement at this place, in order.
 #[tactic(auto, using(crate::proofs::SimpleLaws::parts))]
 #[cycle(statements)]
 fn all_branches(
     alloc: Global,
     context: &Context<'_>,
     walk: &mut Walk,
+    pos: Pos,
     first: &SourceBranch,
     others: &[SourceBranch],
 ) -> Result<Vec<Branch>, Failure<Refusal>>
-    ensures comes { (p : Pos) → ComesTo branches_there context.now walk.old walk.new
-        (λ k env s. (rules.branched env s p (branches_of (first.now ∷ others.now))).answer) result }
+    ensures comes { ComesTo branches_there context.now walk.old walk.new
+        (λ k env s. (rules.branched env s pos (branches_of (first.now ∷ others.now))).answer) result }
     ensures continues { UnlessMemory (Continues walk.old walk.new) result }
     ensures grown { OnOk result (Grows walk.old.symbols walk.new.symbols) }
 {
     let mut branches = Vec::new(alloc);
-    let first = branch(alloc, context, walk, first)?;
+    let first = branch(alloc, context, walk, pos, first)?;
     branches.push(first)?;
     for other in others {
-        let next = branch(alloc, context, walk, other)?;
+        let next = branch(alloc, context, walk, pos, other)?;
         branches.push(next)?;
     }
     Ok(branches)
@@ -228,7 +231,7 @@ fn if_at(
     ensures grown { OnOk result (Grows walk.old.symbols walk.new.symbols) }
 {
     let label = walk.counts.statement(pos)?;
-    let branches = all_branches(alloc, context, walk, first, others)?;
+    let branches = all_branches(alloc, context, walk, pos, first, others)?;
     let otherwise = all_stated(alloc, context, walk, otherwise)?;
     Ok(Statement {
         kind: StatementKind::If(label, branches, otherwise),
@@ -354,7 +357,7 @@ fn while_at(
 {
     let label = walk.counts.statement(pos)?;
     let site = context.place(&walk.symbols).site;
-    let decision = site.decision(alloc, &mut walk.notes.decisions, expr)?;
+    let decision = site.decision(alloc, &mut walk.notes.decisions, pos, expr)?;
     let statements = all_stated(alloc, &context.in_loop(), walk, statements)?;
     Ok(Statement {
         kind: StatementKind::While(label, decision, statements),

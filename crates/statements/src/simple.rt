@@ -209,7 +209,7 @@ pub fn exit_when_at(
 {
     let label = walk.counts.statement(pos)?;
     let site = context.place(&walk.symbols).site;
-    let decision = site.decision(alloc, &mut walk.notes.decisions, expr)?;
+    let decision = site.decision(alloc, &mut walk.notes.decisions, label.place, expr)?;
     let found = where_allowed(context.is_looping, StatementKind::ExitWhen(label, decision));
     typed(context.step, label.place, null_statement(label), found)
 }

@@ -18,7 +18,7 @@ use ada_judged::Judged;
 use ada_phrases::{Decisions, Denoted, Role, Scope, Step, decision, denoted, judged};
 use ada_syntax::{Expr, Identifier, Name};
 use ada_tree::Decision;
-use cov_base::Failure;
+use cov_base::{Failure, Pos};
 use std::alloc::{AllocError, Global};
 
 /// Where a construct stands: the step, what is declared so far, and the package in whose text it is, by
@@ -95,16 +95,18 @@ impl Site<'_> {
         Ok(denoted)
     }
 
-    /// The expression of a statement's decision, which is one however few conditions it has (RM 5.3).
+    /// The expression of the decision of a statement that begins at `pos`: it is one however few conditions it
+    /// has (RM 5.3).
     pub fn decision(
         &self,
         alloc: Global,
         decisions: &mut Decisions,
+        pos: Pos,
         expr: &Expr,
     ) -> Result<Decision, Failure<Refusal>>
         ensures { ComesTo decision_of self.now decisions.old decisions.new
-            (λ env s. (rules.decision env s expr.now).answer) result }
+            (λ env s. (rules.decision env s pos expr.now).answer) result }
     {
-        decision(alloc, &self.scope(), decisions, expr)
+        decision(alloc, &self.scope(), decisions, pos, expr)
     }
 }

@@ -1,5 +1,5 @@
 -- The typed program of a walk that came to its end.
-use Rattle.std.specs.Prelude.{◌≡◌, ℕ, List, [], map}
+use Rattle.std.specs.Prelude.{◌≡◌, ℕ, List, [], map, Option}
 use Rattle.cov_base.specs.TextOrder.{precedes}
 use Rattle.ada_meaning.specs.Obligations.{in_order}
 use Rattle.ada_meaning.specs.Program as meaning
@@ -12,6 +12,7 @@ use Rattle.ada_rules.specs.Statics.{Facts}
 use Rattle.ada_entities.specs.EntityViews.{Tables}
 use Rattle.ada_entities.specs.TypeTable.{tables}
 use Rattle.ada_library.specs.declared.library.Library.{Library}
+use Rattle.type_trees.specs.Trees.{shapes_in_tree, AreIn}
 use Rattle.program_walk.specs.declared.found.Found.{Found}
 use Rattle.program_walk.specs.declared.walk.Walk.{Walk}
 use Rattle.program_walk.specs.States.{state_of}
@@ -30,6 +31,11 @@ assembled o facts f =
       declared = map tree.exception_declaration_of f.exceptions.items;
       exceptions = [];
     })
+
+-- Its composite types are those of the walk, by their numbers, and stand in the texts of these generics.
+pub record HasTypes (generics : List (Option ℕ)) (w : Walk) (p : Program) : Type 0 where
+  pub types : tree.types_of p.types ≡ shapes_in_tree (tables w.symbols.types)
+  pub texts : AreIn generics 0 p.types
 
 -- It is that of the rules, in a world with this library and with instances that have this, where the tables keep the
 -- composite types of the walk and no more.

@@ -2,7 +2,7 @@
 
 ghost use Rattle.std.specs.Prelude.{◌≡◌, IfOk};
 ghost use Rattle.ada_tree.specs.Programs.{program_of};
-ghost use Rattle.typed_program.specs.Assembled.{assembled, IsProgramOf};
+ghost use Rattle.typed_program.specs.Assembled.{assembled, HasTypes, IsProgramOf};
 
 use crate::exceptions::ordered;
 use crate::instances::completed;
@@ -32,6 +32,7 @@ fn assembled(
     found: Found,
 ) -> Result<Program, AllocError>
     ensures program { IfOk result (λ p. program_of p ≡ assembled outline instances.now found) }
+    ensures types { IfOk result (λ p. p.types ≡ outline.types) }
     ensures units { IfOk result (λ p. p.units ≡ outline.units.items) }
 {
     let Found {
@@ -69,6 +70,7 @@ pub fn program_of(
     walk: Walk,
 ) -> Result<Program, AllocError>
     ensures program { IfOk result (IsProgramOf library.now instances.now walk main.now) }
+    ensures types { IfOk result (HasTypes generics.now walk) }
     ensures units { IfOk result (λ p. p.units ≡ units.items) }
 {
     let main = library.body_number(alloc, main, main)?.unwrap_or(0);

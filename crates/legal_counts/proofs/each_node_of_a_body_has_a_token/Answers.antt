@@ -1,4 +1,4 @@
-use Rattle.legal_counts.proofs.NodesOfUnits.{subprograms_within, few_nodes, each_few}
+use Rattle.legal_counts.proofs.NodesOfUnits.{subprograms_within, few_nodes, few_beside_types, each_few}
 use Rattle.legal_counts.proofs.GenericsOfBodies.{generics_are}
 use Rattle.legal_counts.proofs.each_node_of_a_body_has_a_token.Goals as goal
 
@@ -13,3 +13,6 @@ returns-clause-each c = λ l main p is standard filled limit few. each_few l mai
 
 pub returns-clause-generics : goal.returns-clause-generics
 returns-clause-generics c = λ l main p is. generics_are l main p is
+
+pub returns-clause-types : goal.returns-clause-types
+returns-clause-types c = λ l main p is standard filled. few_beside_types l main p is standard filled

@@ -1,7 +1,7 @@
 use Rattle.ada_rules.specs.Entities.{whole_standard}
 use Rattle.ada_rules.specs.Library.{library_of}
 use Rattle.legal_programs.proofs.Passed.{is_legal}
-use Rattle.legal_texts.proofs.PlainPrograms.{subprograms_formed}
+use Rattle.legal_texts.proofs.PackagePrograms.{subprograms_formed}
 use Rattle.legal_texts.proofs.programs_of_subprograms_are_well_formed.Goals as goal
 
 pub returns-clause-formed : goal.returns-clause-formed

@@ -15,7 +15,7 @@ returns-in_default c k s =
     let l = label_of c.args.label in
     let x = judged_of k c.args.value in
     let s0 = counted c.args.decisions.now s in
-    subst (λ f. Refuses (answer_at p (typed_rule typing (given (l, test_of x.at x.form) s0) (option_map (λ t. given (l, t) (measured p t s0)) (tested x))).outcome) f)
+    subst (λ f. Refuses (answer_at p (typed_rule typing (given (l, test_of x.at x.form) s0) (option_map (λ t. given (l, t) (measured l.place t s0)) (tested x))).outcome) f)
     (sym c.refused.ensures)
-    (refused_at (ap (λ o. answer_at p (typed_rule typing (given (l, test_of x.at x.form) s0) (option_map (λ t. given (l, t) (measured p t s0)) o)).outcome)
+    (refused_at (ap (λ o. answer_at p (typed_rule typing (given (l, test_of x.at x.form) s0) (option_map (λ t. given (l, t) (measured l.place t s0)) o)).outcome)
     (sym (c.in_ok-test.ensures k) ∙ c.in_default.is)))

@@ -17,7 +17,7 @@ returns-in_ok-any_decision-in-Naming c k s =
     let l = label_of c.args.label in
     let x = judged_of k c.args.value in
     let s0 = counted c.args.decisions.now s in
-    ap (λ st. answer_at p (typed_rule (step_of st) (given (l, test_of x.at x.form) s0) (option_map (λ t. given (l, t) (measured p t s0)) (tested x))).outcome) c.in-Naming.is
+    ap (λ st. answer_at p (typed_rule (step_of st) (given (l, test_of x.at x.form) s0) (option_map (λ t. given (l, t) (measured l.place t s0)) (tested x))).outcome) c.in-Naming.is
     ∙ ap (λ y. Ok (given y s0)) (sym (c.in_ok-any_decision-in-Naming.ensures k))
 
 pub returns-in-Typing : goal.returns-in-Typing
@@ -27,5 +27,5 @@ returns-in-Typing c k s =
     let x = judged_of k c.args.value in
     let s0 = counted c.args.decisions.now s in
     answers_as (λ d. given (decision_of k d) (counted c.boolean_decision.new.decisions s)) _ _ c.boolean_decision.result
-    (ap (λ st. answer_at p (typed_rule (step_of st) (given (l, test_of x.at x.form) s0) (option_map (λ t. given (l, t) (measured p t s0)) (tested x))).outcome) c.in-Typing.is)
+    (ap (λ st. answer_at p (typed_rule (step_of st) (given (l, test_of x.at x.form) s0) (option_map (λ t. given (l, t) (measured l.place t s0)) (tested x))).outcome) c.in-Typing.is)
     (c.boolean_decision.ensures k s)

@@ -1,15 +1,15 @@
 use Rattle.std.proofs.Common.{length, subst}
 use Rattle.std.proofs.lemmas.Result.{IfOk-weaker}
 use Rattle.ada_entities.specs.TypeTable.{tables}
-use Rattle.checker.specs.TypeTexts.{AreGenerics}
+use Rattle.checker.specs.TypeTexts.{AreAllTexts}
 use Rattle.checker.proofs.TextLaws.{of_definitions}
 use Rattle.checker.proofs.texts.type_texts.Goals as goal
 
 pub returns : goal.returns
 returns c =
-    IfOk-weaker c.generics_among.result _ _
+    IfOk-weaker c.all_generics_among.result _ _
     (λ gs h.
-    subst (λ t. AreGenerics (length (tables t).shapes) c.args.walk.now.found.types.items gs.items) c.types.ensures
+    subst (λ t. AreAllTexts (length (tables t).shapes) c.args.walk.now.found.types.items gs.items) c.types.ensures
     (of_definitions (tables c.types.result.now) c.definitions-count.result.now c.args.walk.now.found.types.items gs.items c.definitions-count.ensures
-    (subst (λ ts. AreGenerics (length c.definitions-count.result.now) ts gs.items) c.as_slice.ensures.value h)))
-    c.generics_among.ensures
+    (subst (λ ts. AreAllTexts (length c.definitions-count.result.now) ts gs.items) c.as_slice.ensures.value h)))
+    c.all_generics_among.ensures

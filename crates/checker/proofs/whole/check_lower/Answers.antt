@@ -18,3 +18,9 @@ pub returns-clause-refused : goal.returns-clause-refused
 returns-clause-refused c =
     let units = c.args.units.now in
     refusal_of _ c.verdict.result (c.verdict.ensures.verdict (whole_library units) (is_whole c.in_ok-library.library units c.in_ok-library.ensures))
+
+pub returns-clause-types : goal.returns-clause-types
+returns-clause-types c =
+    let units = c.args.units.now in
+    IfOk-weaker c.verdict.result _ _ (λ p h. h (whole_library units) (is_whole c.in_ok-library.library units c.in_ok-library.ensures))
+    c.verdict.ensures.types

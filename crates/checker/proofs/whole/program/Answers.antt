@@ -1,5 +1,5 @@
 use Rattle.std.proofs.lemmas.Result.{err_from_is_err_and}
-use Rattle.checker.proofs.CheckedLaws.{program_refused, program_legal, has_entries}
+use Rattle.checker.proofs.CheckedLaws.{program_refused, program_legal, has_entries, declares_types}
 use Rattle.checker.proofs.whole.program.Goals as goal
 
 pub returns-in_err-prepared-clause-program : goal.returns-in_err-prepared-clause-program
@@ -17,3 +17,8 @@ pub returns-clause-units : goal.returns-clause-units
 returns-clause-units c l whole judged =
     has_entries c.args.whole c.args.units.now c.args.library.now l c.args.main.now whole judged c.in_ok-assembled.field-0
     c.in_ok-prepared.prepared.entries.items c.in_ok-prepared.ensures.entries c.in_ok-assembled.ensures.units
+
+pub returns-clause-types : goal.returns-clause-types
+returns-clause-types c l whole judged =
+    declares_types c.args.whole c.args.units.now c.args.library.now l c.args.main.now whole judged c.in_ok-assembled.field-0
+    c.in_ok-prepared.prepared.generics.items c.in_ok-prepared.ensures.texts c.in_ok-assembled.ensures.types

@@ -19,3 +19,7 @@ returns-clause-verdict c l whole =
 pub returns-clause-units : goal.returns-clause-units
 returns-clause-units c =
     IfOk-weaker c.program.result _ _ (λ p h l whole. h l whole (c.in_ok-whole.ensures l whole)) c.program.ensures.units
+
+pub returns-clause-types : goal.returns-clause-types
+returns-clause-types c =
+    IfOk-weaker c.program.result _ _ (λ p h l whole. h l whole (c.in_ok-whole.ensures l whole)) c.program.ensures.types

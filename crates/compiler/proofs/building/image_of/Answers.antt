@@ -2,6 +2,7 @@ use Rattle.std.proofs.Common.{List, ap, ◌∙◌}
 use Rattle.generic_expand.specs.declared.copies.BodyCopy.{BodyCopy}
 use Rattle.lower.specs.Kernel.{kernel_for}
 use Rattle.ada_tree.specs.Programs.{program_of}
+use Rattle.compiler.specs.Kernels.{nodes_of}
 use Rattle.compiler.proofs.Kernels.{image_law, laid_kernel}
 use Rattle.compiler.proofs.Placeable as placeable
 use Rattle.compiler.proofs.building.image_of.Goals as goal
@@ -10,17 +11,17 @@ pub link-requires-clause-in_reach : goal.link-requires-clause-in_reach
 link-requires-clause-in_reach c =
     let p = program_of c.args.program.now in
     let k = c.in_ok-kernel.kernel in
-    placeable.in_reach p k c.as_slice.result.now c.requires.able (laid_kernel c.args.program.now k c.requires.able c.requires.laid (c.in_ok-kernel.ensures.kernel ∙ ap (λ (cs : List BodyCopy). kernel_for c.args.program.now cs) c.requires.copies) c.in_ok-kernel.ensures.words) (c.as_slice.ensures.value ∙ c.in_ok-pieces.ensures.pieces)
+    placeable.in_reach p (nodes_of c.args.program.now) k c.as_slice.result.now c.requires.able (laid_kernel c.args.program.now k c.requires.able c.requires.laid (c.in_ok-kernel.ensures.kernel ∙ ap (λ (cs : List BodyCopy). kernel_for c.args.program.now cs) c.requires.copies) c.in_ok-kernel.ensures.words) (c.as_slice.ensures.value ∙ c.in_ok-pieces.ensures.pieces)
 
 pub link-requires-clause-in_time : goal.link-requires-clause-in_time
 link-requires-clause-in_time c =
     let p = program_of c.args.program.now in
     let k = c.in_ok-kernel.kernel in
-    placeable.in_time p k c.as_slice.result.now c.requires.able (laid_kernel c.args.program.now k c.requires.able c.requires.laid (c.in_ok-kernel.ensures.kernel ∙ ap (λ (cs : List BodyCopy). kernel_for c.args.program.now cs) c.requires.copies) c.in_ok-kernel.ensures.words) (c.as_slice.ensures.value ∙ c.in_ok-pieces.ensures.pieces)
+    placeable.in_time p (nodes_of c.args.program.now) k c.as_slice.result.now c.requires.able (laid_kernel c.args.program.now k c.requires.able c.requires.laid (c.in_ok-kernel.ensures.kernel ∙ ap (λ (cs : List BodyCopy). kernel_for c.args.program.now cs) c.requires.copies) c.in_ok-kernel.ensures.words) (c.as_slice.ensures.value ∙ c.in_ok-pieces.ensures.pieces)
 
 pub returns : goal.returns
 returns c =
     let p = program_of c.args.program.now in
     let k = c.in_ok-kernel.kernel in
-    image_law p k c.as_slice.result.now c.link.result (laid_kernel c.args.program.now k c.requires.able c.requires.laid (c.in_ok-kernel.ensures.kernel ∙ ap (λ (cs : List BodyCopy). kernel_for c.args.program.now cs) c.requires.copies) c.in_ok-kernel.ensures.words) (c.as_slice.ensures.value ∙ c.in_ok-pieces.ensures.pieces)
+    image_law p (nodes_of c.args.program.now) k c.as_slice.result.now c.link.result (laid_kernel c.args.program.now k c.requires.able c.requires.laid (c.in_ok-kernel.ensures.kernel ∙ ap (λ (cs : List BodyCopy). kernel_for c.args.program.now cs) c.requires.copies) c.in_ok-kernel.ensures.words) (c.as_slice.ensures.value ∙ c.in_ok-pieces.ensures.pieces)
     c.link.ensures.linked c.link.ensures.fits

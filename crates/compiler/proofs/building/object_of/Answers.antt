@@ -1,5 +1,6 @@
 use Rattle.std.proofs.Common.{refl, ◌∙◌}
 use Rattle.ada_tree.specs.Programs.{program_of}
+use Rattle.compiler.specs.Kernels.{nodes_of}
 use Rattle.compiler.proofs.Kernels.{holds_law}
 use Rattle.compiler.proofs.building.object_of.Goals as goal
 
@@ -10,7 +11,7 @@ returns c =
     record {
       kernel = is.kernel;
       is_kernel = is.is_kernel;
-      holds = holds_law p _ c.in_ok-image.image c.requires.able is refl refl refl refl refl refl c.in_ok-obligations.ensures;
+      holds = holds_law p (nodes_of c.args.program.now) _ c.in_ok-image.image c.requires.able is refl refl refl refl refl refl c.in_ok-obligations.ensures;
       sources = c.from.ensures ∙ c.in_ok-files.ensures;
       obligations = c.in_ok-obligations.ensures;
     }

@@ -1,7 +1,6 @@
-use Rattle.std.proofs.lemmas.Result.{IfOk-weaker, IfErr-weaker}
-use Rattle.ada_tree.specs.Programs.{program_of}
+use Rattle.std.proofs.lemmas.Result.{IfErr-weaker}
 use Rattle.compiler.proofs.Checked.{sources_failed, sources_refused, passed_on}
-use Rattle.compiler.proofs.Core.{legal_of}
+use Rattle.compiler.proofs.Core.{typed_answer}
 use Rattle.compiler.specs.Legal.{RefusesFor}
 use Rattle.compiler.proofs.checking.legal_program.Goals as goal
 
@@ -15,9 +14,7 @@ returns-clause-refused c =
     (λ f h. sources_refused c.args.files.now c.in_ok-units.units.items c.as_slice.result.now c.args.main.now f c.in_ok-units.ensures.units c.as_slice.ensures.value h)
     c.small_program-answer.ensures.refused
 
-pub returns-clause-legal : goal.returns-clause-legal
-returns-clause-legal c =
-    IfOk-weaker c.small_program-answer.result _ _
-    (λ l h. legal_of c.args.files.now c.in_ok-units.units.items c.as_slice.result.now c.args.main.now (program_of l.program) c.in_ok-units.ensures.units
-    c.in_ok-units.ensures.read c.as_slice.ensures.value h)
-    c.small_program-answer.ensures.legal
+pub returns-clause-typed : goal.returns-clause-typed
+returns-clause-typed c =
+    typed_answer c.args.files.now c.in_ok-units.units.items c.as_slice.result.now c.args.main.now c.small_program-answer.result c.in_ok-units.ensures.units
+    c.in_ok-units.ensures.read c.as_slice.ensures.value c.small_program-answer.ensures.legal c.small_program-answer.ensures.types

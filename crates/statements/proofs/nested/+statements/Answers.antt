@@ -154,10 +154,11 @@ pub all_branches-returns-in_err-next-clause-continues : goal.all_branches-return
 all_branches-returns-in_err-next-clause-continues t c = ifs.all_branches-returns-in_err-next-clause-continues t c
 
 pub all_branches-returns-clause-comes : goal.all_branches-returns-clause-comes
-all_branches-returns-clause-comes t c p k env h b =
-    reaches_last branch_by (λ y. y ∷ []) branches_by rows_of_branches c.args.context.now c.args.walk.now c.loop-other.walk (c.args.first.now ∷
+all_branches-returns-clause-comes t c k env h b =
+    reaches_last (branch_by c.args.pos) (λ y. y ∷ []) (branches_by c.args.pos) (rows_of_branches c.args.pos)
+    c.args.context.now c.args.walk.now c.loop-other.walk (c.args.first.now ∷
     c.args.others.now) c.args.others.now c.loop-other.other-index (λ k. map (branch_in k) c.loop-other.branches.items) c.loop-other.invariant
-    c.loop-other-test.false p k env h b
+    c.loop-other-test.false c.args.pos k env h b
 
 pub all_branches-returns-clause-continues : goal.all_branches-returns-clause-continues
 all_branches-returns-clause-continues t c =
@@ -182,7 +183,8 @@ all_branches-branch-alloc-requires t c =
 
 pub all_branches-loop-other-init : goal.all_branches-loop-other-init
 all_branches-loop-other-init t c =
-    let first = first_branch_reaches c.args.context.now c.args.walk.now c.branch-alloc.new.walk c.args.first.now c.args.others.now c.in_ok-first.first
+    let first = first_branch_reaches c.args.pos c.args.context.now c.args.walk.now c.branch-alloc.new.walk c.args.first.now
+    c.args.others.now c.in_ok-first.first
     c.in_ok-first.ensures.continues c.in_ok-first.ensures.grown c.in_ok-first.ensures.comes in
     rw (c.in_ok-push.ensures.items, c.new-branches.ensures.items) first
 

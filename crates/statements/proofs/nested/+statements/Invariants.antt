@@ -66,7 +66,8 @@ invariant-all_stated-loop-statement l =
 
 abbrev pub invariant-all_branches-loop-other : goal.invariant-all_branches-loop-other
 invariant-all_branches-loop-other l =
-    Reaches branches_by l.fn.context l.fn.walk l.walk (l.fn.first ∷ l.others) (drop l.other-index l.others) (λ k. map (branch_in k) l.branches.items)
+    Reaches (branches_by l.fn.pos) l.fn.context l.fn.walk l.walk (l.fn.first ∷ l.others) (drop l.other-index l.others)
+    (λ k. map (branch_in k) l.branches.items)
 
 abbrev pub invariant-all_arms-loop-alternative : goal.invariant-all_arms-loop-alternative
 invariant-all_arms-loop-alternative l =

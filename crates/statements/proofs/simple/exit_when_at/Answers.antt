@@ -23,7 +23,7 @@ returns-in_err-decision-clause-comes c k env h b =
     let r = refused_as _ _ f
     (labelled (λ l e s. exiting l e s c.args.expr.now) env c.args.pos (state_of k w) (state_of k v) l
     (c.in_ok-label.ensures.label beginning_state) (behind_label k w c.statement.new.self c.in_ok-label.ensures.taken))
-    (in_part c.in_ok-label.label.place (decision env (state_of k v) c.args.expr.now).answer (then_exit l env) f
+    (in_part c.in_ok-label.label.place (decision env (state_of k v) c.in_ok-label.label.place c.args.expr.now).answer (then_exit l env) f
     (c.in_err-decision.ensures k env (undecided k v) (c.place.ensures k env h.symbols h.instances h.generic).site)) in
     search (rules, r)
 
@@ -37,7 +37,7 @@ returns-clause-comes c k env h b =
     answers_as (λ x. given (in_program k x) n) _ _ c.typed.result
     (labelled (λ l e s. exiting l e s c.args.expr.now) env c.args.pos (state_of k w) (state_of k v) l
     (c.in_ok-label.ensures.label beginning_state) (behind_label k w c.statement.new.self c.in_ok-label.ensures.taken)
-    ∙ passes_on c.in_ok-label.label.place (decision env (state_of k v) c.args.expr.now).answer (then_exit l env) (given d n)
+    ∙ passes_on c.in_ok-label.label.place (decision env (state_of k v) c.in_ok-label.label.place c.args.expr.now).answer (then_exit l env) (given d n)
     (c.in_ok-decision.ensures k env (undecided k v) (c.place.ensures k env h.symbols h.instances h.generic).site))
     (gives_as (in_tree k) alone n c.in_ok-label.label.place env.step c.args.context.now.step c.null_statement.result c.where_allowed-found.result
     (null_statement l ∷ []) (where_allowed env.is_looping (exit_when l d.0 d.1)) c.typed.result h.symbols.step (ap (in_program k) c.null_statement.ensures)
