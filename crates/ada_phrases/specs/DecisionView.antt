@@ -34,4 +34,5 @@ IsDecision old new step p l x result =
     → Answers (λ d. given (decision_of k d) (counted new s))
     (answer_at p (typed_rule (step_of step)
     (given (label_of l, test_of (judged_of k x).at (judged_of k x).form) (counted old s))
-    (option_map (λ t. given (label_of l, t) (measured l.place t (counted old s))) (tested (judged_of k x)))).outcome) result
+    (option_map (λ t. given (label_of l, t) (measured l.place t (counted old s)))
+    (tested (judged_of k x)))).outcome) result

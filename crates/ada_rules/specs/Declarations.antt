@@ -145,9 +145,15 @@ abbrev pub known_of : List Pos → Judged → Option Static
 known_of [] x = x.known
 known_of (p ∷ ps) x = None
 
--- that it is of the type is asked of the statement or declaration whose first token stands at this place
+-- That a value is of its object's type is asked of the statement or declaration, which begins at this place, or within
+-- `others` of the innermost `others` that stands for the components of an array.
+abbrev pub value_place : Pos → AdaSubtype → List Pos → Pos
+value_place p (of_type (array_type i x c) r) (q ∷ qs) = value_place q c qs
+value_place p t qs = p
+
+-- in the statement or declaration that begins at this place
 abbrev pub new_value : Env → State → Pos → AdaSubtype → Initial → Judgement (Given NewValue)
-new_value env s p t i = construct p (do
+new_value env s p t i = construct (value_place p t i.others) (do
   x ← judged env itself s i.value
   typed_rule env.step (given (record { value = any_value; known = None }) x.next)
       (option_map (λ v. given (record { value = v; known = known_of i.others x.value }) x.next) (value_for t i.others x.value)))
@@ -171,7 +177,7 @@ known_value [] v = Some v.value
 known_value (p ∷ ps) v = None
 
 abbrev pub library_value : Env → State → Pos → AdaSubtype → Initial → Judgement (Given LibraryValue)
-library_value env s p t i = construct p (do
+library_value env s p t i = construct (value_place p t i.others) (do
   x ← static_part env s (λ k. true) (in_range (range_in (innermost t i.others))) i.value
   typed_rule env.step (given (record { initial = program.no_initial; known = None }) x.next)
       (option_map (λ v. given (record { initial = v; known = known_value i.others x.value }) x.next) (initial_for t i.others x.value)))

@@ -1,13 +1,17 @@
 -- Shown by computing.
 use Rattle.std.proofs.Common.{refl}
 use Rattle.clap.proofs.OnLiterals.{clap_on_literals}
-use Rattle.command_words.specs.Examples.{Compiles, Runs, Covers, Consolidates, Asks, Lacks, Exceeds}
+use Rattle.command_words.specs.Examples.{Compiles, CompilesSeveral, Runs, Covers, Consolidates, Asks, Lacks, Exceeds}
 use Rattle.command_words.specs.Lines.{given}
 use Rattle.command_words.specs.Task.{compile_of, consolidate_of, coverage_of, run_of}
 
 pub compiles : Compiles
 unfolding clap_on_literals given compile_of
 compiles = (refl, refl, refl, refl)
+
+pub compiles_several : CompilesSeveral
+unfolding clap_on_literals given compile_of
+compiles_several = (refl, refl, refl, refl)
 
 pub runs : Runs
 unfolding clap_on_literals given run_of
@@ -31,4 +35,4 @@ lacks = (refl, refl, refl, refl, refl, refl, refl, refl)
 
 pub exceeds : Exceeds
 unfolding clap_on_literals given compile_of run_of coverage_of
-exceeds = (refl, refl, refl, refl, refl)
+exceeds = (refl, refl, refl, refl, refl, refl)

@@ -1,5 +1,5 @@
 -- Worked examples: command lines, and what they ask for.
-use Rattle.std.specs.Prelude.{◌≡◌, ℕ, List, [], ◌∷◌, Option, Some, None, codes}
+use Rattle.std.specs.Prelude.{◌≡◌, ℕ, List, [], ◌∷◌, replicate, Option, Some, None, codes}
 use Rattle.cov_base.specs.declared.level.Level.TheVariants.{Stmt, Decision, Mcdc, UcMcdc}
 use Rattle.cov_base.specs.declared.level.Annotation.TheVariants.{Report}
 use Rattle.command_words.specs.Task.{Task, Compile, Run, Coverage, Consolidate, task_of}
@@ -20,14 +20,31 @@ consolidate words = codes "gnatcov" ∷ codes "consolidate" ∷ words
 abbrev pub ran : ℕ → Option Task
 ran budget = Some (Run (codes "I") budget (codes "T") (codes "O"))
 
--- options in any order, before and behind the source; a value in a word of its own, behind `=` or behind its letter; `--` before a name
+-- the command that compiles these sources
+abbrev pub made : List (List ℕ) → Option Task
+made sources = Some (Compile (codes "M") (codes "O") sources)
+
+-- one source: options in any order, before and behind it; a value in a word of its own, behind `=` or behind its letter;
+-- `--` before a name
 abbrev pub Compiles : Type 0
 Compiles =
-    let made = Some (Compile (codes "M") (codes "O") (codes "S")) in
-    (task_of (compile (codes "--main=M" ∷ codes "-o" ∷ codes "O" ∷ codes "S" ∷ [])) ≡ made)
-    × (task_of (compile (codes "S" ∷ codes "-oO" ∷ codes "--main" ∷ codes "M" ∷ [])) ≡ made)
-    × (task_of (compile (codes "--main=M" ∷ codes "-o=O" ∷ codes "--" ∷ codes "S" ∷ [])) ≡ made)
-    × (task_of (compile (codes "--main=" ∷ codes "-o" ∷ codes "O" ∷ codes "--" ∷ codes "-S" ∷ [])) ≡ Some (Compile [] (codes "O") (codes "-S")))
+    let one = made (codes "S" ∷ []) in
+    (task_of (compile (codes "--main=M" ∷ codes "-o" ∷ codes "O" ∷ codes "S" ∷ [])) ≡ one)
+    × (task_of (compile (codes "S" ∷ codes "-oO" ∷ codes "--main" ∷ codes "M" ∷ [])) ≡ one)
+    × (task_of (compile (codes "--main=M" ∷ codes "-o=O" ∷ codes "--" ∷ codes "S" ∷ [])) ≡ one)
+    × (task_of (compile (codes "--main=" ∷ codes "-o" ∷ codes "O" ∷ codes "--" ∷ codes "-S" ∷ []))
+    ≡ Some (Compile [] (codes "O") (codes "-S" ∷ [])))
+
+-- several sources, in their order: with options between them, the same one twice, `--` before and between them, and 64
+abbrev pub CompilesSeveral : Type 0
+CompilesSeveral =
+    (task_of (compile (codes "--main=M" ∷ codes "-o" ∷ codes "O" ∷ codes "T" ∷ codes "S" ∷ []))
+    ≡ made (codes "T" ∷ codes "S" ∷ []))
+    × (task_of (compile (codes "S" ∷ codes "--main=M" ∷ codes "T" ∷ codes "-oO" ∷ codes "S" ∷ []))
+    ≡ made (codes "S" ∷ codes "T" ∷ codes "S" ∷ []))
+    × (task_of (compile (codes "--main=M" ∷ codes "-oO" ∷ codes "S" ∷ codes "--" ∷ codes "-T" ∷ codes "--" ∷ []))
+    ≡ made (codes "S" ∷ codes "-T" ∷ codes "--" ∷ []))
+    × (task_of (compile (codes "--main=M" ∷ codes "-oO" ∷ replicate 64 (codes "S"))) ≡ made (replicate 64 (codes "S")))
 
 -- the budget is 100000000 where none is given, and goes from 1 to 4294967295
 abbrev pub Runs : Type 0
@@ -75,10 +92,12 @@ Lacks =
     × (task_of (consolidate (codes "--object=O" ∷ codes "T" ∷ [])) ≡ None)
     × (task_of (consolidate (codes "-o" ∷ codes "F" ∷ codes "T" ∷ [])) ≡ None)
 
--- two sources, a budget out of its range, a level that there is not, and a form that there is not yet
+-- 65 sources, a name of 4097 bytes, a budget out of its range, a level that there is not, and a form that there is not
+-- yet
 abbrev pub Exceeds : Type 0
 Exceeds =
-    (task_of (compile (codes "--main=M" ∷ codes "-o" ∷ codes "O" ∷ codes "S" ∷ codes "S2" ∷ [])) ≡ None)
+    (task_of (compile (codes "--main=M" ∷ codes "-oO" ∷ replicate 65 (codes "S"))) ≡ None)
+    × (task_of (compile (codes "--main=M" ∷ codes "-oO" ∷ codes "S" ∷ replicate 4097 83 ∷ [])) ≡ None)
     × (task_of (run (codes "--input=I" ∷ codes "--budget=0" ∷ codes "-o" ∷ codes "T" ∷ codes "O" ∷ [])) ≡ None)
     × (task_of (run (codes "--input=I" ∷ codes "--budget=4294967296" ∷ codes "-o" ∷ codes "T" ∷ codes "O" ∷ [])) ≡ None)
     × (task_of (coverage (codes "--level=mcdc" ∷ codes "--annotate=report" ∷ codes "--object=O" ∷ [])) ≡ None)

@@ -20,6 +20,10 @@ output_option id = record (new_rule id) { short = Some 111; required = true }
 abbrev pub required_name : Text → Rule
 required_name id = record (new_rule id) { required = true }
 
+-- names without an option, one or more
+abbrev pub required_names : Text → Rule
+required_names id = record (new_rule id) { action = Some Append; required = true }
+
 -- names without an option, none or more
 abbrev pub any_names : Text → Rule
 any_names id = record (new_rule id) { action = Some Append }
@@ -34,10 +38,12 @@ budget_option = record (new_rule (codes "budget")) {
 
 -- ---- commands
 
--- compile --main=MAIN -o OBJECT SOURCE
+-- compile --main=MAIN -o OBJECT SOURCE...
 abbrev pub compile_app : App
 compile_app =
-    with_rule (with_rule (with_rule (new_app (codes "compile")) (required_option (codes "main"))) (output_option (codes "object"))) (required_name (codes "source"))
+    with_rule
+    (with_rule (with_rule (new_app (codes "compile")) (required_option (codes "main"))) (output_option (codes "object")))
+    (required_names (codes "source"))
 
 -- run --input=INPUT [--budget=BUDGET] -o TRACE OBJECT
 abbrev pub run_app : App

@@ -1,6 +1,6 @@
 -- The command words, and what they ask for.
-use Rattle.std.specs.Prelude.{ℕ, ◌<◌, ◌≤◌, ◌^◌, Bool, nat_le, List, [], ◌∷◌, length, codes, Option, Some, None, option_and_then, unwrap_or, if◌then◌else◌}
-use Rattle.std.specs.List.{list_all}
+use Rattle.std.specs.Prelude.{ℕ, ◌<◌, ◌≤◌, ◌^◌, ◌&&◌, Bool, nat_le, List, [], ◌∷◌, length, codes, Option, Some, None, option_and_then, unwrap_or, if◌then◌else◌}
+use Rattle.std.specs.List.{AllByRecursion, list_all}
 use Rattle.std.specs.Str.{bytes_eq}
 use Rattle.clap.specs.Words.{Row, Text, all_of, first_of, one_of}
 use Rattle.cov_base.specs.declared.level.Level.{Level}
@@ -11,7 +11,7 @@ use Rattle.command_words.specs.Lines.{compile_app, consolidate_app, coverage_app
 
 -- what the words ask for, each name as its bytes; the budget is a number of instructions
 pub data Task : Type 0 where
-  Compile : (main object source : List ℕ) → Task
+  Compile : (main object : List ℕ) (sources : List (List ℕ)) → Task
   Run : (input : List ℕ) (budget : ℕ) (trace object : List ℕ) → Task
   Coverage : (level : Level) (annotation : Annotation) (object : List ℕ) (traces : List (List ℕ)) → Task
   Consolidate : (object out : List ℕ) (traces : List (List ℕ)) → Task
@@ -37,13 +37,24 @@ annotation_named name = if bytes_eq name (codes "report") then Some Report else 
 
 -- ---- compile
 
--- each part has to be there, and the source's name is short
-abbrev pub compile_with : Option Text → Option Text → Option Text → Option Task
-compile_with (Some main) (Some object) (Some source) = if is_short source then Some (Compile main object source) else None
-compile_with _ _ _ = None
+-- so many sources may be named
+abbrev pub is_count : ℕ → Bool
+is_count count = nat_le 1 count && nat_le count 64
+
+-- 1 to 64 sources are named, each by a short name
+abbrev pub are_sources : List Text → Bool
+are_sources sources = is_count (length sources) && list_all is_short sources
+
+-- each part has to be there, and so many sources are named so
+abbrev pub compile_with : Option Text → Option Text → List Text → Option Task
+compile_with (Some main) (Some object) sources =
+    if are_sources sources then Some (Compile main object sources) else None
+compile_with _ _ sources = None
 
 abbrev pub compile_from : List Row → Option Task
-compile_from rows = compile_with (first_of (codes "main") rows) (first_of (codes "object") rows) (first_of (codes "source") rows)
+compile_from rows =
+    compile_with (first_of (codes "main") rows) (first_of (codes "object") rows)
+    (unwrap_or (all_of (codes "source") rows) [])
 
 -- what the words ask for, of which the first is `compile`
 unfoldable pub compile_of : List Text → Option Task
@@ -118,9 +129,15 @@ abbrev pub task_of : List Text → Option Task
 task_of [] = None
 task_of (program ∷ words) = if list_all is_short words then asked words else None
 
+-- these are names of sources: 1 to 64, each of at most 4096 bytes
+pub record AreSources (names : List Text) : Type 0 where
+  pub some : 1 ≤ length names
+  pub few : length names ≤ 64
+  pub short : AllByRecursion (λ name. length name ≤ 4096) names
+
 -- a task's names and numbers are within their limits
 abbrev pub IsWithinLimits : Task → Type 0
-IsWithinLimits (Compile main object source) = length source ≤ 4096
+IsWithinLimits (Compile main object sources) = AreSources sources
 IsWithinLimits (Run input budget trace object) = (1 ≤ budget) × (budget < 2 ^ 32)
 IsWithinLimits (Coverage level annotation object traces) = length traces ≤ 4096
 IsWithinLimits (Consolidate object out traces) = length traces ≤ 4096

@@ -2,7 +2,7 @@
 
 ghost use Rattle.std.specs.Prelude.{◌≡◌, false, IfOk};
 ghost use Rattle.clap.specs.Words.{App, app_of, rule_of, with_rule};
-ghost use Rattle.command_words.specs.Lines.{any_names, budget_option, output_option, required_name, required_option};
+ghost use Rattle.command_words.specs.Lines.{any_names, budget_option, output_option, required_name, required_names, required_option};
 
 use clap::{Arg, ArgAction};
 use std::alloc::{AllocError, Global};
@@ -29,6 +29,14 @@ pub fn required_name<'a>(alloc: Global, id: &'a str) -> Arg<'a>
     ensures local { result.global ≡ false }
 {
     Arg::new(alloc, id).required(true)
+}
+
+/// Names without an option, one or more.
+pub fn required_names<'a>(alloc: Global, id: &'a str) -> Arg<'a>
+    ensures rule { rule_of result ≡ required_names id.entry.now }
+    ensures local { result.global ≡ false }
+{
+    Arg::new(alloc, id).action(ArgAction::Append).required(true)
 }
 
 /// Names without an option, none or more.

@@ -6,11 +6,11 @@ use thiserror::Error;
 /// What the words ask for. Names are names of files, but for `main`, the main unit's.
 #[derive(Drop)]
 pub enum Command<'a> {
-    /// `compile --main=MAIN -o OBJECT SOURCE`
+    /// `compile --main=MAIN -o OBJECT SOURCE...`, with 1 to 64 sources, which are read in this order
     Compile {
         main: &'a str,
         object: &'a str,
-        source: &'a str,
+        sources: Seq<&'a str>,
     },
     /// `run --input=INPUT [--budget=BUDGET] -o TRACE OBJECT`; the budget counts instructions.
     Run {

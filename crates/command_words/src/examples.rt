@@ -1,11 +1,12 @@
 //! Worked examples of command lines, as clauses. They are shown by computing what the definitions of
 //! `specs/Task.antt` make of the words.
 
-ghost use Rattle.command_words.specs.Examples.{Compiles, Runs, Covers, Consolidates, Asks, Lacks, Exceeds};
+ghost use Rattle.command_words.specs.Examples.{Compiles, CompilesSeveral, Runs, Covers, Consolidates, Asks, Lacks, Exceeds};
 
 /// Words that are commands.
 pub fn accepted()
     ensures compile { Compiles }
+    ensures several { CompilesSeveral }
     ensures run { Runs }
     ensures coverage { Covers }
     ensures consolidate { Consolidates }

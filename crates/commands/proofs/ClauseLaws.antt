@@ -3,13 +3,14 @@ use Rattle.std.proofs.Common.{◌≡◌, ◌≢◌, ◌⊎◌, ℕ, ◌+◌, Lis
 use Rattle.std.specs.FinMap as finmap
 use Rattle.std.specs.List.{AllByRecursion}
 use Rattle.command_words.specs.Task.{Task, Compile, Run, Coverage, Consolidate}
+use Rattle.cov_base.specs.declared.obligations.SourceFile.{SourceFile}
 use Rattle.cov_io.specs.Outside.{Held, WhereTold, Replaces, SameBut}
 use Rattle.commands.specs.declared.status.Status.{Status}
 use Rattle.commands.specs.declared.status.Status.TheVariants.{Done, Usage, SourceRefused, ObjectRefused, TraceRefused, InputRefused, OverBudget, Trap, ReadFault, WriteFault, WantOfMemory}
 use Rattle.commands.specs.Clauses.{UsageIsExact, AreThere, DoneIsWhole, RefusalsLeaveFiles, OthersStay, RefusalsPutOneLine, RisenReadsAreTold, ReadFaultHasCause, WriteFaultHasCause}
 use Rattle.commands.specs.Outcome.{Call, Answers, Because, HasFile, HasSpoilt, IsNamed, Delivered}
 use Rattle.commands.specs.TaskFiles.{output_of}
-use Rattle.commands.specs.Verdict.{NewFile, Output, AfterTraces, Covers, Consolidates, ComesTo}
+use Rattle.commands.specs.Verdict.{NewFile, Output, AfterSources, AfterTraces, Compiles, Covers, Consolidates, ComesTo}
 use Rattle.object_format.specs.declared.object.Object.{Object}
 
 -- an output, as a verdict
@@ -42,10 +43,19 @@ traces_there held o number (name ∷ names) Then output h =
     (λ trace next. traces_there held o (number + 1) names (λ traces. Then (trace ∷ traces)) output next.1) in
     (first.0, others)
 
+-- each source is there where reading them came to an output
+sources_there : (held : Held) (place : ℕ) (names : List (List ℕ)) (Then : List SourceFile → Result Output Status → Type 0) (output : Output)
+    → AfterSources held place names Then (Ok output) → AllByRecursion (λ name. IsSome (finmap.get held name)) names
+sources_there held place [] Then output h = tt
+sources_there held place (name ∷ names) Then output h =
+    let first = read_there (finmap.get held name) _ output _ h in
+    let others = some_there (finmap.get held name) _ _ first.0 first.1
+    (λ bytes next. sources_there held (place + 1) names (λ others. Then (record { name = name; bytes = bytes } ∷ others)) output next) in
+    (first.0, others)
+
 -- each file is there where the task came to an output
 there : (held : Held) (task : Task) (output : Output) → ComesTo held task (Ok output) → AreThere (Some held) task
-there held (Compile main object source) output h =
-    ((read_there (finmap.get held source) _ output _ h).0, tt)
+there held (Compile main object sources) output h = sources_there held 0 sources (Compiles main object) output h
 there held (Run input budget trace object) output h =
     let first = read_there (finmap.get held object) _ output _ h in
     let second = some_there (finmap.get held object) _ _ first.0 (passed (finmap.get held object) (λ _. ⊥) _ first.1) (λ bytes next. (read_there (finmap.get held input) _ output _ next.2).0) in

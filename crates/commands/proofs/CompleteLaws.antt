@@ -1,5 +1,5 @@
 -- When commands do their work.
-use Rattle.std.proofs.Common.{◌≡◌, inl, inr, ⊎_elim, ℕ, ◌+◌, ◌&&◌, Bool, true, false, ℤ, List, [], ◌∷◌, IfSome, MatchOption, Option, Some, None, Result, Ok, Err, refl, sym, subst, ◌∙◌}
+use Rattle.std.proofs.Common.{◌≡◌, inl, inr, ⊎_elim, ℕ, ◌+◌, ◌&&◌, Bool, true, false, ℤ, List, [], ◌∷◌, map, IfSome, MatchOption, Option, Some, None, Result, Ok, Err, refl, sym, subst, ◌∙◌}
 use Rattle.std.specs.FinMap as finmap
 use Rattle.ada_meaning.specs.Program.{Program}
 use Rattle.command_words.specs.Task.{Task, Compile, Run, Coverage, Consolidate}
@@ -17,13 +17,14 @@ use Rattle.coverage_set.specs.Consolidated.{events_in, IsPossibleEvent}
 use Rattle.decision_map.specs.Fits.{fault_of}
 use Rattle.cov_base.specs.Lists.{Everywhere, Somewhere}
 use Rattle.commands.specs.Complete.{NothingFails, IsDone, LegalSourcesCompile, ProgramsRun, ProgramsDoNotTrap, TracesAreCovered, TracesAreConsolidated}
-use Rattle.commands.specs.Content.{IsFileOf, is_consolidated, IsConsolidatedFor, IsRunTraceFor, IsTraceFor, sources_of, IsInputOf, RefusesSource, RefusesConsolidated, RefusesRunTrace, RefusesTrace, StopsRun, trace_file, Follows}
+use Rattle.commands.specs.Content.{IsFileOf, is_consolidated, IsConsolidatedFor, IsRunTraceFor, IsTraceFor, IsInputOf, RefusesSources, RefusesConsolidated, RefusesRunTrace, RefusesTrace, StopsRun, trace_file, Follows}
 use Rattle.commands.specs.declared.status.FileRef.TheVariants.{Word}
 use Rattle.commands.specs.declared.status.Status.{Status}
 use Rattle.commands.specs.declared.status.Status.TheVariants.{Done, Usage, SourceRefused, ObjectRefused, TraceRefused, InputRefused, OverBudget, Trap, ReadFault, WriteFault, WantOfMemory}
 use Rattle.commands.specs.Outcome.{Call, Because, Answers}
 use Rattle.commands.specs.RunsCovered.{ARun, transcript_of, IsTraceOf, IsFileOfRuns, IsWrittenOf, AreTracesOf, digest_of_run}
-use Rattle.commands.specs.Verdict.{Output, AfterRead, AfterObject, AfterInput, AfterTrace, AfterTraces, Compiles, RunsOn, Covers, Consolidates, ComesTo}
+use Rattle.commands.specs.TaskFiles.{AreHeld}
+use Rattle.commands.specs.Verdict.{Output, AfterRead, AfterObject, AfterInput, AfterSources, AfterTrace, AfterTraces, Compiles, RunsOn, Covers, Consolidates, ComesTo}
 use Rattle.commands.proofs.CoveringLaws.{as_consolidated, as_trace}
 use Rattle.commands.proofs.FileLaws.{file_fits, file_kind}
 use Rattle.commands.proofs.HeadlineLaws.{is_file, all_fair}
@@ -122,14 +123,22 @@ of_read held place name bytes Then s there says = rw there at says
 
 -- ---- compile
 
+-- what follows of sources that are there
+of_sources : (held : Held) (place : ℕ) (sources : List SourceFile) (Then : List SourceFile → Result Output Status → Type 0) (s : Status) → AreHeld held sources
+    → AfterSources held place (map (λ source. source.name) sources) Then (refused s) → Then sources (refused s)
+of_sources held place [] Then s there says = says
+of_sources held place (source ∷ sources) Then s there says =
+    of_sources held (place + 1) sources (λ others. Then (source ∷ others)) s there.1 (rw there.0 at says)
+
 pub compile_law : (task : Option Task) (call : Call) (status : Status) → Answers task call status → LegalSourcesCompile task call status
 unfolding LegalSourcesCompile
-compile_law task call status answers = λ held main object name holds is fine source p there legal.
-    done_unless held (Compile main object name) call status holds fine
+compile_law task call status answers = λ held main object names holds is fine sources p named there legal.
+    done_unless held (Compile main object names) call status holds fine
     (λ s comes.
-    let refuses : RefusesSource main name source s = of_read held 0 name source (Compiles main object name) s there comes in
-    not_refused (sources_of name source) main p refuses.0 legal refuses.1)
-    (asked (Compile main object name) task call status is answers)
+    let refuses : RefusesSources main sources s =
+    of_sources held 0 sources (Compiles main object) s there (subst (λ (ns : List (List ℕ)). AfterSources held 0 ns (Compiles main object) (refused s)) (sym named) comes) in
+    not_refused sources main p refuses.0 legal refuses.1)
+    (asked (Compile main object names) task call status is answers)
 
 -- ---- run
 

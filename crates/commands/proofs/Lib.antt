@@ -4,6 +4,7 @@ pub mod DecisionLaws
 pub mod ObjectLaws
 pub mod RefusalLaws
 pub mod RunLaws
+pub mod SourceLaws
 pub mod StopLaws
 pub mod RunsLaw
 pub mod HeadlineLaws

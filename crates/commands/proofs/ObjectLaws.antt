@@ -1,16 +1,16 @@
 -- What the layers ask of an object, from what is known of it.
-use Rattle.std.proofs.Common.{◌≡◌, ℕ, ◌<◌, ◌≤◌, IsTrue, IsUtf8, List, [], ◌∷◌, length, All, inl, inr, ap, subst, ◌∙◌, arith, lit<, lit≤}
+use Rattle.std.proofs.Common.{◌≡◌, ℕ, ◌≤◌, ◌++◌, IsTrue, IsUtf8, List, [], ◌∷◌, length, All, inl, inr, ap, ◌∙◌, arith}
 use Rattle.std.proofs.lemmas.Bool.{and_parts}
-use Rattle.std.proofs.lemmas.List.Elements.{All-nil, All-cons}
+use Rattle.std.proofs.lemmas.List.Elements.{All-nil, All-cons, All-append}
 use Rattle.std.specs.Str.{is_utf8}
 use Rattle.std.proofs.lemmas.Str.{is_utf8-from_IsUtf8}
-use Rattle.commands.specs.Content.{RefusesSource, sources_of}
+use Rattle.commands.specs.Content.{RefusesSources}
 use Rattle.commands.specs.declared.status.Status.{Status}
 use Rattle.commands.specs.Failures.{source_status}
 use Rattle.commands.specs.Reading.{UnlessMemory}
 use Rattle.compiler.specs.Built.{HasPlainName}
 use Rattle.compiler.specs.declared.fault.SourceFault.{SourceFault}
-use Rattle.compiler.specs.Legal.{AreRefused, RefusesFor}
+use Rattle.compiler.specs.Legal.{RefusesFor}
 use Rattle.cov_base.specs.declared.failure.Failure.{Failure}
 use Rattle.cov_base.specs.declared.failure.Failure.TheVariants.{Fault}
 use Rattle.cov_base.specs.declared.failure.Failure.TheVariants as failures
@@ -33,20 +33,21 @@ few_words o is = (has_map o is).few
 pub placed : (o : Object) → IsObject o → IsTrue (is_placed o)
 placed o is = (and_parts _ _ (and_parts _ _ (and_parts _ _ (and_parts _ _ is.sound.field).0).0).0).0
 
--- a source that is alone, with a name that a command has, can be compiled
-pub one_source : (f : SourceFile) (files : List SourceFile) → files ≡ f ∷ [] → (0 < length files) × (length files ≤ 64)
-one_source f files alone = rw alone (lit< tt, lit≤ tt)
+-- a source with a name that a command has can be named by an object
+pub plain_name : (source : SourceFile) (name : List ℕ) → source.name ≡ name → IsUtf8 name → length name ≤ 4096 → HasPlainName source
+plain_name source name named text short =
+    (ap is_utf8 named ∙ is_utf8-from_IsUtf8 name text, omega (arith, ap (λ (n : List ℕ). length n) named, short))
 
-pub one_named : (f : SourceFile) (files : List SourceFile) (name : List ℕ) → files ≡ f ∷ [] → f.name ≡ name → IsUtf8 name → length name ≤ 4096 → All HasPlainName files
-one_named f files name alone named text short =
-    let plain : HasPlainName f = (ap is_utf8 named ∙ is_utf8-from_IsUtf8 name text, omega (arith, ap (λ (n : List ℕ). length n) named, short)) in
-    rw alone (All-cons HasPlainName f [] plain (All-nil HasPlainName))
+-- one more such source
+pub one_more_plain : (sources more : List SourceFile) (source : SourceFile) → more ≡ sources ++ (source ∷ []) → All HasPlainName sources → HasPlainName source
+    → All HasPlainName more
+one_more_plain sources more source is plain one =
+    rw is (All-append HasPlainName sources (source ∷ []) plain (All-cons HasPlainName source [] one (All-nil HasPlainName)))
 
 -- ---- sources
 
--- why sources are refused, as the status of a source alone
-pub source_refused : (main name source : List ℕ) (files : List SourceFile) (failure : Failure SourceFault) (status : Status) → files ≡ sources_of name source
-    → RefusesFor files main failure → status ≡ source_status failure → UnlessMemory (RefusesSource main name source) status
-source_refused main name source files (Fault fault) status are refused is =
-    inr (fault, subst (λ (files : List SourceFile). AreRefused files main fault) are refused, is)
-source_refused main name source files failures.WantOfMemory status are refused is = inl is
+-- why sources are refused, as a status
+pub sources_refused : (main : List ℕ) (sources : List SourceFile) (failure : Failure SourceFault) (status : Status)
+    → RefusesFor sources main failure → status ≡ source_status failure → UnlessMemory (RefusesSources main sources) status
+sources_refused main sources (Fault fault) status refused is = inr (fault, refused, is)
+sources_refused main sources failures.WantOfMemory status refused is = inl is

@@ -76,19 +76,19 @@ got_map now [] i d empty = empty
 got_map now (x ∷ xs) zero d empty = refl
 got_map now (x ∷ xs) (suc i) d empty = got_map now xs i d empty
 
--- the name in a place behind the first
-named_later : {X : Type 0} (now : X → List ℕ) (first : List ℕ) (later : List X) (place p : ℕ) (d result : X)
-    → 1 ≤ place → p ≡ place - 1 → now d ≡ [] → result ≡ get_or later p d
-    → now result ≡ unwrap_or (slice_get (first ∷ map now later) place) []
-named_later now first later zero p d result some is empty found = absurd (omega (arith, some))
-named_later now first later (suc place) p d result some is empty found =
-    let same : p ≡ place = omega (arith, is) in
-    ap now found ∙ got_map now later p d empty ∙ sym (unwrap_or-slice_get (map now later) p [])
-    ∙ ap (λ (i : ℕ). unwrap_or (slice_get (map now later) i) []) same
+-- the name in a place, which was looked up, and is empty where there is none
+pub named_at : {X : Type 0} (now : X → List ℕ) (names : List X) (place : ℕ) (o o' : Option X) (d result : X)
+    → result ≡ unwrap_or o d → o ≡ o' → (place ≤ place → (e : X) → unwrap_or o' e ≡ get_or names place e) → now d ≡ []
+    → now result ≡ unwrap_or (slice_get (map now names) place) []
+named_at now names place o o' d result taken same looked empty =
+    ap now (taken ∙ ap (λ x. unwrap_or x d) same ∙ looked (omega arith) d) ∙ got_map now names place d empty
+    ∙ sym (unwrap_or-slice_get (map now names) place [])
 
--- the same of what was looked up, and taken by default
-pub named_or : {X : Type 0} (now : X → List ℕ) (first : List ℕ) (later : List X) (place p : ℕ) (o o' : Option X) (d result : X)
-    → 1 ≤ place → p ≡ place - 1 → result ≡ unwrap_or o d → o ≡ o' → (p ≤ p → (e : X) → unwrap_or o' e ≡ get_or later p e) → now d ≡ []
-    → now result ≡ unwrap_or (slice_get (first ∷ map now later) place) []
-named_or now first later place p o o' d result some is taken same looked empty =
-    named_later now first later place p d result some is empty (taken ∙ ap (λ x. unwrap_or x d) same ∙ looked (omega arith) d)
+-- the same behind a first name
+pub behind_first : (first : List ℕ) (later : List (List ℕ)) (place p : ℕ) (result : List ℕ)
+    → 1 ≤ place → p ≡ place - 1 → result ≡ unwrap_or (slice_get later p) []
+    → result ≡ unwrap_or (slice_get (first ∷ later) place) []
+behind_first first later zero p result some is found = absurd (omega (arith, some))
+behind_first first later (suc place) p result some is found =
+    let same : p ≡ place = omega (arith, is) in
+    found ∙ ap (λ (i : ℕ). unwrap_or (slice_get later i) []) same

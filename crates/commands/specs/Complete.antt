@@ -1,5 +1,5 @@
 -- When a command does its work: where nothing outside fails, it is done or memory is wanting.
-use Rattle.std.specs.Prelude.{◌≡◌, ◌⊎◌, ℕ, ◌+◌, ◌*◌, ◌≤◌, ℤ, List, Option, Some}
+use Rattle.std.specs.Prelude.{◌≡◌, ◌⊎◌, ℕ, ◌+◌, ◌*◌, ◌≤◌, ℤ, List, map, Option, Some}
 use Rattle.std.specs.FinMap as finmap
 use Rattle.ada_meaning.specs.Execution.{Execution, Ends}
 use Rattle.ada_meaning.specs.Program.{Program}
@@ -11,11 +11,12 @@ use Rattle.cov_base.specs.declared.level.Level.{Level}
 use Rattle.cov_base.specs.declared.obligations.SourceFile.{SourceFile}
 use Rattle.cov_io.specs.Outside.{Held, Rose}
 use Rattle.cov_base.specs.Lists.{Everywhere}
-use Rattle.commands.specs.Content.{sources_of, IsInputOf}
+use Rattle.commands.specs.Content.{IsInputOf}
 use Rattle.commands.specs.declared.status.Status.{Status}
 use Rattle.commands.specs.declared.status.Status.TheVariants.{Done, Trap, WantOfMemory}
 use Rattle.commands.specs.Outcome.{Call}
 use Rattle.commands.specs.RunsCovered.{ARun, AreTracesOf}
+use Rattle.commands.specs.TaskFiles.{AreHeld}
 use Rattle.kernel_code.specs.Whole.{IsInput}
 use Rattle.object_format.specs.declared.object.Object.{Object}
 use Rattle.object_format.specs.File.{object_bytes}
@@ -31,11 +32,13 @@ pub record NothingFails (call : Call) : Type 0 where
 abbrev pub IsDone : Status → Type 0
 IsDone status = (status ≡ Done) ⊎ (status ≡ WantOfMemory)
 
--- a legal source that is there is compiled
+-- legal sources that are there are compiled
 unfoldable pub LegalSourcesCompile : Option Task → Call → Status → Type 0
 LegalSourcesCompile task call status =
-    (held : Held) (main object name : List ℕ) → call.held ≡ Some held → task ≡ Some (Compile main object name) → NothingFails call
-    → (source : List ℕ) (p : Program) → finmap.get held name ≡ Some source → IsLegal (sources_of name source) main p → IsDone status
+    (held : Held) (main object : List ℕ) (names : List (List ℕ))
+    → call.held ≡ Some held → task ≡ Some (Compile main object names) → NothingFails call
+    → (sources : List SourceFile) (p : Program) → map (λ source. source.name) sources ≡ names → AreHeld held sources
+    → IsLegal sources main p → IsDone status
 
 -- a run of a program's object on an input ends where the program's execution does, within 500 instructions for each unit of its cost, and
 -- 5,000 beside

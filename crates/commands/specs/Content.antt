@@ -1,6 +1,6 @@
 -- What a command's answer says of the bytes that it read. This is the one place for it: what is written here is a
 -- clause of the program's public call, since `ComesTo` is made of these words and of nothing else.
-use Rattle.std.specs.Prelude.{◌≡◌, ◌≢◌, ◌↔◌, ◌⊎◌, ℕ, ℤ, ◌++◌, Bool, true, false, nat_eq, List, [], ◌∷◌, length, map, sum_by, codes, AllPairs, Some, None, Ok, Err}
+use Rattle.std.specs.Prelude.{◌≡◌, ◌≢◌, ◌↔◌, ◌⊎◌, ℕ, ℤ, ◌++◌, Bool, true, false, nat_eq, List, [], length, map, sum_by, codes, AllPairs, Some, None, Ok, Err}
 use Rattle.std.specs.Fmt.{decimal}
 use Rattle.std.specs.List.{AllByRecursion, starts_with}
 use Rattle.annotated_report.specs.Report.{report_text}
@@ -112,13 +112,10 @@ BreaksIn o bytes place =
 abbrev pub refused_for : SourceFault → Status
 refused_for fault = SourceRefused fault.file fault.line fault.col fault.why
 
--- the sources of a compilation: so far one, of this name, with these bytes
-abbrev pub sources_of : (name source : List ℕ) → List SourceFile
-sources_of name source = record { name = name; bytes = source } ∷ []
-
--- the source of this name is no legal program whose main unit is called so, and this is its first fault
-abbrev pub RefusesSource : (main name source : List ℕ) → Status → Type 0
-RefusesSource main name source status = (fault : SourceFault) × AreRefused (sources_of name source) main fault × (status ≡ refused_for fault)
+-- these sources are no legal program whose main unit is called so, and this is their first fault
+abbrev pub RefusesSources : (main : List ℕ) → List SourceFile → Status → Type 0
+RefusesSources main sources status =
+    (fault : SourceFault) × AreRefused sources main fault × (status ≡ refused_for fault)
 
 -- how many conditions the decisions of an object have
 abbrev pub condition_count : Object → ℕ
@@ -132,12 +129,13 @@ object_lines o =
     ++ (codes " decisions, " ++ (decimal (condition_count o)
     ++ (codes " conditions\nobject: " ++ (encode_lower o.closing ++ codes "\n")))))))
 
--- the source is a legal program; the file is that of an object of it, which is cheap, and the text tells that object's counts and digest
-pub record CompilesTo (main name source : List ℕ) (made : Made) : Type 0 where
+-- these sources are a legal program; the file is that of an object of it, which is cheap, and the text tells that
+-- object's counts and digest
+pub record CompilesTo (main : List ℕ) (sources : List SourceFile) (made : Made) : Type 0 where
   pub program : Program
   pub object : Object
-  pub of_program : IsObjectOf (sources_of name source) main program object
-  pub cheap : IsCheap (sources_of name source) main program object
+  pub of_program : IsObjectOf sources main program object
+  pub cheap : IsCheap sources main program object
   pub spelled : made.file ≡ object_bytes object
   pub told : made.text ≡ object_lines object
 

@@ -1,6 +1,7 @@
 -- What reading files says.
-use Rattle.std.specs.Prelude.{◌≡◌, ℕ, ◌+◌, List, [], ◌∷◌, ◌++◌, length, take, Option, IfSome, IsSomeAnd, ◌⊎◌}
+use Rattle.std.specs.Prelude.{◌≡◌, ℕ, ◌+◌, List, [], ◌∷◌, ◌++◌, length, map, take, Option, IfSome, IsSomeAnd, ◌⊎◌}
 use Rattle.std.specs.FinMap as finmap
+use Rattle.cov_base.specs.declared.obligations.SourceFile.{SourceFile}
 use Rattle.cov_io.specs.Outside.{Held, Holds, Rose, IsAbsent}
 use Rattle.commands.specs.Content.{IsTraceFor, IsRunTraceFor, RefusesTrace, RefusesRunTrace}
 use Rattle.commands.specs.Covering.{Adds, AddsRun}
@@ -8,6 +9,7 @@ use Rattle.commands.specs.declared.status.Status.{Status}
 use Rattle.commands.specs.declared.status.Status.TheVariants.{WantOfMemory, ReadFault, TraceRefused}
 use Rattle.commands.specs.declared.status.TraceWhy.{TraceWhy}
 use Rattle.commands.specs.declared.status.FileRef.TheVariants.{Word}
+use Rattle.commands.specs.TaskFiles.{AreHeld}
 use Rattle.coverage_set.specs.Covered.{Covered}
 use Rattle.object_format.specs.declared.object.Object.{Object}
 use Rattle.trace_format.specs.Stream.{AreTold}
@@ -20,6 +22,26 @@ IsUnread place name held reads reads' status =
 -- the answer of a check, unless memory was refused
 abbrev pub UnlessMemory : (Status → Type 0) → Status → Type 0
 UnlessMemory Says status = (status ≡ WantOfMemory) ⊎ Says status
+
+-- ---- sources
+
+-- where the files tell what they hold, each of these sources has the bytes of the file of its name
+abbrev pub WereHeld : Option Held → List SourceFile → Type 0
+WereHeld held sources = IfSome held (λ told. AreHeld told sources)
+
+-- the files of these names were read, and are these sources
+pub record WereSources (names : List (List ℕ)) (held : Option Held) (sources : List SourceFile) : Type 0 where
+  pub named : map (λ source. source.name) sources ≡ names
+  pub read : WereHeld held sources
+
+-- one of the files of these names, the first in place 0, was not read, and those before it were
+pub record StopsReading (names : List (List ℕ)) (held : Option Held) (reads reads' : ℕ) (status : Status) : Type 0 where
+  pub earlier : List SourceFile
+  pub name : List ℕ
+  pub later : List (List ℕ)
+  pub are : names ≡ map (λ source. source.name) earlier ++ (name ∷ later)
+  pub read : WereHeld held earlier
+  pub unread : IsUnread (length earlier) name held reads reads' status
 
 -- ---- one trace after another
 

@@ -3,9 +3,10 @@ use Rattle.std.specs.Prelude.{◌≡◌, ℕ, ◌+◌, ◌<◌, ℤ, List, [], �
 use Rattle.std.specs.FinMap as finmap
 use Rattle.cov_base.specs.declared.level.Annotation.{Annotation}
 use Rattle.cov_base.specs.declared.level.Level.{Level}
+use Rattle.cov_base.specs.declared.obligations.SourceFile.{SourceFile}
 use Rattle.command_words.specs.Task.{Task, Compile, Run, Coverage, Consolidate}
 use Rattle.cov_io.specs.Outside.{Held}
-use Rattle.commands.specs.Content.{Made, IsFileOf, RefusesSource, CompilesTo, RefusesObject, IsInputOf, RefusesInput, StopsRun, RunsTo, IsTraceFor, RefusesTrace, Reports, ConsolidatesTo}
+use Rattle.commands.specs.Content.{Made, IsFileOf, RefusesSources, CompilesTo, RefusesObject, IsInputOf, RefusesInput, StopsRun, RunsTo, IsTraceFor, RefusesTrace, Reports, ConsolidatesTo}
 use Rattle.commands.specs.declared.status.FileRef.{FileRef}
 use Rattle.commands.specs.declared.status.FileRef.TheVariants.{Word}
 use Rattle.commands.specs.declared.status.Status.{Status}
@@ -38,10 +39,20 @@ abbrev pub Writes : List ℕ → Output → (Made → Type 0) → Type 0
 Writes name output Says =
     (bytes : List ℕ) × (output.file ≡ Some (record { name = name; bytes = bytes })) × Says (record { file = bytes; text = output.text })
 
--- the source was read
-abbrev pub Compiles : (main object name source : List ℕ) → Result Output Status → Type 0
-Compiles main object name source verdict =
-    MatchResult verdict (λ output. Writes object output (CompilesTo main name source)) (RefusesSource main name source)
+-- the files of these names are read one after another, the first in this place, and what follows holds of all of them,
+-- as sources; nothing is checked before the last is read
+abbrev pub AfterSources : Held → (place : ℕ) → (names : List (List ℕ))
+    → (List SourceFile → Result Output Status → Type 0) → Result Output Status → Type 0
+AfterSources held place [] Then verdict = Then [] verdict
+AfterSources held place (name ∷ names) Then verdict =
+    AfterRead held place name
+    (λ bytes. AfterSources held (place + 1) names (λ others. Then (record { name = name; bytes = bytes } ∷ others)))
+    verdict
+
+-- the sources were read
+abbrev pub Compiles : (main object : List ℕ) → List SourceFile → Result Output Status → Type 0
+Compiles main object sources verdict =
+    MatchResult verdict (λ output. Writes object output (CompilesTo main sources)) (RefusesSources main sources)
 
 -- the bytes are an input, and what follows holds of its numbers; or they are none, and that is the answer
 abbrev pub AfterInput : List ℕ → (List ℤ → Result Output Status → Type 0) → Result Output Status → Type 0
@@ -73,7 +84,7 @@ Consolidates name o traces verdict = IsOkAnd verdict (λ output. Writes name out
 
 -- what the task comes to
 abbrev pub ComesTo : Held → Task → Result Output Status → Type 0
-ComesTo held (Compile main object source) verdict = AfterRead held 0 source (Compiles main object source) verdict
+ComesTo held (Compile main object sources) verdict = AfterSources held 0 sources (Compiles main object) verdict
 ComesTo held (Run input budget trace object) verdict =
     AfterRead held 0 object
     (λ bytes. AfterObject bytes (λ o. AfterRead held 1 input (λ bytes. AfterInput bytes (RunsOn trace budget o))))

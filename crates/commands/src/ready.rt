@@ -23,6 +23,7 @@ mod consolidate;
 mod coverage;
 mod report;
 mod run;
+mod sources;
 mod traces;
 
 /// A file to be written.
@@ -55,8 +56,8 @@ pub fn prepare<'a, F: Files>(
         Command::Compile {
             main,
             object,
-            source,
-        } => compile::prepare(alloc, main, object, source, files),
+            sources,
+        } => compile::prepare(alloc, main, object, sources.as_slice(), files),
         Command::Run {
             input,
             budget,

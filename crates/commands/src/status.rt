@@ -40,7 +40,7 @@ pub enum Status {
     Done,
     /// The words are no command.
     Usage,
-    /// A source is no legal program. Files are counted from 0, lines and columns from 1.
+    /// The sources are no legal program. Files are counted from 0, lines and columns from 1.
     SourceRefused {
         file: u32,
         line: u32,

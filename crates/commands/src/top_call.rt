@@ -201,7 +201,7 @@ fn name_at<'a>(command: &Command<'a>, file: FileRef) -> &'a str
 {
     let FileRef::Word(place) = file;
     match command {
-        Command::Compile { source, .. } => among(place, source, &[]),
+        Command::Compile { sources, .. } => one_of(place, sources.as_slice()),
         Command::Run { input, object, .. } => among(place, object, &[*input]),
         Command::Coverage { object, traces, .. } | Command::Consolidate { object, traces, .. } => {
             among(place, object, traces.as_slice())
@@ -215,8 +215,15 @@ fn among<'a>(place: u32, first: &'a str, later: &[&'a str]) -> &'a str
 {
     match place.checked_sub(1) {
         None => first,
-        Some(place) => later.get(place as usize).copied().unwrap_or(""),
+        Some(place) => one_of(place, later),
     }
+}
+
+/// The name in a place from 0 among these; none has a name beyond.
+fn one_of<'a>(place: u32, names: &[&'a str]) -> &'a str
+    ensures { result.now ≡ unwrap_or (slice_get (map (λ name. name.now) names.now) place) [] }
+{
+    names.get(place as usize).copied().unwrap_or("")
 }
 
 /// Puts a line. Where that fails there is nothing left to tell it by.

@@ -16,24 +16,25 @@ use Rattle.ada_tree.specs.declared.program.UnitRole.{UnitRole}
 use Rattle.checker.specs.Checking.{whole_library}
 use Rattle.checker.specs.Entries.{entries_from, entries_of}
 use Rattle.generic_expand.specs.Expanded.{node_limit, expanded_nodes, past_nodes, first_past}
-use Rattle.legal_levels.specs.Levels.{AreSubprogramUnits, AreOwnInterfaces}
+use Rattle.legal_levels.specs.Levels.{AreOwnInterfaces}
 use Rattle.legal_levels.proofs.OwnInterfaces.{own_interfaces}
+use Rattle.legal_programs.specs.PlainUnits.{ArePlainUnits}
 use Rattle.compiler.specs.Legal.{entries_in}
 use Rattle.compiler.specs.Texts.{AreUnitsOf}
-use Rattle.compiler.proofs.PlainUnits.{once_law, subprogram_units}
+use Rattle.compiler.proofs.PlainUnits.{once_law, plain_units}
 
 within_limit : (n more : ℕ) → nat_lt node_limit (n + more) ≡ false → n + more ≤ node_limit
 within_limit n more past = grind (arith, nat_tests)
 
 -- the nodes so far, and those of units that count once
-few_from : (w : World) (l : RulesLibrary) (own : AreOwnInterfaces w) (all : List UnitEntry) (n k : ℕ) (units : List LibraryUnit) → AreSubprogramUnits units → n ≤ node_limit
+few_from : (w : World) (l : RulesLibrary) (own : AreOwnInterfaces w) (all : List UnitEntry) (n k : ℕ) (units : List LibraryUnit) → n ≤ node_limit
     → past_nodes all n (entries_from w l k units) ≡ None → n + sum_by (λ u. capped (unit_nodes u)) units ≤ node_limit
-few_from w l own all n k [] subs low none = omega (arith, low)
-few_from w l own all n k (u ∷ us) subs low none =
+few_from w l own all n k [] low none = omega (arith, low)
+few_from w l own all n k (u ∷ us) low none =
     let sum = sum_by-cons (λ v. capped (unit_nodes v)) u us in
-    let once = once_law w l k u.item own subs.0 in
+    let once = once_law w l k u.item own in
     let next = by_test (nat_lt node_limit (n + here)) refl (subst (λ (r : UnitRole). (if nat_lt node_limit (n + expanded_nodes all r here) then Some u.pos else past_nodes all (n + expanded_nodes all r here) (entries_from w l (k + 1) us)) ≡ None) once none)
-    (λ within rest. few_from w l own all (n + here) (k + 1) us subs.1 within rest) in
+    (λ within rest. few_from w l own all (n + here) (k + 1) us within rest) in
     omega (arith, sum, next)
   where
     here : ℕ
@@ -54,10 +55,10 @@ none_refused l main (Ok y) types p q h is =
     let x : ⊥ = cc refused in
     x
 
-few_in : (units : List LibraryUnit) (main : List ℕ) (r : Result Walked Pos) → (judged_in typing (whole_library units) main).answer ≡ r → AreSubprogramUnits units
+few_in : (units : List LibraryUnit) (main : List ℕ) (r : Result Walked Pos) → (judged_in typing (whole_library units) main).answer ≡ r → ArePlainUnits units
     → (p : Program) → checked units main ≡ legal p → first_past 0 (entries_in (whole_library units) r) ≡ None → sum_by (λ u. capped (unit_nodes u)) units ≤ 4096
 few_in units main (Ok x) is subs p h none =
-    let few = few_from x.world (whole_library units) (own_interfaces typing (whole_library units) main x is subs) (entries_of x.world (whole_library units)) 0 0 units subs (omega arith) none in
+    let few = few_from x.world (whole_library units) (own_interfaces typing (whole_library units) main x is subs) (entries_of x.world (whole_library units)) 0 0 units (omega arith) none in
     omega (arith, few)
 few_in units main (Err q) is subs p h none =
     absurd (none_refused (whole_library units) main (judged_in naming (whole_library units) main).answer (judged_in typing (whole_library units) main).answer p q h is)
@@ -75,6 +76,6 @@ not_capped (u ∷ us) limit is few =
 -- the units of a program come to no more nodes than the limit
 pub few_units : (files : ℕ) (units : List LibraryUnit) (main : List ℕ) (p : Program) → AreUnitsOf files units main p → sum_by unit_nodes units ≤ 4096
 few_units files units main p h =
-    let counted = few_in units main (judged_in typing (whole_library units) main).answer refl (subprogram_units files units main p h) p h.program.legal h.program.few in
+    let counted = few_in units main (judged_in typing (whole_library units) main).answer refl (plain_units files units main p h) p h.program.legal h.program.few in
     let all = not_capped units 4096 (omega arith) counted in
     omega (arith, counted, all)

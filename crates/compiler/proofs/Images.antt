@@ -1,5 +1,5 @@
 -- The object that holds the linked pieces of a program's kernel behaves as the program.
-use Rattle.std.proofs.Common.{◌≡◌, ℕ, ℤ, List, [], find, option_map, refl, sym, ap, ◌∙◌, ◌==◌}
+use Rattle.std.proofs.Common.{◌≡◌, ℕ, ℤ, List, find, option_map, refl, sym, ap, ◌∙◌, ◌==◌}
 use Rattle.std.specs.Option.{option_and_then}
 use Rattle.ada_meaning.specs.Program.{Program}
 use Rattle.assembler.specs.Laws.{ArePlaced}
@@ -39,15 +39,15 @@ use Rattle.rv_semantics.specs.Run.{runs}
 use Rattle.rv_semantics.specs.State.{start}
 
 -- the marks of placed pieces are what the object says of the items' addresses
-marks_are_kept : (o : Object) (k : Kernel) → o.rows ≡ (linked (kernel_pieces k) []).rows → o.roles ≡ (linked (kernel_pieces k) []).roles → HaveMarks (facts_of o) (kernel_pieces k)
+marks_are_kept : (o : Object) (k : Kernel) → o.rows ≡ (linked (kernel_pieces k) k.library).rows → o.roles ≡ (linked (kernel_pieces k) k.library).roles → HaveMarks (facts_of o) (kernel_pieces k)
 marks_are_kept o k rows roles = record {
   rows = λ n piece j there within.
       ap (λ (lines : List Line). option_map row_of (find (λ (line : Line). line.address == address_of (labels (kernel_pieces k)) n j) lines)) rows
-      ∙ ap (option_map row_of) (rows_are_found (kernel_pieces k) [] n piece j (pieces_are_marked k).marks there within)
+      ∙ ap (option_map row_of) (rows_are_found (kernel_pieces k) k.library n piece j (pieces_are_marked k).marks there within)
       ∙ rows_kept (address_of (labels (kernel_pieces k)) n j) j piece.marks;
   conditions = λ n piece j there within.
       ap (λ (rs : List Role). option_map condition_of (option_and_then map.condition_of (find (λ role. role.address == address_of (labels (kernel_pieces k)) n j) rs))) roles
-      ∙ ap (λ r. option_map condition_of (option_and_then map.condition_of r)) (roles_are_found (kernel_pieces k) [] n piece j (pieces_are_marked k).marks there within)
+      ∙ ap (λ r. option_map condition_of (option_and_then map.condition_of r)) (roles_are_found (kernel_pieces k) k.library n piece j (pieces_are_marked k).marks there within)
       ∙ conditions_kept (address_of (labels (kernel_pieces k)) n j) j piece.marks;
 }
 
@@ -71,16 +71,16 @@ implements p o able made sound =
     (placed_kernels_hold (object_image o) (facts_of o) pieces k placed (marks_are_kept o k holds.rows holds.roles) (pieces_are_marked k).have (fair o sound) holds.exceptions) formed within
 
 -- the machine of an object that holds the image of a program's kernel is the kernel's
-same_run : (k : Kernel) (o : Object) → k.library ≡ [] → HoldsImage k o → (budget : ℕ) (input : List ℤ) → object_run o budget input ≡ run_on (site_in o k) k input budget
-same_run k o bare holds budget input =
+same_run : (k : Kernel) (o : Object) → HoldsImage k o → (budget : ℕ) (input : List ℤ) → object_run o budget input ≡ run_on (site_in o k) k input budget
+same_run k o holds budget input =
     ap (λ entry. runs (object_image o) budget (start (object_image o) entry o.init_at o.init) input) holds.entry
     ∙ ap (λ at. runs (object_image o) budget (start (object_image o) (address_of (labels (kernel_pieces k)) 0 0) at o.init) input) holds.init_at
-    ∙ ap (λ words. runs (object_image o) budget (start (object_image o) (address_of (labels (kernel_pieces k)) 0 0) data_start words) input) (holds.init ∙ sym bare)
+    ∙ ap (λ words. runs (object_image o) budget (start (object_image o) (address_of (labels (kernel_pieces k)) 0 0) data_start words) input) holds.init
 
 pub image_behaves : (p : Program) (o : Object) → IsCompilable p → IsMadeOf p o → IsSound o → Behaves p o
 image_behaves p o able made sound =
-    behaves p made.kernel made.is_kernel.does o (site_in o made.kernel) (implements p o able made sound) refl (same_run made.kernel o made.is_kernel.bare made.holds)
+    behaves p made.kernel made.is_kernel.does o (site_in o made.kernel) (implements p o able made sound) refl (same_run made.kernel o made.holds)
 
 pub image_ends_in_time : (p : Program) (o : Object) → IsCompilable p → IsMadeOf p o → IsSound o → EndsInTime p o
 image_ends_in_time p o able made sound =
-    ends_in_time p made.kernel made.is_kernel.does o (site_in o made.kernel) (implements p o able made sound) refl (same_run made.kernel o made.is_kernel.bare made.holds)
+    ends_in_time p made.kernel made.is_kernel.does o (site_in o made.kernel) (implements p o able made sound) refl (same_run made.kernel o made.holds)

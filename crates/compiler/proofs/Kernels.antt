@@ -1,11 +1,10 @@
 -- A whole kernel is one of its program, and its image one of the program.
-use Rattle.std.proofs.Common.{◌≡◌, ℕ, zero, suc, ◌+◌, ◌≤◌, List, [], ◌++◌, length, map, sum_by, Result, Ok, Err, IfOk, OnOk, refl, sym, ap, ◌∙◌, subst, arith, length-append}
+use Rattle.std.proofs.Common.{◌≡◌, ℕ, ◌+◌, ◌≤◌, List, [], length, map, sum_by, Result, Ok, Err, IfOk, OnOk, sym, ap, ◌∙◌, subst, arith, length-append}
 use Rattle.std.proofs.lemmas.List.{length-map}
 use Rattle.std.specs.declared.alloc.AllocError.{AllocError}
 use Rattle.ada_meaning.specs.Obligations.{obligations_of, predefined_names, ordered_exceptions, ListedException}
 use Rattle.ada_meaning.specs.Execution as source
 use Rattle.ada_meaning.specs.Program.{Program}
-use Rattle.ada_tree.specs.declared.program.LibraryObject.{LibraryObject}
 use Rattle.ada_tree.specs.declared.program.Program.{Program as TypedProgram}
 use Rattle.ada_tree.specs.Programs.{program_of}
 use Rattle.assembler.specs.Reach.{AreItems}
@@ -19,7 +18,7 @@ use Rattle.generic_expand.specs.Expanded.{copies_of}
 use Rattle.generic_expand.specs.Limits.{types_weight}
 use Rattle.kernel_code.specs.Pieces.{kernel_pieces}
 use Rattle.kernel_ir.specs.declared.kernel.Kernel.{Kernel}
-use Rattle.linker.specs.Linked.{linked}
+use Rattle.linker.specs.Linked.{linked, AreWithin}
 use Rattle.linker.specs.declared.image.Image.{Image}
 use Rattle.object_format.specs.declared.object.Object.{Object}
 use Rattle.lower.specs.Kernel.{kernel_for}
@@ -32,16 +31,15 @@ use Rattle.statement_code.proofs.AllFuels.{kernel_law}
 use Rattle.statement_code.proofs.Kernels.{bytes_law, conditions_law, rows_law, well_formed_law, within_law}
 use Rattle.statement_code.proofs.Laid.{whole_law}
 use Rattle.storage_layout.specs.Layouts.{HasWord}
-use Rattle.storage_layout.specs.Library.{all_words_in, words_of_instances}
 use Rattle.statement_code.proofs.Once.{conditions_once, nodes_once, rows_once}
 use Rattle.statement_code.proofs.Own.{own_law}
 use Rattle.statement_code.specs.Sizes.{subprogram_nodes}
 
--- a whole kernel of a program that can be compiled, with nothing at the library level and layouts of types that weigh so much
-pub whole_kernel : (p : Program) (k : Kernel) (s : Scheme) (types : ℕ) → IsCompilable p → AreOutside p.subprograms → IsWhole p k s → k.library ≡ [] → AreCovered k.layouts types
+-- a whole kernel of a program that can be compiled, with layouts of types that weigh so much
+pub whole_kernel : (p : Program) (k : Kernel) (s : Scheme) (types : ℕ) → IsCompilable p → AreOutside p.subprograms → IsWhole p k s → AreCovered k.layouts types
     → sum_by subprogram_nodes p.subprograms + types ≤ 4096 → IsKernelOf p (sum_by subprogram_nodes p.subprograms + types) k
 unfolding source.deepest
-whole_kernel p k s types able outside whole bare covered few =
+whole_kernel p k s types able outside whole covered few =
     let all = nodes_once p outside in
     record {
       does = kernel_law p k s whole.is_kernel;
@@ -49,16 +47,10 @@ whole_kernel p k s types able outside whole bare covered few =
       rows = rows_law p k s whole ∙ rows_once p outside;
       conditions = λ weight. conditions_law p k s whole weight ∙ ap (sum_by weight) (conditions_once p outside);
       exceptions = let e = whole.exceptions in omega (arith, e);
-      bare = bare;
       within = within_law p k s whole types covered (omega (arith, all, few));
       short = bytes_law p k s whole types covered (sum_by subprogram_nodes p.subprograms + types) (omega (arith, all));
       few = few;
     }
-
--- the kernel of a typed program, where nothing stands at the library level
-nothing_there : (t : TypedProgram) → t.objects ≡ [] → (count inst : ℕ) → words_of_instances t count inst ≡ []
-nothing_there t bare zero inst = refl
-nothing_there t bare (suc count) inst = ap (λ (os : List LibraryObject). all_words_in t inst os ++ words_of_instances t count (inst + 1)) bare ∙ nothing_there t bare count (inst + 1)
 
 pub laid_kernel : (t : TypedProgram) (k : Kernel) → IsCompilable (program_of t) → CanBeLaid t → k ≡ kernel_for t (copies_of (program_of t)) → Everywhere HasWord k.layouts
     → IsKernelOf (program_of t) (nodes_of t) k
@@ -68,19 +60,22 @@ laid_kernel t k able laid is words =
     let whole = whole_law p made (scheme_for t (copies_of (program_of t))) laid.well
     (laid_law t laid.well laid.named laid.limits (subst (λ (x : Kernel). Everywhere HasWord x.layouts) is words)) in
     subst (IsKernelOf p (nodes_of t)) (sym is)
-    (whole_kernel p made (scheme_for t (copies_of (program_of t))) (types_weight t) able laid.outside whole (nothing_there t laid.bare (length t.instances + 1) 0)
-    (covered_law t) laid.light)
+    (whole_kernel p made (scheme_for t (copies_of (program_of t))) (types_weight t) able laid.outside whole (covered_law t) laid.light)
+
+-- the words of the library level lie within memory
+pub library_fits : (p : Program) (nodes : ℕ) (k : Kernel) (words : List ℕ) → IsKernelOf p nodes k → words ≡ k.library → AreWithin words
+library_fits p nodes k words is are = let few = is.within.library in subst AreWithin (sym are) (omega (arith, few))
 
 -- the linked pieces of a kernel of a program are an image of the program
-pub image_law : (p : Program) (nodes : ℕ) (k : Kernel) (pieces : List Piece) (answer : Result Image AllocError) → IsKernelOf p nodes k → pieces ≡ kernel_pieces k
-    → IfOk answer (λ image. image ≡ linked pieces []) → OnOk answer (AreItems pieces) → IfOk answer (IsImageOf p nodes)
-image_law p nodes k pieces (Ok image) is are image_is items = record {
+pub image_law : (p : Program) (nodes : ℕ) (k : Kernel) (pieces : List Piece) (words : List ℕ) (answer : Result Image AllocError) → IsKernelOf p nodes k
+    → pieces ≡ kernel_pieces k → words ≡ k.library → IfOk answer (λ image. image ≡ linked pieces words) → OnOk answer (AreItems pieces) → IfOk answer (IsImageOf p nodes)
+image_law p nodes k pieces words (Ok image) is are library image_is items = record {
   kernel = k;
   is_kernel = is;
-  linked = image_is ∙ ap (λ (ps : List Piece). linked ps []) are;
+  linked = image_is ∙ (ap (λ (ps : List Piece). linked ps words) are ∙ ap (linked (kernel_pieces k)) library);
   items = subst (λ (ps : List Piece). AreItems ps) are items;
 }
-image_law p nodes k pieces (Err e) is are image_is items = tt
+image_law p nodes k pieces words (Err e) is are library image_is items = tt
 
 -- an object of an image of a program holds its kernel's image
 exceptions_listed : (p : Program) → IsCompilable p → length (obligations_of p []).exceptions ≡ 4 + length p.exceptions

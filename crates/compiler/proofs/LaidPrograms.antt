@@ -1,7 +1,6 @@
 -- Legal programs are plain, and can be laid out.
 use Rattle.std.proofs.Common.{◌≡◌, ℕ, zero, suc, ◌+◌, ◌*◌, ◌≤◌, List, [], ◌∷◌, length, map, Option, None, Some, slice_get, refl, sym, ap, ◌∙◌, subst, arith}
 use Rattle.std.specs.Prelude.{option_map, sum_by}
-use Rattle.std.specs.Option.{option_and_then}
 use Rattle.std.proofs.lemmas.List.{length-map}
 use Rattle.std.proofs.lemmas.List.Sums.{sum_by-cons}
 use Rattle.std.proofs.lemmas.Option.{slice_get-map}
@@ -9,19 +8,19 @@ use Rattle.cov_base.specs.Lists.{Everywhere}
 use Rattle.ada_syntax.specs.Nodes.{unit_nodes}
 use Rattle.ada_syntax.specs.declared.unit.Unit.{Unit as LibraryUnit}
 use Rattle.ada_meaning.specs.Bodies.{instances_of, StandsIn}
-use Rattle.ada_meaning.specs.Obligations.{ListedException}
+use Rattle.ada_meaning.specs.Obligations.{ListedException, ordered_exceptions}
 use Rattle.ada_meaning.specs.Program as meaning
 use Rattle.ada_meaning.specs.Statics.{InstanceValues, values_of}
 use Rattle.ada_meaning.specs.Types as type
 use Rattle.ada_meaning.specs.WellFormed.{IsWellFormed}
 use Rattle.ada_parser.specs.Opening.{open_extent}
-use Rattle.ada_resolved.specs.Library.{with_objects, instance_size, with_instances, program_size}
-use Rattle.ada_resolved.specs.Sizes.{with_component, type_size, words}
+use Rattle.ada_resolved.specs.Library.{program_size}
+use Rattle.ada_resolved.specs.Sizes.{type_size, words}
 use Rattle.ada_tree.specs.declared.program.Program.{Program}
 use Rattle.ada_tree.specs.declared.program.Subprogram.{Subprogram}
 use Rattle.ada_tree.specs.declared.types.Subtype.{Subtype}
 use Rattle.ada_tree.specs.declared.types.TypeDeclaration.{TypeDeclaration}
-use Rattle.ada_tree.specs.Programs.{instance_of, library_object_of, program_of, raisable_of, subprogram_of, types_of, unfolded}
+use Rattle.ada_tree.specs.Programs.{instance_of, program_of, raisable_of, subprogram_of, types_of, unfolded}
 use Rattle.ada_tree.specs.View as view
 use Rattle.ada_tree.specs.Weights.{type_nodes}
 use Rattle.checker.specs.Checking.{DeclaresTypes, whole_library}
@@ -32,8 +31,8 @@ use Rattle.legal_laws.specs.Bounded.{IsBounded, AreObjectsBounded}
 use Rattle.legal_programs.proofs.Passed.{is_legal, legal_comes}
 use Rattle.legal_programs.specs.DecisionPlaces.{units_decisions}
 use Rattle.legal_programs.specs.InText.{Rise}
+use Rattle.legal_programs.specs.PlainUnits.{ArePlainUnits}
 use Rattle.legal_programs.specs.TextPlaces.{units_places}
-use Rattle.legal_texts.specs.Subprograms.{AreSubprograms}
 use Rattle.legal_types.specs.Weights.{types_weight as declared_weight}
 use Rattle.legal_texts.specs.UnitTexts.{AreUnitTexts}
 use Rattle.lower.specs.Standing.{AreTypesNamed, IsSized, IsWithinLimits, most_declared_words, size_of, words_of_objects}
@@ -43,8 +42,9 @@ use Rattle.parsed_texts.proofs.Statements.{statements_rise_weakly, units_rise}
 use Rattle.parsed_texts.proofs.Texts.{texts_of}
 use Rattle.statement_code.specs.Sizes.{block_nodes, subprogram_nodes}
 use Rattle.compiler.specs.Kernels.{CanBeLaid, nodes_of}
+use Rattle.compiler.specs.Made.{exceptions_in}
 use Rattle.compiler.specs.Texts.{AreUnitsOf, IsOfText, IsPlain}
-use Rattle.compiler.proofs.PlainUnits.{instances_none, ordered_none, objects_none, only_subprograms, outside_law}
+use Rattle.compiler.proofs.PlainUnits.{instances_none, plain_units, outside_law}
 use Rattle.compiler.proofs.UnfoldedSizes.{block_alike}
 
 -- where types have the sizes that the rules count, they have sizes
@@ -55,16 +55,17 @@ sized_by v inst counts (t ∷ ts) h = (subst IsSized (sym h.0) tt, sized_by v in
 
 -- what laws on the text of such programs say of this one
 pub record Laws (units : List LibraryUnit) (main : List ℕ) (p : meaning.Program) : Type 0 where
-  pub well : AreSubprograms units → Rise (units_places units) → Rise (units_decisions units) → AreUnitTexts units → IsWellFormed p
-  pub bounded : AreSubprograms units → Rise (units_places units) → Rise (units_decisions units) → AreUnitTexts units → AreObjectsBounded p
+  pub well : ArePlainUnits units → Rise (units_places units) → Rise (units_decisions units) → AreUnitTexts units → IsWellFormed p
+  pub bounded : ArePlainUnits units → Rise (units_places units) → Rise (units_decisions units) → AreUnitTexts units → AreObjectsBounded p
   pub sized : UnitsRise units → (m inst : ℕ) (s : meaning.Subprogram) → slice_get p.subprograms m ≡ Some s → StandsIn p s.generic inst
       → Everywhere (IsBounded p inst) s.objects → (counts : type.Subtype → ℕ) × Everywhere (λ t. type_size (values_of p) inst t ≡ Some (counts t)) s.objects
   pub declared : UnitsRise units → (m inst : ℕ) (s : meaning.Subprogram) → slice_get p.subprograms m ≡ Some s → StandsIn p s.generic inst
       → Everywhere (IsBounded p inst) s.objects → text.words_of_objects p inst s.objects ≤ most_declared_words
+  pub library : ArePlainUnits units → Rise (units_places units) → Rise (units_decisions units) → AreUnitTexts units → IsSized (program_size p)
 
 pub plain_law : (files : ℕ) (units : List LibraryUnit) (main : List ℕ) (p : meaning.Program) → AreUnitsOf files units main p → Laws units main p → IsPlain p
 plain_law files units main p h laws =
-    let subs = only_subprograms files units main p h in
+    let subs = plain_units files units main p h in
     let statements = statements_rise_weakly open_extent files units h.read in
     let decisions = decisions_rise open_extent files units h.read in
     let texts = texts_of open_extent files units h.read in
@@ -74,18 +75,12 @@ plain_law files units main p h laws =
     record {
       well = well;
       outside = outside_law files units main p h;
-      no_objects = objects_none files units main p h;
-      no_exceptions = well.numbered.exceptions ∙ ap (map (λ (x : ListedException). x.entry)) (ordered_none files units main p h);
       sized = λ m inst s at stands.
           let counted = laws.sized rise m inst s at stands (bounded m inst s at stands) in
           sized_by (values_of p) inst counted.0 s.objects counted.1;
       declared = λ m inst s at stands. laws.declared rise m inst s at stands (bounded m inst s at stands);
+      library = laws.library subs statements decisions texts;
     }
-
--- what comes to nothing is nothing
-none_from : {X Y : Type 0} (f : X → Y) (xs : List X) → map f xs ≡ [] → xs ≡ []
-none_from f [] none = λ i. []
-none_from {X} {Y} f (x ∷ xs) none = let long = ap (λ (ys : List Y). length ys) none in absurd (omega (arith, long))
 
 -- nodes, each within what all have
 all_small : (types : List type.Subtype) (ss : List Subprogram) (limit : ℕ) → sum_by subprogram_nodes (map (subprogram_of types) ss) ≤ limit
@@ -95,19 +90,6 @@ all_small types (s ∷ ss) limit h =
     let all = sum_by-cons subprogram_nodes (subprogram_of types s) (map (subprogram_of types) ss) in
     let same = block_alike types s.body in
     (omega (arith, h, all, same), all_small types ss limit (omega (arith, h, all)))
-
--- where nothing is declared at the library level, it has a size
-none_there : (p : meaning.Program) → p.objects ≡ [] → (inst : ℕ) → instance_size p inst ≡ Some 0
-none_there p bare inst = ap (λ (os : List meaning.LibraryObject). with_objects p inst 0 os) bare
-
-instances_sized : (p : meaning.Program) → p.objects ≡ [] → (count inst : ℕ) → with_instances p 0 count inst ≡ Some 0
-instances_sized p bare zero inst = refl
-instances_sized p bare (suc count) inst =
-    ap (λ size. option_and_then (λ w. with_instances p w count (inst + 1)) (with_component 0 size)) (none_there p bare inst)
-    ∙ instances_sized p bare count (inst + 1)
-
-library_sized : (p : meaning.Program) → p.objects ≡ [] → IsSized (program_size p)
-library_sized p bare = subst IsSized (sym (instances_sized p bare (length p.instances + 1) 0)) tt
 
 module _ (t : Program) (plain : IsPlain (program_of t)) where
   seen_at : (m : ℕ) (s : Subprogram) → slice_get t.subprograms m ≡ Some s → slice_get (program_of t).subprograms m ≡ Some (subprogram_of (types_of t.types) s)
@@ -125,27 +107,30 @@ module _ (t : Program) (plain : IsPlain (program_of t)) where
   objects_words inst [] = refl
   objects_words inst (o ∷ os) = λ i. words (named_known t inst o i) + objects_words inst os i
 
-  pub limits_law : sum_by subprogram_nodes (program_of t).subprograms ≤ 4096 → IsWithinLimits t
-  limits_law small = record {
+  pub limits_law : sum_by subprogram_nodes (program_of t).subprograms ≤ 4096 → length (exceptions_in (program_of t)) ≤ 4096 → IsWithinLimits t
+  limits_law small few = record {
     sized = λ m inst s at stands. objects_sized inst s.objects (plain.sized m inst (subprogram_of (types_of t.types) s) (seen_at m s at) stands);
     declared = λ m inst s at stands.
         subst (λ n. n ≤ most_declared_words) (sym (objects_words inst s.objects)) (plain.declared m inst (subprogram_of (types_of t.types) s) (seen_at m s at) stands);
-    library = library_sized (program_of t) plain.no_objects;
+    library = plain.library;
     nodes = all_small (types_of t.types) t.subprograms 4096 small;
-    exceptions = let none = exceptions_none in omega (arith, none);
+    exceptions = omega (arith, counted, few);
   }
     where
-      exceptions_none : length t.exceptions ≡ 0
-      exceptions_none = sym (length-map t.exceptions raisable_of) ∙ ap (λ (xs : List meaning.Raisable). length xs) plain.no_exceptions
+      counted : length t.exceptions ≡ length (exceptions_in (program_of t))
+      counted =
+          sym (length-map t.exceptions raisable_of)
+          ∙ (ap (λ (xs : List meaning.Raisable). length xs) plain.well.numbered.exceptions
+          ∙ (length-map (ordered_exceptions (program_of t)) (λ (x : ListedException). x.entry)
+          ∙ sym (length-map (ordered_exceptions (program_of t)) (λ (x : ListedException). x.name))))
 
 pub laid_law : (files : ℕ) (units : List LibraryUnit) (main : List ℕ) (t : Program) → AreUnitsOf files units main (program_of t) → sum_by unit_nodes units ≤ 4096
     → IsOfText units (program_of t) → IsPlain (program_of t) → AreTypesNamed t → nodes_of t ≤ sum_by unit_nodes units → CanBeLaid t
 laid_law files units main t h few of_text plain named light = record {
   well = plain.well;
   named = named;
-  limits = limits_law t plain (let nodes = of_text.nodes in omega (arith, few, nodes));
+  limits = limits_law t plain (let nodes = of_text.nodes in omega (arith, few, nodes)) (let declared = of_text.few_exceptions in omega (arith, few, declared));
   outside = plain.outside;
-  bare = none_from (library_object_of (types_of t.types)) t.objects plain.no_objects;
   light = omega (arith, few, light);
 }
 

@@ -14,7 +14,7 @@ use Rattle.compiler.proofs.Sound.{made_law}
 use Rattle.compiler.proofs.Statements.{places_are_statements, decisions_stand}
 use Rattle.compiler.specs.Behaves.{Behaves, EndsInTime}
 use Rattle.compiler.specs.Compiled.{IsCompiled}
-use Rattle.compiler.specs.Made.{IsCompilable, IsMadeOf}
+use Rattle.compiler.specs.Made.{exceptions_in, IsCompilable, IsMadeOf}
 use Rattle.compiler.specs.Texts.{AreUnitsOf, IsOfText}
 use Rattle.compiler.proofs.LabelCounts.{labels_few}
 use Rattle.cov_base.specs.Lists.{Everywhere}
@@ -35,13 +35,15 @@ compilable_law units p text few =
       once = text.once;
       few = omega (arith, few, nodes);
       few_statements = omega (arith, counted, few, nodes);
+      exceptions = text.exceptions;
+      few_exceptions = let declared = text.few_exceptions in omega (arith, few, declared);
     }
 
 pub made_of : (files : ℕ) (units : List LibraryUnit) (main : List ℕ) (p : Program) (o : Object) → AreUnitsOf files units main p → IsOfText units p → IsCompiled units p o
     → IsMadeOf p o
 made_of files units main p o h text compiled =
     let hs = decisions_of p.subprograms in
-    let listed : o.obligations ≡ obligations_at (units_places units) hs [] = compiled.obligations ∙ text.obligations in
+    let listed : o.obligations ≡ obligations_at (units_places units) hs (exceptions_in p) [] = compiled.obligations ∙ text.obligations in
     let count : length (labels_of p.subprograms) ≡ length (map entry_at (units_places units)) =
     sym (length-map (labels_of p.subprograms) (λ l. l.place)) ∙ (ap length text.statements ∙ sym (length-map (units_places units) entry_at)) in
     record {
@@ -49,7 +51,7 @@ made_of files units main p o h text compiled =
       nodes = compiled.nodes;
       is_kernel = compiled.is_kernel;
       holds = compiled.holds;
-      obligations = listed ∙ ap (λ ps. obligations_at ps hs []) (sym text.statements);
+      obligations = listed ∙ ap (λ ps. obligations_at ps hs (exceptions_in p) []) (sym text.statements);
       files = compiled.files;
       names = compiled.names;
       statements = ap (λ ob. are_statements (length o.files) ob.statements) listed

@@ -25,3 +25,4 @@ mod Kernels
 mod LabelCounts
 pub mod UnfoldedSizes
 pub mod LaidPrograms
+mod ExceptionNames

@@ -1,5 +1,5 @@
 -- An object that holds the image of a program's kernel has its places in memory.
-use Rattle.std.proofs.Common.{◌≡◌, ℕ, ◌+◌, ◌*◌, ◌%◌, ◌≤◌, ◌<◌, ◌==◌, ◌&&◌, Bool, true, nat_lt, nat_le, List, [], length, map, sum_by, refl, ap, subst, ◌∙◌, arith}
+use Rattle.std.proofs.Common.{◌≡◌, ℕ, ◌+◌, ◌*◌, ◌%◌, ◌≤◌, ◌<◌, ◌==◌, ◌&&◌, Bool, true, nat_lt, nat_le, List, length, map, refl, ap, subst, ◌∙◌, arith}
 use Rattle.std.proofs.lemmas.Bool.Decides.{nat_tests}
 use Rattle.ada_meaning.specs.Program.{Program}
 use Rattle.assembler.specs.Placed.{words_in, words_of}
@@ -20,7 +20,6 @@ use Rattle.kernel_ir.specs.Limits.{IsWellFormed}
 use Rattle.kernel_ir.specs.declared.kernel.Kernel.{Kernel}
 use Rattle.linker.proofs.Places.{text_words, is_entered}
 use Rattle.linker.specs.Linked.{linked}
-use Rattle.statement_code.specs.Sizes.{subprogram_nodes}
 use Rattle.object_format.specs.Fields.{is_placed}
 use Rattle.object_format.specs.Text.{is_in_text}
 use Rattle.object_format.specs.declared.object.Object.{Object}
@@ -33,14 +32,15 @@ abbrev pub is_laid_out : (words : ℕ) (in_text : Bool) (init_at count : ℕ) �
 is_laid_out words in_text init_at count =
     nat_lt 0 words && nat_le words 4194304 && in_text && (init_at % 4 == 0) && nat_le (0x10000 + 4 * words) init_at && nat_le (init_at + 4 * count) 0x2000000
 
-laid_out : (words : ℕ) (in_text : Bool) → 0 < words → 0x10000 + 4 * words ≤ 0x1000000 → in_text ≡ true → is_laid_out words in_text 0x1000000 0 ≡ true
-laid_out words in_text some ends entered =
-    both_hold (nat_lt 0 words && nat_le words 4194304 && in_text && (0x1000000 % 4 == 0) && nat_le (0x10000 + 4 * words) 0x1000000) true
+laid_out : (words count : ℕ) (in_text : Bool) → 0 < words → 0x10000 + 4 * words ≤ 0x1000000 → count ≤ 0x40000 → in_text ≡ true
+    → is_laid_out words in_text 0x1000000 count ≡ true
+laid_out words count in_text some ends few entered =
+    both_hold (nat_lt 0 words && nat_le words 4194304 && in_text && (0x1000000 % 4 == 0) && nat_le (0x10000 + 4 * words) 0x1000000) (nat_le (0x1000000 + 4 * count) 0x2000000)
     (both_hold (nat_lt 0 words && nat_le words 4194304 && in_text && (0x1000000 % 4 == 0)) (nat_le (0x10000 + 4 * words) 0x1000000)
     (both_hold (nat_lt 0 words && nat_le words 4194304 && in_text) true
     (both_hold (nat_lt 0 words && nat_le words 4194304) in_text
     (both_hold (nat_lt 0 words) (nat_le words 4194304) (grind (arith, nat_tests)) (grind (arith, nat_tests))) entered) refl)
-    (grind (arith, nat_tests))) refl
+    (grind (arith, nat_tests))) (grind (arith, nat_tests))
 
 -- how many words the text has
 pub text_long : (k : Kernel) (o : Object) → HoldsImage k o → length o.text ≡ words_in (kernel_pieces k)
@@ -68,10 +68,10 @@ placed_law p nodes k o able is holds =
     let some = start_long k in
     let ends = (pieces_can_be_placed (able_graphs p) k (formed_law p nodes k able is) is.within).in_time in
     let entered : is_in_text o.text o.entry ≡ true =
-    ap (λ text. is_in_text text o.entry) holds.text ∙ (ap (is_in_text (linked pieces []).text) holds.entry ∙ is_entered pieces [] (omega arith)) in
+    ap (λ text. is_in_text text o.entry) holds.text ∙ (ap (is_in_text (linked pieces k.library).text) holds.entry ∙ is_entered pieces k.library (omega arith)) in
     ap (λ at. is_laid_out (length o.text) (is_in_text o.text o.entry) at (length o.init)) holds.init_at
     ∙ (ap (λ (words : List ℕ). is_laid_out (length o.text) (is_in_text o.text o.entry) data_start (length words)) holds.init
-    ∙ laid_out (length o.text) (is_in_text o.text o.entry) (omega arith) (omega arith) entered)
+    ∙ laid_out (length o.text) (length k.library) (is_in_text o.text o.entry) (omega arith) (omega arith) is.within.library entered)
 
 -- the text takes at most 240 bytes for each node, and 4,096 beside
 pub text_bound : (p : Program) (nodes : ℕ) (k : Kernel) (o : Object) → IsKernelOf p nodes k → HoldsImage k o → 4 * length o.text ≤ 240 * nodes + 4096

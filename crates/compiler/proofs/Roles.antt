@@ -116,7 +116,7 @@ pub roles_are_made : (k : Kernel) (init : List ℕ) → list_all is_made_role (l
 roles_are_made k init = roles_of_pieces (labels (kernel_pieces k)) 0 (kernel_pieces k) (pieces_are_made k)
 
 pub held_are_made : (k : Kernel) (o : Object) → HoldsImage k o → list_all is_made_role o.roles ≡ true
-held_are_made k o holds = ap (list_all is_made_role) holds.roles ∙ roles_are_made k []
+held_are_made k o holds = ap (list_all is_made_role) holds.roles ∙ roles_are_made k k.library
 
 -- the conditions of decisions
 
@@ -203,7 +203,7 @@ module _ (hs : List Decision) (k : Kernel) (o : Object) (holds : HoldsImage k o)
   pub held_passes : o.obligations.decisions ≡ map decision_entry hs → PassesRole o
   held_passes are = record {
     branches = ap (map (λ (role : Role). role.address)) holds.roles
-        ∙ (roles_are_branches (kernel_pieces k) [] (pieces_are_marked k).marks holds.items ∙ ap (branches_from 0x10000) (sym holds.text));
+        ∙ (roles_are_branches (kernel_pieces k) k.library (pieces_are_marked k).marks holds.items ∙ ap (branches_from 0x10000) (sym holds.text));
     single = found.single;
     whole = subst (λ ds. AreWhole ds (conditions_of o.roles)) (sym are) whole;
   }

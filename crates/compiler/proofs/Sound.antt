@@ -1,9 +1,11 @@
 -- An object that is made of a program passes the checks of objects.
-use Rattle.std.proofs.Common.{◌≡◌, ◌≢◌, ℕ, ◌+◌, ◌*◌, ◌^◌, ◌≤◌, ◌<◌, ◌==◌, ◌&&◌, cond, Bool, true, false, nat_lt, nat_le, List, [], ◌∷◌, filter, length, map, AllPairs, refl, sym, ap, ◌∙◌, subst, arith, lit≤}
+use Rattle.std.proofs.Common.{◌≡◌, ◌≢◌, ℕ, ◌+◌, ◌*◌, ◌^◌, ◌≤◌, ◌<◌, ◌==◌, ◌&&◌, cond, Bool, true, false, nat_lt, nat_le, List, [], ◌∷◌, ◌++◌, filter, length, map, AllPairs, refl, sym, ap, ◌∙◌, subst, arith, lit≤, length-append}
 use Rattle.std.specs.List.{list_all, AllByRecursion}
+use Rattle.std.specs.Str.{is_utf8}
 use Rattle.std.proofs.lemmas.Bool.Decides.{nat_tests}
 use Rattle.std.proofs.lemmas.List.{length-map}
 use Rattle.std.proofs.lemmas.List.Elements.{All-from_recursion}
+use Rattle.std.proofs.lemmas.Str.{IsUtf8-from_ascii, is_utf8-from_IsUtf8}
 use Rattle.ada_meaning.specs.Collected.{Decision, labels_of, decisions_of}
 use Rattle.ada_meaning.specs.Obligations.{numbers, predefined_names, no_instance, decision_entry}
 use Rattle.ada_meaning.specs.Program.{Program}
@@ -17,7 +19,8 @@ use Rattle.compiler.proofs.Due.{found_law as conditions_found}
 use Rattle.compiler.proofs.Placing.{numbers_law, placed_law, text_bound}
 use Rattle.compiler.proofs.Roles.{roles_few, held_are_roles, held_passes}
 use Rattle.compiler.proofs.RowStarts.{named, start_at, starts_of_linked, starts_differ, rows_in_range}
-use Rattle.compiler.specs.Made.{places_in, IsCompilable, IsMadeOf}
+use Rattle.compiler.specs.Made.{places_in, exceptions_in, IsExceptionName, IsCompilable, IsMadeOf}
+use Rattle.cov_base.specs.Lists.{Everywhere}
 use Rattle.cov_base.specs.declared.obligations.Obligations.{Obligations}
 use Rattle.cov_base.specs.declared.position.Pos.{Pos}
 use Rattle.kernel_code.proofs.PieceLaws.{pieces_are_marked}
@@ -32,7 +35,7 @@ use Rattle.statement_code.specs.Fragments.{row_in}
 use Rattle.object_format.specs.Checked.{IsSound}
 use Rattle.object_format.specs.Counts.{IsCountable, AreCountable, InstanceFits, RegionFits, IsCounted}
 use Rattle.object_format.specs.Decisions.{AreExpression}
-use Rattle.object_format.specs.Fields.{is_placed, are_files, are_statements, are_decisions, are_obliged, is_row, is_role, passes_field}
+use Rattle.object_format.specs.Fields.{is_placed, are_files, are_exceptions, are_statements, are_decisions, are_obliged, is_row, is_role, passes_field}
 use Rattle.object_format.specs.Read.{HasObject, is_plain}
 use Rattle.object_format.specs.RoleCheck.{is_condition, conditions_of, PassesRole}
 use Rattle.object_format.specs.RoleCheck.{condition_of as numbers_of}
@@ -60,16 +63,26 @@ starts_of_labels (l ∷ ls) = ap (λ starts. start_at l.number ∷ starts) (star
 
 -- obligations of statements and decisions
 
-obliged_holds : (files : ℕ) (places : List Pos) (hs : List Decision) → are_statements files (map entry_at places) ≡ true
-    → are_decisions files (length (map entry_at places)) (map decision_entry hs) ≡ true → are_obliged files (obligations_at places hs []) ≡ true
-obliged_holds files places hs statements decisions =
-    ap (λ b. true && true && b && are_decisions files (length (map entry_at places)) (map decision_entry hs) && true) statements ∙ ap (λ b. true && true && true && b && true) decisions
+names_are_utf8 : (names : List (List ℕ)) → Everywhere IsExceptionName names → list_all is_utf8 names ≡ true
+names_are_utf8 [] named = refl
+names_are_utf8 (n ∷ ns) named = both_hold (is_utf8 n) (list_all is_utf8 ns) (is_utf8-from_IsUtf8 n (IsUtf8-from_ascii n named.0.ascii)) (names_are_utf8 ns named.1)
 
-abbrev plain_parts : List ℕ → Obligations → Bool
-plain_parts init ob = (length init == 0) && (length ob.exceptions == 4) && (length ob.instances == 1) && (length ob.regions == 0)
+names_are_exceptions : (names : List (List ℕ)) → Everywhere IsExceptionName names → length names ≤ 4096 → are_exceptions (predefined_names ++ names) ≡ true
+names_are_exceptions names named few =
+    both_hold (nat_le (length names) 4294967290) (list_all is_utf8 names) (grind (arith, nat_tests)) (names_are_utf8 names named)
 
-plain_holds : (places : List Pos) (hs : List Decision) (init : List ℕ) (ob : Obligations) → init ≡ [] → ob ≡ obligations_at places hs [] → plain_parts init ob ≡ true
-plain_holds places hs init ob no_init obligations = ap (λ i. plain_parts i ob) no_init ∙ ap (λ x. plain_parts [] x) obligations
+obliged_holds : (files : ℕ) (places : List Pos) (hs : List Decision) (names : List (List ℕ)) → Everywhere IsExceptionName names → length names ≤ 4096
+    → are_statements files (map entry_at places) ≡ true → are_decisions files (length (map entry_at places)) (map decision_entry hs) ≡ true
+    → are_obliged files (obligations_at places hs names []) ≡ true
+obliged_holds files places hs names named few statements decisions =
+    ap (λ b. true && b && are_statements files (map entry_at places) && are_decisions files (length (map entry_at places)) (map decision_entry hs) && true) (names_are_exceptions names named few)
+    ∙ (ap (λ b. true && true && b && are_decisions files (length (map entry_at places)) (map decision_entry hs) && true) statements ∙ ap (λ b. true && true && true && b && true) decisions)
+
+abbrev plain_parts : Obligations → Bool
+plain_parts ob = (length ob.instances == 1) && (length ob.regions == 0)
+
+plain_holds : (places : List Pos) (hs : List Decision) (names : List (List ℕ)) (ob : Obligations) → ob ≡ obligations_at places hs names [] → plain_parts ob ≡ true
+plain_holds places hs names ob obligations = ap plain_parts obligations
 
 few_files : (files : List FileEntry) → are_files files ≡ true → length files ≤ 64
 few_files files are =
@@ -85,7 +98,7 @@ pub starts_law : (p : Program) (o : Object) → IsCompilable p → IsMadeOf p o 
 starts_law p o able made =
     let marked = pieces_are_marked made.kernel in
     ap (map start_of) made.holds.rows
-    ∙ (starts_of_linked (kernel_pieces made.kernel) [] marked.marks
+    ∙ (starts_of_linked (kernel_pieces made.kernel) made.kernel.library marked.marks
     ∙ (ap (map named) (marked.rows_named ∙ made.is_kernel.rows)
     ∙ (starts_of_labels (labels_of p.subprograms)
     ∙ ap (map start_at) (subst (λ ls. map (λ l. l.number) ls ≡ numbers 0 (length ls)) able.in_order able.numbered.statements))))
@@ -97,7 +110,7 @@ found_law p o able made =
     let hs = decisions_of p.subprograms in
     let marked = pieces_are_marked k in
     let are : conditions_of o.roles ≡ map named_condition (conditions k) =
-    ap conditions_of made.holds.roles ∙ (conditions_of_linked (kernel_pieces k) [] marked.marks ∙ ap (map named_condition) marked.conditions_named) in
+    ap conditions_of made.holds.roles ∙ (conditions_of_linked (kernel_pieces k) k.library marked.marks ∙ ap (map named_condition) marked.conditions_named) in
     subst (λ cs. HaveConditions hs cs) (sym are) (conditions_found hs (conditions k) (numbers_law p able) made.is_kernel.conditions)
 
 pub entries_long : (p : Program) → length (map entry_at (places_in p)) ≡ length (labels_of p.subprograms)
@@ -112,7 +125,7 @@ field_law p o able made =
     let files = length o.files in
     let obliged : are_obliged files o.obligations ≡ true =
     ap (are_obliged files) made.obligations
-    ∙ obliged_holds files (places_in p) hs (sym (ap (λ ob. are_statements files ob.statements) made.obligations) ∙ made.statements)
+    ∙ obliged_holds files (places_in p) hs (exceptions_in p) able.exceptions able.few_exceptions (sym (ap (λ ob. are_statements files ob.statements) made.obligations) ∙ made.statements)
     (sym (ap (λ ob. are_decisions files (length ob.statements) ob.decisions) made.obligations) ∙ made.decisions) in
     let rows : list_all (is_row (length o.obligations.statements) (length o.obligations.instances)) o.rows ≡ true =
     ap (λ ob. list_all (is_row (length ob.statements) (length ob.instances)) o.rows) made.obligations
@@ -124,9 +137,9 @@ field_law p o able made =
 row_law : (p : Program) (o : Object) → IsCompilable p → IsMadeOf p o → PassesRow o
 row_law p o able made =
     let pieces = kernel_pieces made.kernel in
-    let ordered = rows_are_in_order pieces [] (pieces_are_marked made.kernel).marks in
+    let ordered = rows_are_in_order pieces made.kernel.library (pieces_are_marked made.kernel).marks in
     record {
-      placed = ap (λ text. list_all (is_in text) o.rows) made.holds.text ∙ (ap (list_all (is_in (linked pieces []).text)) made.holds.rows ∙ ordered.0);
+      placed = ap (λ text. list_all (is_in text) o.rows) made.holds.text ∙ (ap (list_all (is_in (linked pieces made.kernel.library).text)) made.holds.rows ∙ ordered.0);
       rising = ap (rising (λ (one next : TableRow). nat_lt one.address next.address)) made.holds.rows ∙ ordered.1;
       once = subst (λ starts. AllPairs (λ one next. one ≢ next) starts) (sym (starts_law p o able made)) (starts_differ 0 (length (labels_of p.subprograms)));
     }
@@ -162,6 +175,14 @@ decisions_few p o able made =
 text_few : (p : Program) (o : Object) (made : IsMadeOf p o) → 4 * length o.text ≤ 240 * 4096 + 4096
 text_few p o made = let few = made.is_kernel.few in omega (arith, text_bound p made.nodes made.kernel o made.is_kernel made.holds, few)
 
+names_short : (names : List (List ℕ)) → Everywhere IsExceptionName names → AllByRecursion IsCountable names
+names_short [] named = tt
+names_short (n ∷ ns) named = (named.0.short, names_short ns named.1)
+
+names_counted : (names : List (List ℕ)) → Everywhere IsExceptionName names → length names ≤ 4096 → AreCountable IsCountable (predefined_names ++ names)
+names_counted names named few =
+    (omega (arith, few, length-append predefined_names names), All-from_recursion IsCountable (predefined_names ++ names) (lit≤ tt, (lit≤ tt, (lit≤ tt, (lit≤ tt, names_short names named)))))
+
 counted_law : (p : Program) (o : Object) → IsCompilable p → IsMadeOf p o → IsCounted o
 counted_law p o able made =
     let n = length (labels_of p.subprograms) in
@@ -170,11 +191,10 @@ counted_law p o able made =
     sym (length-map o.rows start_of) ∙ (ap length (starts_law p o able made) ∙ (length-map (numbers 0 n) start_at ∙ numbers_long 0 n)) in
     record {
       text = omega (arith, text_few p o made);
-      init = subst (λ (words : List ℕ). length words < 2 ^ 32) (sym made.holds.init) (lit≤ tt);
+      init = let within = made.is_kernel.within.library in subst (λ (words : List ℕ). length words < 2 ^ 32) (sym made.holds.init) (omega (arith, within));
       files = (omega (arith, few_files o.files made.files), made.names);
       instances = subst (λ ob. AreCountable InstanceFits ob.instances) (sym made.obligations) (lit≤ tt, All-from_recursion InstanceFits (no_instance ∷ []) (lit≤ tt, tt));
-      exceptions = subst (λ ob. AreCountable IsCountable ob.exceptions) (sym made.obligations)
-          (lit≤ tt, All-from_recursion IsCountable predefined_names (lit≤ tt, (lit≤ tt, (lit≤ tt, (lit≤ tt, tt)))));
+      exceptions = subst (λ ob. AreCountable IsCountable ob.exceptions) (sym made.obligations) (names_counted (exceptions_in p) able.exceptions able.few_exceptions);
       statements = subst (λ ob. IsCountable ob.statements) (sym made.obligations) (omega (arith, entries_long p, few));
       decisions = subst (λ ob. IsCountable ob.decisions) (sym made.obligations)
           (omega (arith, length-map (decisions_of p.subprograms) decision_entry, decisions_few p o able made, roles_few o (role_law p o able made), text_few p o made));
@@ -186,5 +206,5 @@ counted_law p o able made =
 pub made_law : (p : Program) (o : Object) → IsCompilable p → IsMadeOf p o → HasObject o × (is_plain o ≡ true)
 made_law p o able made = (
   record { sound = sound_law p o able made; counted = counted_law p o able made },
-  plain_holds (places_in p) (decisions_of p.subprograms) o.init o.obligations made.holds.init made.obligations,
+  plain_holds (places_in p) (decisions_of p.subprograms) (exceptions_in p) o.obligations made.obligations,
 )

@@ -1,7 +1,8 @@
 -- A legal program stands in the text of its units.
-use Rattle.std.proofs.Common.{◌≡◌, ℕ, if◌then◌else◌, length, List, [], ◌∷◌, ◌++◌, map, refl, sym, ap, ◌∙◌, subst}
+use Rattle.std.proofs.Common.{◌≡◌, ◌≤◌, ℕ, if◌then◌else◌, length, List, [], ◌∷◌, ◌++◌, map, sum_by, refl, sym, ap, ◌∙◌, subst}
 use Rattle.cov_base.specs.TextOrder.{precedes}
 use Rattle.cov_base.specs.declared.position.Pos.{Pos}
+use Rattle.ada_syntax.specs.Nodes.{unit_nodes}
 use Rattle.ada_syntax.specs.declared.unit.Unit.{Unit as LibraryUnit}
 use Rattle.ada_meaning.specs.Tree.{Label}
 use Rattle.ada_meaning.specs.Collected.{Decision, labels_of, decisions_of}
@@ -24,8 +25,10 @@ use Rattle.parsed_texts.proofs.Texts.{texts_of}
 use Rattle.ada_parser.specs.Opening.{open_extent}
 use Rattle.checker.specs.Checking.{whole_library}
 use Rattle.compiler.specs.Listed.{entry_at, obligations_at}
+use Rattle.compiler.specs.Made.{exceptions_in}
 use Rattle.compiler.specs.Texts.{AreUnitsOf, IsOfText}
-use Rattle.compiler.proofs.PlainUnits.{instances_none, exceptions_none}
+use Rattle.compiler.proofs.PlainUnits.{instances_none}
+use Rattle.compiler.proofs.ExceptionNames.{names_law, few_law}
 
 entries_at : (ls : List Label) → map statement_entry ls ≡ map entry_at (map (λ (l : Label). l.place) ls)
 entries_at [] = refl
@@ -58,22 +61,23 @@ module _ (files : ℕ) (units : List LibraryUnit) (main : List ℕ) (p : Program
   decisions_stay : ordered_decisions p ≡ decisions_of p.subprograms
   decisions_stay = rise_stays (λ (d : Decision). d.label.place) (decisions_of p.subprograms) (subst Rise (sym at_places) decisions_rise_so)
 
-  -- with the places of its statements, and their numbers
+  -- with the places of its statements, and their numbers, and so many exceptions
   module _ (placed : map (λ l. l.place) (labels_of p.subprograms) ≡ units_places units)
-      (labelled : map (λ l. l.number) (labels_of p.subprograms) ≡ numbers 0 (length (labels_of p.subprograms))) where
+      (labelled : map (λ l. l.number) (labels_of p.subprograms) ≡ numbers 0 (length (labels_of p.subprograms)))
+      (declared : length p.declared ≤ sum_by unit_nodes units) where
     stay : ordered_labels p ≡ labels_of p.subprograms
     stay = rise_stays (λ (l : Label). l.place) (labels_of p.subprograms) (subst Rise (sym placed) rises)
 
     entries_are : map statement_entry (ordered_labels p) ≡ map entry_at (units_places units)
     entries_are = ap (λ ls. map statement_entry ls) stay ∙ (entries_at (labels_of p.subprograms) ∙ ap (λ qs. map entry_at qs) placed)
 
-    obligations_are : obligations_of p [] ≡ obligations_at (units_places units) (decisions_of p.subprograms) []
+    obligations_are : obligations_of p [] ≡ obligations_at (units_places units) (decisions_of p.subprograms) (exceptions_in p) []
     obligations_are = λ i. record {
       statements = entries_are i;
       decisions = map decision_entry (decisions_stay i);
       regions = [];
       instances = ap (λ (js : List Instance). no_instance ∷ map instance_entry js) (instances_none files units main p h) i;
-      exceptions = ap (λ ns. predefined_names ++ ns) (exceptions_none files units main p h) i;
+      exceptions = predefined_names ++ exceptions_in p;
     }
 
     pub text_law : IsOfText units p
@@ -91,4 +95,6 @@ module _ (files : ℕ) (units : List LibraryUnit) (main : List ℕ) (p : Program
           held = all_held p.subprograms labelled;
           nodes = few_nodes (whole_library units) main p is whole_is_whole (texts_have_choices units (texts_of open_extent files units h.read));
           obligations = obligations_are;
+          exceptions = names_law files units main p h;
+          few_exceptions = few_law files units main p h declared;
         }

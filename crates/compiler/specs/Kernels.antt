@@ -1,5 +1,5 @@
 -- What makes a kernel that of a program, and an image that of such a kernel.
-use Rattle.std.specs.Prelude.{◌≡◌, ◌≢◌, ℕ, ◌+◌, ◌*◌, ◌≤◌, ℤ, List, [], length, map, sum_by}
+use Rattle.std.specs.Prelude.{◌≡◌, ◌≢◌, ℕ, ◌+◌, ◌*◌, ◌≤◌, ℤ, List, length, map, sum_by}
 use Rattle.ada_meaning.specs.Collected.{labels_of, decisions_of}
 use Rattle.ada_meaning.specs.Execution as source
 use Rattle.ada_meaning.specs.Program.{Program}
@@ -32,8 +32,7 @@ nodes_of t = sum_by subprogram_nodes (program_of t).subprograms + types_weight t
 
 -- A kernel is that of a program of so many nodes: under each fuel but 512 it ends as the program does, with the same events and output; it is
 -- well-formed where decisions have the graphs of their expressions; its rows are the program's statement obligations and its conditions those of
--- its decisions; it has the predefined exceptions and the program's, and nothing stands at the library level so far; and it is small enough, for
--- each of the nodes, which are within their limit.
+-- its decisions; it has the predefined exceptions and the program's; and it is small enough, for each of the nodes, which are within their limit.
 pub record IsKernelOf (p : Program) (nodes : ℕ) (k : Kernel) : Type 0 where
   pub does : (fuel : ℕ) (input : List ℤ) → fuel ≢ source.deepest → Same (source.exec p fuel input) (code.exec k fuel input)
   pub formed : (graph : DecId → List Edges) → Everywhere (λ h. graph (record { 0 = h.label.number }) ≡ logic.graph (shape_of h.test)) (decisions_of p.subprograms)
@@ -41,24 +40,22 @@ pub record IsKernelOf (p : Program) (nodes : ℕ) (k : Kernel) : Type 0 where
   pub rows : rows k ≡ map (row_in 0) (labels_of p.subprograms)
   pub conditions : (weight : Condition → ℕ) → sum_by weight (conditions k) ≡ sum_by weight (conditions_in 0 (decisions_of p.subprograms))
   pub exceptions : k.exceptions ≤ 4 + length p.exceptions
-  pub bare : k.library ≡ []
   pub within : IsWithin k
   pub short : 4 * kernel_instructions k ≤ 240 * nodes + 4096
   pub few : nodes ≤ 4096
 
 -- a typed program whose kernel can be laid out today: it is well-formed and within the limits, those on all of its nodes too, composite types
--- are named where they stand, and so far nothing stands in a generic or at the library level
+-- are named where they stand, and so far nothing stands in a generic
 pub record CanBeLaid (t : TypedProgram) : Type 0 where
   pub well : IsWellFormedProgram (program_of t)
   pub named : AreTypesNamed t
   pub limits : IsWithinLimits t
   pub outside : AreOutside (program_of t).subprograms
-  pub bare : t.objects ≡ []
   pub light : nodes_of t ≤ 4096
 
--- an image is that of a kernel of a program of so many nodes: its linked machine code, without data
+-- an image is that of a kernel of a program of so many nodes: its linked machine code, with the words of the library level as data
 pub record IsImageOf (p : Program) (nodes : ℕ) (image : Image) : Type 0 where
   pub kernel : Kernel
   pub is_kernel : IsKernelOf p nodes kernel
-  pub linked : image ≡ linked (kernel_pieces kernel) []
+  pub linked : image ≡ linked (kernel_pieces kernel) kernel.library
   pub items : AreItems (kernel_pieces kernel)

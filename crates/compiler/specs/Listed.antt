@@ -1,5 +1,5 @@
 -- The obligations of programs without generics.
-use Rattle.std.specs.Prelude.{List, [], ◌∷◌, map}
+use Rattle.std.specs.Prelude.{ℕ, List, [], ◌∷◌, ◌++◌, map}
 use Rattle.cov_base.specs.declared.position.Pos.{Pos}
 use Rattle.cov_base.specs.declared.obligations.StmtEntry.{StmtEntry}
 use Rattle.cov_base.specs.declared.obligations.Region.{Region}
@@ -12,12 +12,12 @@ abbrev pub entry_at : Pos → StmtEntry
 entry_at p = record { file = p.file; line = p.line; column = p.col }
 
 -- the obligations where statements begin at these places, with these decisions: nothing stands in a generic, and the exceptions are the
--- four predefined ones
-abbrev pub obligations_at : List Pos → List Decision → List Region → Obligations
-obligations_at places decisions regions = record {
+-- four predefined ones and those that are declared, with these names
+abbrev pub obligations_at : List Pos → List Decision → (declared : List (List ℕ)) → List Region → Obligations
+obligations_at places decisions declared regions = record {
   statements = map entry_at places;
   decisions = map decision_entry decisions;
   regions = regions;
   instances = no_instance ∷ [];
-  exceptions = predefined_names;
+  exceptions = predefined_names ++ declared;
 }

@@ -46,7 +46,8 @@ pub(crate) fn object_of(
     })
 }
 
-/// The image of a program: the linked machine code of its kernel, without data.
+/// The image of a program: the linked machine code of its kernel, with the words of the library level as
+/// data.
 fn image_of(alloc: Global, program: &Program, copies: &Copies) -> Result<Image, AllocError>
     requires able { IsCompilable (program_of program.now) }
     requires laid { CanBeLaid program.now }
@@ -55,7 +56,7 @@ fn image_of(alloc: Global, program: &Program, copies: &Copies) -> Result<Image, 
 {
     let kernel = lower(alloc, program, copies)?;
     let pieces = generate(alloc, &kernel)?;
-    link(alloc, pieces.as_slice(), &[])
+    link(alloc, pieces.as_slice(), kernel.init_words())
 }
 
 /// How the object names its sources.

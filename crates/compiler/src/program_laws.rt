@@ -12,9 +12,12 @@ ghost use Rattle.compiler.specs.Kernels.{CanBeLaid, nodes_of};
 ghost use Rattle.compiler.specs.Texts.{AreUnitsOf, IsOfText, IsPlain};
 ghost use Rattle.lower.specs.Standing.{AreTypesNamed};
 
-use legal_counts::{nodes_and_types_have_tokens, words_are_within_limits};
+use legal_counts::{
+    each_exception_has_a_token, library_words_of_packages_are_within_limits,
+    nodes_and_types_have_tokens, words_are_within_limits,
+};
 use legal_programs::{obligations_are_numbered, obligations_stand_in_the_text};
-use legal_texts::programs_of_subprograms_are_well_formed;
+use legal_texts::programs_of_packages_are_well_formed;
 
 /// The units of a legal program come to no more than 4,096 nodes.
 pub fn legal_units_are_few()
@@ -29,6 +32,7 @@ pub fn legal_programs_are_of_their_text()
 {
     obligations_stand_in_the_text();
     obligations_are_numbered();
+    each_exception_has_a_token();
 }
 
 /// It is well-formed and plain.
@@ -36,8 +40,9 @@ pub fn legal_programs_are_plain()
     ensures { (files : ℕ) (units : List LibraryUnit) (main : List ℕ) (p : Program) → AreUnitsOf files units main p
         → IsPlain p }
 {
-    programs_of_subprograms_are_well_formed();
+    programs_of_packages_are_well_formed();
     words_are_within_limits();
+    library_words_of_packages_are_within_limits();
 }
 
 /// The nodes of its typed form are no more than its units have tokens that count, where its declarations of

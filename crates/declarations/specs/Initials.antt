@@ -8,13 +8,17 @@ use Rattle.ada_rules.specs.Plan.{ruled, answer_at}
 use Rattle.ada_rules.specs.Environment.{State, Given, given}
 use Rattle.ada_rules.specs.Expressions as rules
 use Rattle.ada_rules.specs.Declarations as declarations
-use Rattle.ada_rules.specs.Declarations.{known_value}
+use Rattle.ada_rules.specs.Declarations.{value_place, known_value}
 use Rattle.ada_meaning.specs.Program as program
 use Rattle.ada_entities.specs.declared.fault.Refusal.{Refusal}
 use Rattle.ada_entities.specs.Answers.{Answers}
+use Rattle.ada_entities.specs.declared.types.Subtype.{Subtype}
 use Rattle.ada_entities.specs.EntityViews.{Tables}
+use Rattle.symbol_table.specs.declared.symbols.Symbols.{Symbols}
+use Rattle.symbol_table.specs.SymbolViews.{Begins, IsKnown}
 use Rattle.static_parts.specs.declared.part.Valued.{Valued}
 use Rattle.static_parts.specs.Parts.{valued_of}
+use Rattle.static_parts.specs.Subtypes.{subtype_in}
 use Rattle.declarations.specs.declared.within.Within.{Within}
 use Rattle.declarations.specs.declared.initial.LibraryValue.{LibraryValue}
 use Rattle.declarations.specs.Within.{initial_within}
@@ -27,9 +31,10 @@ abbrev pub with_known : List Pos → rules.Valued → State → program.Initial 
 with_known others e n v = given (record { initial = v; known = known_value others e }) n
 
 -- in the step of types
-abbrev pub IsTypedValue : Pos → Within → List Pos → Valued → Result LibraryValue (Failure Refusal) → Type 0
-IsTypedValue p w others e result =
-    (k : Tables) (n : State)
+abbrev pub IsTypedValue : Symbols → Pos → Subtype → Within → List Pos → Valued → Result LibraryValue (Failure Refusal)
+    → Type 0
+IsTypedValue symbols p t w others e result =
+    IsKnown symbols → (k : Tables) → Begins symbols k → (n : State)
     → Answers (λ v. given (library_value_of k v) n)
-    (answer_at p (ruled (option_map (with_known others (valued_of k e) n)
+    (answer_at (value_place p (subtype_in k t) others) (ruled (option_map (with_known others (valued_of k e) n)
     (initial_within k.types (length others) (valued_of k e) w)))) result

@@ -15,8 +15,10 @@ use ada_phrases::Step;
 use ada_syntax::Initial as Source;
 use ada_tree::{Initial, StaticValue};
 use cov_base::{Failure, Pos};
+use object_values::value_place;
 use static_parts::{Accepted, Asks, Notes, Place, Valued};
 use std::alloc::Global;
+use symbol_table::Symbols;
 
 /// The initial value of an object of the library level, and the static value of the expression, where
 /// it stands in no `others`.
@@ -49,22 +51,25 @@ fn known_value(others: &[Pos], value: Valued) -> Option<StaticValue>
     }
 }
 
-/// The initial value that a static value makes with an `others` at each of these places round it, in the
-/// step of types. That it is of the type is asked of the declaration, which begins at `pos`.
+/// The initial value that a static value makes with an `others` at each of these places round it, in an
+/// object of this subtype, in the step of types. That it is of the type is asked where the rules say, in a
+/// declaration that begins at `pos`.
 #[tactic(auto, using(crate::proofs::InitialLaws::parts))]
 fn typed_value(
+    symbols: &Symbols,
     pos: Pos,
+    subtype: Subtype,
     within: Within,
     others: &[Pos],
     value: Valued,
 ) -> Result<LibraryValue, Failure<Refusal>>
-    ensures { IsTypedValue pos within others.now value result }
+    ensures { IsTypedValue symbols.now pos subtype within others.now value result }
 {
     let Ok(count) = u32::try_from(others.len()) else {
         return Err(Failure::WantOfMemory);
     };
     let Some(initial) = within.initial(count, value) else {
-        return Err(refused(pos));
+        return Err(refused(value_place(symbols, pos, subtype, others)?));
     };
     Ok(LibraryValue {
         initial,
@@ -92,6 +97,9 @@ pub(crate) fn library_value(
     let value = place.static_part(alloc, notes, Accepted::Any, asks, &initial.value)?;
     match place.site.step {
         Step::Naming => Ok(LibraryValue::none()),
-        Step::Typing => typed_value(pos, within, others, value),
+        Step::Typing => {
+            let symbols = place.site.symbols;
+            typed_value(symbols, pos, subtype, within, others, value)
+        }
     }
 }

@@ -23,7 +23,7 @@ use Rattle.ada_rules.specs.Entities.{key, Variable, Region}
 use Rattle.ada_rules.specs.Environment.{typing, typed_rule, State, Given, given, Env, with_local, opened, in_loop, in_handler, new_identity, one_type_more, hide, hide_all, statement_label, started}
 use Rattle.ada_rules.specs.Denoted.{Judged, Denoted, a_variable, an_exception, expr_of}
 use Rattle.ada_rules.specs.Expressions.{itself, is_circuit, denoted, judged, decision, scalar_mark}
-use Rattle.ada_rules.specs.Declarations.{indicated, defined, NewValue, new_value, any_value, known_of, value_for, Declared, may_be_bare, one_name, bare_declarations, known_constant, lying_in, local_bare, local_set, objects_declared, exceptions_from, type_declared, subtype_declared, kind_declared, declared, all_declared}
+use Rattle.ada_rules.specs.Declarations.{indicated, defined, NewValue, value_place, new_value, any_value, known_of, value_for, Declared, may_be_bare, one_name, bare_declarations, known_constant, lying_in, local_bare, local_set, objects_declared, exceptions_from, type_declared, subtype_declared, kind_declared, declared, all_declared}
 use Rattle.ada_rules.specs.Statements.{stmts_of, one, any_variable, writable, target, call_of, Chosen, branches_of, Selector, any_selector, selector_of, selector, all_chosen, Arm, alternatives_of, ends_with_others, case_of, Turns, any_turns, turns_between, turns_over, turned, loop_parameter, one_object_more, is_reverse, returned, returned_value, exception_of, where_allowed, all_caught, is_last, declarations_in, Frame, block_of, typed_stmt, stated, all_stated, branched, all_arms, all_handlers, all_handled}
 use Rattle.legal_laws.proofs.KnownObjects.{of_one}
 use Rattle.legal_laws.proofs.NumberedObjects.{exceptions_made, inside_only, mapped_any}
@@ -51,7 +51,7 @@ module _ (env : Env) (step : env.step ≡ typing) (is : IsWholeEnv env) where
 
   pub new_value_placed : (s : State) (q : Pos) (t : AdaSubtype) (i : Initial) → IfOk (new_value env s q t i).answer (SetAt (expr_conditions itself i.value))
   new_value_placed s q t i =
-      answered (SetAt (expr_conditions itself i.value)) q _
+      answered (SetAt (expr_conditions itself i.value)) (value_place q t i.others) _
       (part_so (BothAt s i.value) (SetAt (expr_conditions itself i.value)) (judged env itself s i.value).answer
       (λ x. typed_rule env.step (given (record { value = any_value; known = None }) x.next)
       (option_map (λ v. given (record { value = v; known = known_of i.others x.value }) x.next) (value_for t i.others x.value)))

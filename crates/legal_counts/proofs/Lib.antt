@@ -12,3 +12,14 @@ pub mod WordsOfTypes
 pub mod WordsOfSubprograms
 pub mod WordsOfLibrary
 pub mod GenericsOfBodies
+mod NotedDeclarations
+mod NotedStatements
+mod NotedItems
+mod NotedUnits
+pub mod WordsOfPackages
+mod ExceptionNames
+mod ExceptionDeclarations
+mod ExceptionStatements
+mod ExceptionBodies
+mod ExceptionUnits
+pub mod ExceptionNodes

@@ -5,14 +5,18 @@
 //!   another (`ConditionPlaces`); statement obligations hold the decisions;
 //! - each node has a token (`Within`) outside the declarations of types, where alternatives and handlers have
 //!   choices (`Choices`); so nodes and what types weigh have tokens apart;
+//! - each exception that is declared has a token;
 //! - the words of objects keep to their limit in each instance, and are those that the rules count where
-//!   bounds are known (`ObjectWords`).
+//!   bounds are known (`ObjectWords`);
+//! - where no unit is a generic or an instance (`PlainUnits` of `legal_programs`), the objects of the library
+//!   level stand in no generic and have the words that are counted by units (`LibraryWords`), so the library
+//!   level has a size.
 //!
 //! The functions here do nothing: each carries a law of the definitions as its contract, some of them by a
 //! call of one whose law they cite.
 #![tactic(auto)]
 
-ghost use Rattle.std.specs.Prelude.{true, length, slice_get, List, map, Some, sum_by, ℕ, ◌+◌, ◌<◌, ◌≤◌, ◌≡◌};
+ghost use Rattle.std.specs.Prelude.{true, None, length, slice_get, List, map, Some, sum_by, ℕ, ◌+◌, ◌<◌, ◌≤◌, ◌≡◌};
 ghost use Rattle.cov_base.specs.Expr.{negates_once};
 ghost use Rattle.cov_base.specs.Lists.{Everywhere};
 ghost use Rattle.ada_syntax.specs.Nodes.{unit_nodes};
@@ -38,6 +42,7 @@ ghost use Rattle.legal_counts.specs.Choices.{UnitsHaveChoices};
 ghost use Rattle.legal_counts.specs.ConditionPlaces.{units_conditions};
 ghost use Rattle.statement_code.specs.Sizes.{block_nodes, subprogram_nodes};
 ghost use Rattle.legal_counts.specs.Generics.{generics_of};
+ghost use Rattle.legal_programs.specs.PlainUnits.{ArePlainUnits};
 ghost use Rattle.legal_counts.specs.Within.{AreWithin};
 ghost use Rattle.legal_types.specs.TypeTokens.{units_types};
 ghost use Rattle.legal_types.specs.Weights.{types_weight};
@@ -88,6 +93,14 @@ pub fn nodes_and_types_have_tokens()
     legal_types::types_weigh_no_more_than_their_text();
 }
 
+/// A legal program declares no more exceptions than its units have tokens that count.
+pub fn each_exception_has_a_token()
+    ensures { (standard : Standard) (units : List LibraryUnit) (main : List ℕ) (p : Program)
+        → IsLegal (library_of standard units) main p → length p.declared ≤ sum_by unit_nodes units }
+{
+    legal_instances::orders_of_legal_programs_are_whole();
+}
+
 /// The objects of each subprogram of a legal program take no more words than the limit, in each instance in
 /// which it stands. Where the bounds of their types are known there, each has a size, and these are the words
 /// of their shapes.
@@ -123,3 +136,19 @@ pub fn library_words_are_within_limits()
 {
     legal_instances::instances_have_their_facts();
 }
+
+/// Where no unit of a legal program is a generic or an instance, the objects of the library level stand in no
+/// generic, and their words are those that are counted by units, so they are no more than the limit. Where the
+/// bounds of their types are known, the library has a size, which is these words.
+pub fn library_words_of_packages_are_within_limits()
+    ensures apart { (l : Library) (main : List ℕ) (p : Program) → IsLegal l main p → ArePlainUnits l.units
+        → Everywhere (λ o. o.generic ≡ None) p.objects }
+    ensures counted { (l : Library) (main : List ℕ) (p : Program) → (is : IsLegal l main p) → ArePlainUnits l.units
+        → library_words p is.walked.world.instances
+        ≡ words_of_units is.walked.world is.walked.next.unit_words 0 l.units }
+    ensures few { (l : Library) (main : List ℕ) (p : Program) → (is : IsLegal l main p) → ArePlainUnits l.units
+        → library_words p is.walked.world.instances ≤ most_words_of_library }
+    ensures sized { (l : Library) (main : List ℕ) (p : Program) → (is : IsLegal l main p) → ArePlainUnits l.units
+        → Everywhere (λ o. (i : ℕ) → StandsIn p o.generic i → IsBounded p i o.subtype) p.objects
+        → program_size p ≡ Some (library_words p is.walked.world.instances) }
+{}

@@ -17,7 +17,7 @@ use Rattle.ada_rules.specs.Entities.{key, mark, raisable, Region, redefined}
 use Rattle.ada_rules.specs.Environment.{typed_rule, State, Given, given, Env, with_local, owner_of, new_identity, one_type_more, hide, hide_all}
 use Rattle.ada_rules.specs.Denoted.{Judged}
 use Rattle.ada_rules.specs.Expressions.{itself, judged, Valued, value_named, entered_constant, static_part}
-use Rattle.ada_rules.specs.Declarations.{in_range, indicated, defined, value_for, any_value, NewValue, known_of, new_value, innermost, initial_for, LibraryValue, known_value, library_value, Declared, may_be_bare, one_name, numbered, known_constant, without_value, lying_in, object_entity, local_objects, local_bare, local_set, library_entities, library_declared, no_library_value, objects_declared, exception_declared, exceptions_from, type_declared, subtype_declared, kind_declared, declared, all_declared}
+use Rattle.ada_rules.specs.Declarations.{in_range, indicated, defined, value_for, any_value, NewValue, known_of, value_place, new_value, innermost, initial_for, LibraryValue, known_value, library_value, Declared, may_be_bare, one_name, numbered, known_constant, without_value, lying_in, object_entity, local_objects, local_bare, local_set, library_entities, library_declared, no_library_value, objects_declared, exception_declared, exceptions_from, type_declared, subtype_declared, kind_declared, declared, all_declared}
 use Rattle.legal_laws.proofs.Passing.{if_map, IfPassed, answered, part_so, typed_so}
 use Rattle.legal_instances.specs.Within.{Made, IsWithin, IsRangeWithin, AreConstantsWithin, IsSubtypeWithin, IsEntityWithin, IsRegionWithin, IsHere, Goes, own_of}
 use Rattle.legal_instances.proofs.WithinMore.{subtype_on, range_on, region_on, goes_same, goes_both, here_next, here_local}
@@ -45,7 +45,7 @@ module _ (had : Made) where
 
   pub new_value_so : (env : Env) (s : State) (q : Pos) (t : AdaSubtype) (i : Initial) → IsHere had env s → IfOk (new_value env s q t i).answer (GivesSo had env.generic (NewSo env.generic) s)
   new_value_so env s q t i here =
-      answered (GivesSo had env.generic (NewSo env.generic) s) q _
+      answered (GivesSo had env.generic (NewSo env.generic) s) (value_place q t i.others) _
       (part_so (GivesSo had env.generic (JudgedSo had env.generic) s) (GivesSo had env.generic (NewSo env.generic) s) (judged env itself s i.value).answer
       (λ x. typed_rule env.step (given (record { value = any_value; known = None }) x.next)
       (option_map (λ v. given (record { value = v; known = known_of i.others x.value }) x.next) (value_for t i.others x.value)))
@@ -62,7 +62,7 @@ module _ (had : Made) where
   pub library_value_so : (env : Env) (s : State) (q : Pos) (t : AdaSubtype) (i : Initial) → IsHere had env s
       → IfOk (library_value env s q t i).answer (GivesSo had env.generic (LibrarySo env.generic) s)
   library_value_so env s q t i here =
-      answered (GivesSo had env.generic (LibrarySo env.generic) s) q _
+      answered (GivesSo had env.generic (LibrarySo env.generic) s) (value_place q t i.others) _
       (part_so (GivesSo had env.generic (ValuedSo had env.generic) s) (GivesSo had env.generic (LibrarySo env.generic) s)
       (static_part env s (λ k. true) (in_range (range_in (innermost t i.others))) i.value).answer
       (λ x. typed_rule env.step (given no_library_value x.next)

@@ -23,7 +23,7 @@ use Rattle.ada_rules.specs.Entities.{component}
 use Rattle.ada_rules.specs.Environment.{typed_rule, State, Given, given, map_given, Env, with_local, opened, demanded, hide_all}
 use Rattle.ada_rules.specs.Denoted.{Judged}
 use Rattle.ada_rules.specs.Expressions.{itself, judged, Valued, any_valued, static_known, accepted, static_part, Marked, mark_part, scalar_mark}
-use Rattle.ada_rules.specs.Declarations.{in_range, ordered, bounded, constrained, constraint_of, indicated, index_between, index_of, with_fields, all_as, fields_of, enumerated, unchanged, defined, value_for, any_value, known_of, new_value, innermost, initial_for, known_value, library_value}
+use Rattle.ada_rules.specs.Declarations.{in_range, ordered, bounded, constrained, constraint_of, indicated, index_between, index_of, with_fields, all_as, fields_of, enumerated, unchanged, defined, value_for, any_value, known_of, value_place, new_value, innermost, initial_for, known_value, library_value}
 use Rattle.ada_rules.specs.Statics.{Test, in_order}
 use Rattle.ada_syntax.specs.declared.statement.Choice.{Choice}
 use Rattle.ada_syntax.specs.declared.statement.Choice.TheVariants as choice
@@ -169,7 +169,7 @@ module _ (env : Env) where
 
   pub new_value_keeps : (s : State) (q : Pos) (t : AdaSubtype) (i : Initial) → IfOk (new_value env s q t i).answer (Behind s)
   new_value_keeps s q t i =
-      answered (Behind s) q _
+      answered (Behind s) (value_place q t i.others) _
       (part_so (Behind s) (Behind s) (judged env itself s i.value).answer
       (λ x. typed_rule env.step (given (record { value = any_value; known = None }) x.next)
       (option_map (λ v. given (record { value = v; known = known_of i.others x.value }) x.next) (value_for t i.others x.value)))
@@ -178,7 +178,7 @@ module _ (env : Env) where
 
   pub library_value_keeps : (s : State) (q : Pos) (t : AdaSubtype) (i : Initial) → IfOk (library_value env s q t i).answer (Behind s)
   library_value_keeps s q t i =
-      answered (Behind s) q _
+      answered (Behind s) (value_place q t i.others) _
       (part_so (Behind s) (Behind s) (static_part env s (λ k. true) (in_range (range_in (innermost t i.others))) i.value).answer
       (λ x. typed_rule env.step (given (record { initial = program.no_initial; known = None }) x.next)
       (option_map (λ v. given (record { initial = v; known = known_value i.others x.value }) x.next) (initial_for t i.others x.value)))

@@ -21,7 +21,7 @@ use Rattle.ada_rules.specs.Entities.{Variable}
 use Rattle.ada_rules.specs.Environment.{typed_rule, State, Given, given, Env}
 use Rattle.ada_rules.specs.Denoted.{Judged, expr_of, Denoted, a_mark, a_value, a_variable, a_routine, a_call, an_exception, a_unit, the_test_io, a_thing}
 use Rattle.ada_rules.specs.Expressions.{itself, denoted, judged, Marked, scalar_mark}
-use Rattle.ada_rules.specs.Declarations.{value_for, any_value, known_of, NewValue, new_value}
+use Rattle.ada_rules.specs.Declarations.{value_for, any_value, known_of, NewValue, value_place, new_value}
 use Rattle.ada_rules.specs.Statements.{any_variable, writable, target, Selector, any_selector, selector_of, selector, Turns, any_turns, turns_between, turns_over, turned}
 use Rattle.legal_laws.specs.Kept.{OnlyDecides}
 use Rattle.legal_laws.specs.Known.{AreApart, IsKnownSubtype, IsKnownKind, IsVariable, IsJudged, IsDenoted, IsEnv}
@@ -143,7 +143,7 @@ module _ (p : Program) (inst : ℕ) (declared : AdaType → Type 0) (apart : Are
 
     pub new_value_known : (s : State) (q : Pos) (t : AdaSubtype) (i : Initial) → IfOk (new_value env s q t i).answer (IsNewValue s t)
     new_value_known s q t i =
-        answered (IsNewValue s t) q _
+        answered (IsNewValue s t) (value_place q t i.others) _
         (part_so (GivesValue s) (IsNewValue s t) (judged env itself s i.value).answer
         (λ x. typed_rule env.step (given (record { value = any_value; known = None }) x.next)
         (option_map (λ v. given (record { value = v; known = known_of i.others x.value }) x.next) (value_for t i.others x.value)))

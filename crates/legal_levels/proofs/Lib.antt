@@ -1,5 +1,5 @@
-pub mod InnerDeclarations
-pub mod InnerStatements
-pub mod InnerBodies
-pub mod SubprogramUnits
+pub mod PlainDeclarations
+pub mod PlainStatements
+pub mod PlainBodies
 pub mod OwnInterfaces
+pub mod PlainUnits

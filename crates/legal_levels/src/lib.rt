@@ -1,30 +1,29 @@
-//! Legal programs whose units are subprograms that declare no exception: nothing stands at the library
-//! level or in a generic.
+//! Legal programs whose units are library subprograms, packages and bodies of packages, no generics and no
+//! instances: nothing stands in a generic. That the objects of the library level stand in none is said in
+//! `legal_counts`.
 //! Laws over the definitions of `ada_rules` and `ada_meaning` alone. The functions here do nothing: each
 //! carries a law of the definitions as its contract.
 #![tactic(auto)]
 
-ghost use Rattle.std.specs.Prelude.{◌≡◌, ℕ, List, [], Ok};
+ghost use Rattle.std.specs.Prelude.{◌≡◌, ℕ, List, Ok};
 ghost use Rattle.ada_meaning.specs.Program.{Program};
 ghost use Rattle.ada_rules.specs.Environment.{Step};
 ghost use Rattle.ada_rules.specs.Library.{Library};
 ghost use Rattle.ada_rules.specs.Units.{Walked, judged_in};
+ghost use Rattle.legal_programs.specs.PlainUnits.{ArePlainUnits};
 ghost use Rattle.legal_programs.specs.Walked.{IsLegal};
-ghost use Rattle.legal_levels.specs.Levels.{AreInNoGeneric, AreOwnInterfaces, AreSubprogramUnits};
+ghost use Rattle.legal_levels.specs.Levels.{AreExceptionsInNoGeneric, AreInNoGeneric, AreOwnInterfaces};
 
-/// A legal program whose units are subprograms that declare no exception has no object of the library
-/// level and no exception of its own, and each of its subprograms stands in no generic.
-pub fn programs_of_subprograms_have_no_library_level()
-    ensures objects { (l : Library) (main : List ℕ) (p : Program) → IsLegal l main p → AreSubprogramUnits l.units
-        → p.objects ≡ [] }
-    ensures exceptions { (l : Library) (main : List ℕ) (p : Program) → IsLegal l main p → AreSubprogramUnits l.units
-        → p.declared ≡ [] }
-    ensures generics { (l : Library) (main : List ℕ) (p : Program) → IsLegal l main p → AreSubprogramUnits l.units
+/// Each exception that a legal program of such units declares and each of its subprograms stands in no generic.
+pub fn plain_programs_stand_in_no_generic()
+    ensures exceptions { (l : Library) (main : List ℕ) (p : Program) → IsLegal l main p → ArePlainUnits l.units
+        → AreExceptionsInNoGeneric p.declared }
+    ensures subprograms { (l : Library) (main : List ℕ) (p : Program) → IsLegal l main p → ArePlainUnits l.units
         → AreInNoGeneric p.subprograms }
 {}
 
-/// Behind the walk over such units none of them is a package, a generic or an instance of one.
-pub fn units_of_subprograms_are_no_generics()
+/// Behind the walk over such units none of them is seen as a generic or an instance of one.
+pub fn plain_units_are_no_generics()
     ensures { (step : Step) (l : Library) (main : List ℕ) (x : Walked) → (judged_in step l main).answer ≡ Ok x
-        → AreSubprogramUnits l.units → AreOwnInterfaces x.world }
+        → ArePlainUnits l.units → AreOwnInterfaces x.world }
 {}

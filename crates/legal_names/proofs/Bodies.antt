@@ -1,5 +1,5 @@
 -- Specifications and bodies keep the names of exceptions and instances, in both steps.
-use Rattle.std.proofs.Common.{◌+◌, ℕ, nat_eq, Bool, true, false, if◌then◌else◌, List, [], ◌∷◌, ◌++◌, Option, Some, None, option_map, IfSome, IfOk, IsAscii, refl}
+use Rattle.std.proofs.Common.{◌+◌, ℕ, nat_eq, Bool, true, false, if◌then◌else◌, List, [], ◌∷◌, ◌++◌, Option, Some, None, option_map, IfSome, IfOk, refl}
 use Rattle.cov_base.specs.Lists.{Everywhere}
 use Rattle.cov_base.specs.declared.position.Pos.{Pos}
 use Rattle.ada_syntax.specs.Tree.{Name}
@@ -27,9 +27,9 @@ use Rattle.ada_rules.specs.Units.{package_item, package_items, body_item, body_i
 use Rattle.legal_laws.specs.Kept.{OnlyDecides}
 use Rattle.legal_laws.proofs.Passing.{IfPassed, if_test, answered, part_so, weaker_ok, typed_either, any_answer, ruled_so, if_map}
 use Rattle.legal_laws.proofs.KeptExpressions.{mark_part_behind}
-use Rattle.legal_names.specs.Spelled.{IsBodySpelled, IsPackageItemSpelled, IsBodyItemSpelled}
+use Rattle.legal_names.specs.Spelled.{IsWord, IsBodySpelled, IsPackageItemSpelled, IsBodyItemSpelled}
 use Rattle.legal_names.specs.Named.{IsNamedEnv, Keeps}
-use Rattle.legal_names.proofs.Ascii.{key_ascii}
+use Rattle.legal_names.proofs.Words.{key_word}
 use Rattle.legal_names.proofs.Declared.{keeps_same, keeps_none, keeps_both, keeps_decides, keeps_objects, keeps_typed, Keep, KeepsOn, scalar_mark_keeps, declaration_keeps, declarations_keep}
 use Rattle.legal_names.proofs.Stated.{handled_keep}
 
@@ -131,7 +131,7 @@ module _ (env : Env) (before : State) (b : SubprogramBody) (region : Region) (na
   abbrev made : Declared → Given Frame → State
   made x f = body_made env before q.value (block_of x.made f.value) f.next
 
-  pub judged_keeps : Keeps before q.next → IsAscii env.unit_name → IsAscii name → IsBodySpelled b → IfOk (body_judged env before b region name q).answer (KeepsBody before)
+  pub judged_keeps : Keeps before q.next → IsWord env.unit_name → IsWord name → IsBodySpelled b → IfOk (body_judged env before b region name q).answer (KeepsBody before)
   judged_keeps h unit_named named spelled =
       answered (KeepsBody before) b.specification.pos _
       (part_so (KeepsOn q.next) (KeepsBody before) (all_declared inside q.next b.specification.pos b.declarations).answer
@@ -173,7 +173,7 @@ module _ (env : Env) (s : State) (b : SubprogramBody) where
       (λ fit v. part_so (KeepsBody s) (λ (g : Given Region). KeepsBody s g.next)
       (body_judged env s b (with_routine env region b.specification.name q.value) (key b.specification.name) q).answer
       (λ next. rule (Some (given (with_routine env region b.specification.name q.value) next)))
-      (judged_keeps env s b (with_routine env region b.specification.name q.value) (key b.specification.name) q h named.0 (key_ascii b.specification.name spelled.0) spelled)
+      (judged_keeps env s b (with_routine env region b.specification.name q.value) (key b.specification.name) q h named.0 (key_word b.specification.name spelled.0) spelled)
       (λ next k. k)))))
 
 -- the items of packages

@@ -1,4 +1,4 @@
-mod Ascii
+mod Words
 mod Declared
 mod Stated
 mod Bodies

@@ -27,7 +27,7 @@ every_inserted P before x [] h k = (h, tt)
 every_inserted P before x (y ∷ ys) h k =
     either_list P (before y x) (y ∷ inserted before x ys) (x ∷ y ∷ ys) (k.0, every_inserted P before x ys h k.1) (h, k)
 
-every_ordered : {X : Type 0} (P : X → Type 0) (before : X → X → Bool) (xs : List X) → Everywhere P xs → Everywhere P (in_order before xs)
+pub every_ordered : {X : Type 0} (P : X → Type 0) (before : X → X → Bool) (xs : List X) → Everywhere P xs → Everywhere P (in_order before xs)
 every_ordered P before [] h = tt
 every_ordered P before (x ∷ xs) h = every_inserted P before x (in_order before xs) h.0 (every_ordered P before xs h.1)
 

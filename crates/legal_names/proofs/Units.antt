@@ -1,6 +1,5 @@
 -- Units keep the names of exceptions and instances, in both steps.
-use Rattle.std.proofs.Common.{◌≡◌, inl, inr, sym, subst, ◌+◌, ℕ, zero, suc, false, List, [], ◌∷◌, ◌++◌, Option, Some, None, option_map, IfSome, IfOk, IsAscii, slice_get, refl}
-use Rattle.std.proofs.lemmas.Str.Ascii.{IsAscii-nil}
+use Rattle.std.proofs.Common.{◌≡◌, inl, inr, sym, subst, ◌+◌, ℕ, zero, suc, false, List, [], ◌∷◌, ◌++◌, Option, Some, None, option_map, IfSome, IfOk, slice_get, refl}
 use Rattle.cov_base.specs.Lists.{Everywhere, Somewhere}
 use Rattle.cov_base.specs.declared.position.Pos.{Pos}
 use Rattle.ada_syntax.specs.Tree as source
@@ -26,9 +25,9 @@ use Rattle.ada_rules.specs.Units.{env_of, package_items, body_items, Walked, at_
 use Rattle.legal_laws.specs.Kept.{OnlyDecides}
 use Rattle.legal_laws.proofs.Passing.{IfPassed, answered, part_so, weaker_ok, typed_either, any_answer}
 use Rattle.legal_laws.proofs.KeptExpressions.{denoted_behind}
-use Rattle.legal_names.specs.Spelled.{IsSpelled, IsBodySpelled, IsItemSpelled, IsPackageItemSpelled, IsBodyItemSpelled, AreUnitsSpelled}
+use Rattle.legal_names.specs.Spelled.{IsWord, IsSpelled, IsBodySpelled, IsItemSpelled, IsPackageItemSpelled, IsBodyItemSpelled, AreUnitsSpelled}
 use Rattle.legal_names.specs.Named.{IsNamedEnv, Keeps, KeepsUnits, IsOfUnits}
-use Rattle.legal_names.proofs.Ascii.{key_ascii}
+use Rattle.legal_names.proofs.Words.{no_word, key_word}
 use Rattle.legal_names.proofs.Declared.{keeps_same, keeps_none, keeps_both, keeps_decides, Keep, expression_keeps, static_keeps, mapped_keeps}
 use Rattle.legal_names.proofs.Bodies.{specified_keeps, judged_keeps, items_keep, body_items_keep, formals_keep}
 
@@ -131,7 +130,7 @@ instance_keeps us env s p n k i spelled there =
     (λ actuals h. let all = keeps_both s (at_unit s) actuals.next (keeps_at_unit s) h in
     record {
       names = all.names;
-      instances = λ m. (record { name = key_ascii i.name spelled; place = there }, subst (Everywhere (IsOfUnits us)) (sym all.instances) m);
+      instances = λ m. (record { name = key_word i.name spelled; place = there }, subst (Everywhere (IsOfUnits us)) (sym all.instances) m);
     })))
 
 library_keeps : (us : List LibraryUnit) (env : Env) (s : State) (n : ℕ) (b : SubprogramBody) → IfOk (library_subprogram env s n b).answer (Interfaces us s)
@@ -164,7 +163,7 @@ module _ (step : Step) (l : Library) where
   interface_keeps : (w : World) (s : State) (n : ℕ) (u : LibraryUnit) (i : LibraryItem) → IsItemSpelled i → Somewhere (λ v. u.item_pos ≡ v.item_pos) us
       → IfOk (interface_judged step l w s n u i).answer (Interfaces us s)
   interface_keeps w s n u (library.Package x) h there =
-      package_keeps us (env_of step w n (key x.name) (seen_in w l u (unit n))) s u.item_pos n x (key_ascii x.name h.0, IsAscii-nil) h.1
+      package_keeps us (env_of step w n (key x.name) (seen_in w l u (unit n))) s u.item_pos n x (key_word x.name h.0, no_word) h.1
   interface_keeps w s n u (library.Instance i) h there =
       instance_keeps us (env_of step w n (key i.name) (seen_in w l u hidden)) s u.item_pos n (instance_number n l.units) i h there
   interface_keeps w s n u (library.Subprogram b) h there = library_keeps us (env_of step w n (key b.specification.name) (seen_in w l u hidden)) s n b
@@ -206,22 +205,22 @@ module _ (step : Step) (l : Library) where
       → IfOk (package_body_of step l w s m u b o).answer (Keeps s)
   body_of_keeps w s m u b None named spelled = keeps_same s
   body_of_keeps w s m u b (Some n) named spelled =
-      package_body_keeps (env_of step w m (key b.name) (seen_in_body w l n u)) s u.item_pos n b (key_ascii b.name named, IsAscii-nil) spelled
+      package_body_keeps (env_of step w m (key b.name) (seen_in_body w l n u)) s u.item_pos n b (key_word b.name named, no_word) spelled
 
-  library_body_keeps : (env : Env) (s : State) (b : SubprogramBody) → IsAscii env.unit_name → IsBodySpelled b → IfOk (library_body env s b).answer (Keeps s)
+  library_body_keeps : (env : Env) (s : State) (b : SubprogramBody) → IsWord env.unit_name → IsBodySpelled b → IfOk (library_body env s b).answer (Keeps s)
   library_body_keeps env s b named spelled =
       answered (Keeps s) b.specification.pos _
       (part_so (Keep (at_unit s)) (Keeps s) (specified (record env { is_library = false }) (at_unit s) b.specification).answer
       (λ q. body_judged (record env { is_library = false }) s b [] [] q >>= (λ next. rule (Some next)))
       (specified_keeps (record env { is_library = false }) (at_unit s) b.specification)
       (λ q h. part_so (Keeps s) (Keeps s) (body_judged (record env { is_library = false }) s b [] [] q).answer (λ next. rule (Some next))
-      (judged_keeps (record env { is_library = false }) s b [] [] q (keeps_both s (at_unit s) q.next (keeps_at_unit s) h) named IsAscii-nil spelled) (λ next k. k)))
+      (judged_keeps (record env { is_library = false }) s b [] [] q (keeps_both s (at_unit s) q.next (keeps_at_unit s) h) named no_word spelled) (λ next k. k)))
 
   bodies_keeps : (w : World) (s : State) (n : ℕ) (u : LibraryUnit) (i : LibraryItem) → IsItemSpelled i
       → IfOk (bodies_judged step l w s n u i).answer (Keeps s)
   bodies_keeps w s n u (library.PackageBody b) h = body_of_keeps w s n u b (unit_named l.names (key b.name)) h.0 h.1
   bodies_keeps w s n u (library.Subprogram b) h =
-      library_body_keeps (env_of step w n (key b.specification.name) (seen_in w l u (routine_entity (interface_of w n)))) s b (key_ascii b.specification.name h.0) h
+      library_body_keeps (env_of step w n (key b.specification.name) (seen_in w l u (routine_entity (interface_of w n)))) s b (key_word b.specification.name h.0) h
   bodies_keeps w s n u (library.Package x) h = keeps_same s
   bodies_keeps w s n u (library.Instance i) h = keeps_same s
 

@@ -1,17 +1,19 @@
--- Exceptions and instances with the names and places of the text, where names are ASCII.
-use Rattle.std.specs.Prelude.{◌≡◌, List, IsAscii}
+-- Exceptions and instances with the names and places of the text, where names are words in ASCII.
+use Rattle.std.specs.Prelude.{◌≡◌, ◌≤◌, ◌+◌, ◌*◌, List, IsAscii, length}
 use Rattle.cov_base.specs.Lists.{Everywhere, Somewhere}
 use Rattle.ada_meaning.specs.Program.{ExceptionDeclaration, Instance, Program}
 use Rattle.ada_rules.specs.Environment.{Env, State}
 use Rattle.ada_syntax.specs.declared.unit.Unit.{Unit as LibraryUnit}
+use Rattle.legal_names.specs.Spelled.{longest_word, IsWord}
 
 pub record IsNamed (d : ExceptionDeclaration) : Type 0 where
-  pub unit : IsAscii d.unit
+  pub unit : IsWord d.unit
   pub name : IsAscii d.name
+  pub short : length d.name ≤ 2 * longest_word + 1
 
 -- an instance stands where the item of a unit does
 pub record IsOfUnits (units : List LibraryUnit) (i : Instance) : Type 0 where
-  pub name : IsAscii i.name
+  pub name : IsWord i.name
   pub place : Somewhere (λ u. i.place ≡ u.item_pos) units
 
 -- the exceptions and instances of a program of these units
@@ -21,7 +23,7 @@ pub record HasNames (units : List LibraryUnit) (p : Program) : Type 0 where
 
 -- the names of what stands round a place
 abbrev pub IsNamedEnv : Env → Type 0
-IsNamedEnv env = IsAscii env.unit_name × IsAscii env.subprogram_name
+IsNamedEnv env = IsWord env.unit_name × IsWord env.subprogram_name
 
 abbrev pub AreNamed : State → Type 0
 AreNamed s = Everywhere IsNamed s.exceptions_declared

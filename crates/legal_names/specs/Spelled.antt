@@ -1,6 +1,6 @@
--- Units whose names are spelled in ASCII: their own, those of the bodies in them, and those of the exceptions that they
+-- Units whose names are words in ASCII: their own, those of the bodies in them, and those of the exceptions that they
 -- declare.
-use Rattle.std.specs.Prelude.{List, Option, Some, None, IsAscii}
+use Rattle.std.specs.Prelude.{ℕ, ◌≤◌, List, Option, Some, None, IsAscii, length}
 use Rattle.cov_base.specs.Lists.{Everywhere}
 use Rattle.ada_syntax.specs.StatementTree as text
 use Rattle.ada_syntax.specs.declared.declaration.Declaration.{Declaration}
@@ -16,8 +16,16 @@ use Rattle.ada_syntax.specs.declared.unit.PackageItem.TheVariants as part
 use Rattle.ada_syntax.specs.declared.unit.SubprogramBody.{SubprogramBody}
 use Rattle.ada_syntax.specs.declared.unit.Unit.{Unit as LibraryUnit}
 
+-- the most bytes of a source file (this language's profile), which a word of it does not pass
+abbrev pub longest_word : ℕ
+longest_word = 1048576
+
+pub record IsWord (text : List ℕ) : Type 0 where
+  pub ascii : IsAscii text
+  pub short : length text ≤ longest_word
+
 abbrev pub IsSpelled : Identifier → Type 0
-IsSpelled i = IsAscii i.text
+IsSpelled i = IsWord i.text
 
 abbrev pub IsKindSpelled : DeclarationKind → Type 0
 IsKindSpelled (declares.Exception is) = Everywhere IsSpelled is

@@ -29,7 +29,7 @@ use Rattle.ada_syntax.specs.declared.name.Identifier.{Identifier}
 use Rattle.ada_rules.specs.Environment.{Step, naming, typing, typed_rule, State, Given, given, map_given, Env, with_local, opened, demanded, hide_all}
 use Rattle.ada_rules.specs.Denoted.{Judged, Denoted, a_mark, a_variable, an_exception, expr_of}
 use Rattle.ada_rules.specs.Expressions.{itself, is_circuit, denoted, judged, Valued, any_valued, value_named, static_known, accepted, static_part, Marked, any_mark, marked, mark_or_any, mark_part, scalar_only, scalar_mark}
-use Rattle.ada_rules.specs.Declarations.{in_range, ordered, bounded, constrained, constraint_of, indicated, index_between, index_of, with_fields, all_as, fields_of, enumerated, unchanged, defined, value_for, any_value, known_of, NewValue, new_value, numbered, known_constant}
+use Rattle.ada_rules.specs.Declarations.{in_range, ordered, bounded, constrained, constraint_of, indicated, index_between, index_of, with_fields, all_as, fields_of, enumerated, unchanged, defined, value_for, any_value, known_of, NewValue, value_place, new_value, numbered, known_constant}
 use Rattle.ada_rules.specs.Statements.{any_variable, writable, target, Selector, any_selector, selector_of, selector, among, chosen, all_chosen, any_turns, turns_between, turns_over, Turns, turned, exception_of, where_allowed, caught, all_caught}
 use Rattle.ada_rules.specs.Statics.{Test, in_order}
 use Rattle.legal_laws.proofs.KeptStatics.{named_only}
@@ -208,7 +208,7 @@ module _ (env : Env) (step : env.step ≡ typing) (is : IsWholeEnv env) where
 
   pub new_value_decides : (s : State) (q : Pos) (t : AdaSubtype) (i : Initial) → IfOk (new_value env s q t i).answer (ValueFrom s)
   new_value_decides s q t i =
-      answered (ValueFrom s) q _
+      answered (ValueFrom s) (value_place q t i.others) _
       (part_so (JudgesFrom itself (is_circuit i.value) s) (ValueFrom s) (judged env itself s i.value).answer
       (λ x. typed_rule env.step (given (record { value = any_value; known = None }) x.next)
       (option_map (λ v. given (record { value = v; known = known_of i.others x.value }) x.next) (value_for t i.others x.value)))

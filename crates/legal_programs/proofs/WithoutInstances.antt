@@ -1,6 +1,8 @@
 -- Programs without instances: there is nothing to resolve, and the final program serves each state of its walk.
 use Rattle.std.proofs.Common.{◌≡◌, ◌+◌, ℕ, false, if◌then◌else◌, List, [], ◌∷◌, length, reverse, Option, Some, None, IfSome, slice_get, refl, sym, ap, ◌∙◌, subst, arith, inl}
 use Rattle.cov_base.specs.Lists.{Everywhere}
+use Rattle.ada_syntax.specs.declared.unit.LibraryItem.{LibraryItem}
+use Rattle.ada_syntax.specs.declared.unit.LibraryItem.TheVariants as library
 use Rattle.ada_syntax.specs.declared.unit.Unit.{Unit as LibraryUnit}
 use Rattle.ada_meaning.specs.Obligations.{in_order, AreResolved, IsResolved}
 use Rattle.ada_meaning.specs.Program.{Program}
@@ -13,10 +15,22 @@ use Rattle.legal_programs.proofs.FactsCounted.{facts_counted}
 use Rattle.legal_programs.specs.Final.{IsServed}
 use Rattle.legal_programs.specs.Growing.{Extends}
 use Rattle.legal_programs.specs.Homes.{instances_in, instances_at}
+use Rattle.legal_programs.specs.PlainUnits.{IsPlainUnit, ArePlainUnits}
 use Rattle.legal_programs.specs.Walked.{IsLegal}
 use Rattle.legal_programs.proofs.Counted.{states_of}
 use Rattle.legal_programs.proofs.DecidedUnits.{every_at}
 use Rattle.legal_programs.proofs.Finals.{final_served}
+
+-- units without generics
+pub plain_instances : (units : List LibraryUnit) → ArePlainUnits units → Everywhere (λ u. is_instance u.item ≡ false) units
+plain_instances [] h = tt
+plain_instances (u ∷ us) h = (of_item u.item h.0, plain_instances us h.1)
+  where
+    of_item : (i : LibraryItem) → IsPlainUnit i → is_instance i ≡ false
+    of_item (library.Subprogram b) k = refl
+    of_item (library.Package x) k = refl
+    of_item (library.PackageBody x) k = refl
+    of_item (library.Instance x) k = absurd k
 
 none_in : (o : Option LibraryUnit) → IfSome o (λ u. is_instance u.item ≡ false) → instances_in o ≡ 0
 none_in None h = refl

@@ -13,3 +13,4 @@ pub mod Closed
 pub mod TextPlaces
 pub mod Worked
 pub mod DecisionPlaces
+pub mod PlainUnits

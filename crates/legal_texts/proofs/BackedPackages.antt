@@ -20,7 +20,7 @@ use Rattle.legal_programs.specs.Walked.{IsLegal}
 use Rattle.legal_programs.proofs.Counted.{states_of}
 use Rattle.legal_programs.proofs.Headings.{are_headed}
 use Rattle.legal_instances.specs.Ordered.{IsWholeOrder}
-use Rattle.legal_texts.specs.Packages.{ArePackages}
+use Rattle.legal_programs.specs.PlainUnits.{ArePlainUnits}
 use Rattle.legal_texts.specs.Told.{Table, IsToldRegion, Names, IsToldPlace}
 use Rattle.legal_texts.proofs.BackedRoutines.{IsBackedAt, made_here, body_backed}
 use Rattle.legal_texts.proofs.BodyNumbers.{bodies_numbered}
@@ -91,7 +91,7 @@ module _ (l : Library) (main : List ℕ) (p : Program) (legal : IsLegal l main p
       one : BodyName
       one = record { package_name = key b.specification.name; name = key b.specification.name }
 
-  module _ (packages : ArePackages l.units) (whole : IsWholeOrder l) (standard : l.standard ≡ whole_standard) where
+  module _ (packages : ArePlainUnits l.units) (whole : IsWholeOrder l) (standard : l.standard ≡ whole_standard) where
     told_before : IsToldWorld l (world_before l)
     told_before = record {
       table = first_table;

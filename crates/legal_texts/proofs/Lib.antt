@@ -17,6 +17,7 @@ mod UnitPlaces
 mod LibraryBodies
 mod KnownWorlds
 mod FormedPrograms
+mod KnownObjects
 mod LibraryItems
 mod LibraryWords
 mod ObjectsSeen

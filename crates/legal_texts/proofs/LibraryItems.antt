@@ -24,8 +24,9 @@ use Rattle.ada_rules.specs.Environment.{typed_rule, State, Given, given, Env, wi
 use Rattle.ada_rules.specs.Expressions.{Valued, static_part}
 use Rattle.ada_rules.specs.Declarations.{Defined, type_counted, in_range, indicated, defined, innermost, initial_for, LibraryValue, known_value, library_value, Declared, may_be_bare, one_name, known_constant, object_entity, library_entities, library_objects, library_declared, no_library_value, local_bare, local_set, new_value, objects_declared, exception_declared, exceptions_from, type_declared, subtype_declared, kind_declared, declared}
 use Rattle.ada_rules.specs.Statics.{Facts}
+use Rattle.legal_laws.specs.Bounded.{IsBounded}
 use Rattle.legal_laws.specs.Known.{IsKnownSubtype, IsRegion}
-use Rattle.legal_laws.specs.LibraryLevel.{AreObjects, AreFormed}
+use Rattle.legal_laws.specs.LibraryLevel.{AreObjects}
 use Rattle.legal_laws.specs.Served.{AreListed, IsFinal}
 use Rattle.legal_laws.specs.Standing.{with_type, with_types, Stands}
 use Rattle.legal_laws.specs.Valued.{AreFactsInBase, HaveFacts}
@@ -37,11 +38,13 @@ use Rattle.legal_laws.proofs.Identities.{apart_with, older_with}
 use Rattle.legal_laws.proofs.Wider.{env_wider}
 use Rattle.legal_laws.proofs.KnownRegions.{hidden_known, all_hidden_known, redefined_known, local_known}
 use Rattle.legal_laws.proofs.KnownStatics.{IsStaticPart, static_part_known, indicated_known}
+use Rattle.legal_laws.proofs.KnownBounds.{known_bounded}
 use Rattle.legal_laws.proofs.KnownTypes.{subtype_is_type}
 use Rattle.legal_laws.proofs.DefinedTypes.{IsDefined, defined_known}
 use Rattle.legal_laws.proofs.Leading.{Leads, leads_both, leads_statics, library_leads}
 use Rattle.legal_laws.proofs.NumberedObjects.{mapped_any}
 use Rattle.legal_laws.proofs.KnownObjects.{constant_keeps}
+use Rattle.legal_texts.proofs.KnownObjects.{AreKnownObjects}
 
 at_library : {B : Type 0} (P : B → Type 0) (b : Bool) (o r : Plan B) → b ≡ true → IfPassed o.outcome P → IfPassed (if b then o else r).outcome P
 at_library P true o r e h = h
@@ -129,7 +132,7 @@ module _ (p : Program) (facts : List Facts) (has : HaveFacts p.instances facts) 
     Objects os = AreObjects p inst env.generic shape_of Sees (owner_of env) os
 
     abbrev Formed : List LibraryObject → Type 0
-    Formed os = AreFormed p inst env.generic os
+    Formed os = AreKnownObjects p inst env.generic os
 
     -- what a declaration of the library level comes to
     pub record AreLibraryMade (x : Declared) : Type 0 where
@@ -154,10 +157,11 @@ module _ (p : Program) (facts : List Facts) (has : HaveFacts p.instances facts) 
     here_of t v n (i ∷ is) os h =
         let rest = here_of t v (n + 1) is _ h in (rest.0.1, (rest.0.0 refl, rest.1))
 
-    formed_more : (t : AdaSubtype) (v : program.Initial) (n : ℕ) (is : List Identifier) (os : List LibraryObject) → IsType (ShapeOf t) → IsInitial p inst v → Formed os
-        → Formed (library_objects env t v n is os)
-    formed_more t v n [] os type initial h = h
-    formed_more t v n (i ∷ is) os type initial h = formed_more t v (n + 1) is _ type initial ((λ e. (type, initial)), h)
+    formed_more : (t : AdaSubtype) (v : program.Initial) (n : ℕ) (is : List Identifier) (os : List LibraryObject) → IsType (ShapeOf t) → IsInitial p inst v
+        → IsBounded p inst (subtype_in_tree t) → Formed os → Formed (library_objects env t v n is os)
+    formed_more t v n [] os type initial bounded h = h
+    formed_more t v n (i ∷ is) os type initial bounded h =
+        formed_more t v (n + 1) is _ type initial bounded (((λ e. (type, initial)), h.0), ((refl, bounded), h.1))
 
     entities_known : (c : Constancy) (t : AdaSubtype) (k : Option Static) (n : ℕ) (region : Region) (is : List Identifier) → IsKnownSubtype p inst types t
         → AreHere t n is → IsRegion p inst types shape_of Sees region → IsRegion p inst types shape_of Sees (library_entities env c t k n region is)
@@ -185,7 +189,7 @@ module _ (p : Program) (facts : List Facts) (has : HaveFacts p.instances facts) 
               (stands_led p facts has are inst shape_of types Sees env env.generic u _ now more)
               (entities_known c t k.value k.next.library_objects region is at_u.0 here.1 h);
           formed = λ f. formed_more t v.initial k.next.library_objects is k.next.objects_declared
-              (subtype_is_type p inst types st.apart t at_u.0) at_u.1 (subst Formed (sym (kept ∙ same)) f);
+              (subtype_is_type p inst types st.apart t at_u.0) at_u.1 (known_bounded p inst types t at_u.0) (subst Formed (sym (kept ∙ same)) f);
         }
 
     abbrev Marked : (region : Region) → IsRegion p inst types shape_of Sees region → Given AdaSubtype → Type 0

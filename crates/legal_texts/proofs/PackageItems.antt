@@ -12,7 +12,7 @@ use Rattle.ada_rules.specs.Environment.{State, Given, Env, owner_of}
 use Rattle.ada_rules.specs.Library.{Library}
 use Rattle.ada_rules.specs.Statics.{Facts}
 use Rattle.legal_laws.specs.Known.{AreApart, IsRegion}
-use Rattle.legal_laws.specs.LibraryLevel.{AreObjects, AreFormed}
+use Rattle.legal_laws.specs.LibraryLevel.{AreObjects}
 use Rattle.legal_laws.specs.Served.{IsFinal, AreShaped}
 use Rattle.legal_laws.specs.Standing.{with_types, Stands}
 use Rattle.legal_laws.specs.Valued.{AreFactsOf}
@@ -22,6 +22,7 @@ use Rattle.legal_programs.specs.Growing.{Extends}
 use Rattle.legal_programs.specs.Walked.{IsLegal}
 use Rattle.legal_programs.proofs.Counted.{library_distinct}
 use Rattle.legal_programs.proofs.WithoutInstances.{served_once}
+use Rattle.legal_texts.proofs.KnownObjects.{AreKnownObjects}
 use Rattle.legal_texts.proofs.LibraryItems.{IsOfUnit}
 use Rattle.legal_texts.proofs.ObjectsSeen.{objects_seen, among_all}
 
@@ -43,7 +44,7 @@ module _ (l : Library) (main : List ℕ) (p : Program) (legal : IsLegal l main p
   Regions types region = IsRegion p 0 types (object_shape p 0 no_subprogram) (StartSees p 0 no_subprogram) region
 
   abbrev pub Formed : State → Type 0
-  Formed s = AreFormed p 0 None s.objects_declared
+  Formed s = AreKnownObjects p 0 None s.objects_declared
 
   -- what the final program keeps
   pub kept_there : (env : Env) (s : State) → env.generic ≡ None → Extends s last → s.words ≡ [] → IsFinal facts 0 p (object_shape p 0 no_subprogram) env.generic s

@@ -17,11 +17,11 @@ use Rattle.ada_rules.specs.Types.{AdaType}
 use Rattle.ada_rules.specs.Entities.{key, Entity, unit, whole_standard}
 use Rattle.ada_rules.specs.Environment.{typing, Interface, no_interface, package_interface, generic_interface, instance_interface, subprogram_interface, World, interface_of, State, beginning_state, Env, opened, owner_of}
 use Rattle.ada_rules.specs.Legal.{checked_with, legal}
-use Rattle.ada_rules.specs.Library.{Library, library_of, item_name, clause_names, is_instance, unit_named, body_names, bodies_of_item, all_bodies}
+use Rattle.ada_rules.specs.Library.{Library, library_of, item_name, clause_names, unit_named, body_names, bodies_of_item, all_bodies}
 use Rattle.ada_rules.specs.Statics.{Facts}
 use Rattle.ada_rules.specs.Subprograms.{specified, body_judged, place_among}
 use Rattle.ada_rules.specs.Units.{env_of, in_package, at_unit, is_generic_interface, region_of, withs_of, seen_in, seen_in_body, subprogram_body, routine_entity, bodies_judged, all_interfaces, world_before}
-use Rattle.legal_laws.specs.Bounded.{AreObjectsBounded}
+use Rattle.legal_laws.specs.Bounded.{IsBounded, AreObjectsBounded}
 use Rattle.legal_laws.specs.Known.{IsEntity, IsOneOf, IsRegion}
 use Rattle.legal_laws.specs.LibraryLevel.{AreFormed}
 use Rattle.legal_laws.specs.Served.{IsFormed}
@@ -48,11 +48,10 @@ use Rattle.legal_programs.proofs.Finals.{none_exceeded}
 use Rattle.legal_programs.proofs.Headings.{are_headed, have_homes}
 use Rattle.legal_programs.proofs.Passed.{of_ok, passed_rule, is_legal}
 use Rattle.legal_programs.proofs.PlacedDecisionUnits.{decisions_placed}
-use Rattle.legal_programs.proofs.WithoutInstances.{nothing_to_resolve, facts_of_none, served_once, no_instances as none_made}
+use Rattle.legal_programs.proofs.WithoutInstances.{nothing_to_resolve, facts_of_none, served_once, plain_instances, no_instances as none_made}
 use Rattle.legal_instances.specs.Ordered.{IsWholeOrder}
 use Rattle.legal_instances.specs.Resolved.{HasTypeBounds, AreTextsFormed}
-use Rattle.legal_texts.specs.Packages.{IsPackageUnit, ArePackages}
-use Rattle.legal_texts.specs.Subprograms.{IsSubprogramItem, AreSubprograms}
+use Rattle.legal_programs.specs.PlainUnits.{IsPlainUnit, ArePlainUnits}
 use Rattle.legal_texts.specs.UnitTexts.{IsItemText, AreUnitTexts}
 use Rattle.legal_texts.proofs.BackedPackages.{told_final, place_told}
 use Rattle.legal_texts.proofs.BodyNumbers.{bodies_numbered, of_unit, HasBodies}
@@ -68,6 +67,7 @@ use Rattle.legal_texts.proofs.PackageWorlds.{IsSeenSo, seen_step, text_at}
 use Rattle.legal_texts.proofs.LibraryBodies.{body_env, body_at}
 use Rattle.legal_texts.proofs.UnitPlaces.{bodies_before}
 use Rattle.legal_texts.proofs.FormedPrograms.{no_interfaces, IsFormedThere, predefined_alone, is_declared, typed_count, bodies_formed, objects_bounded}
+use Rattle.legal_texts.proofs.KnownObjects.{IsBoundedObject, AreKnownObjects}
 use Rattle.legal_texts.proofs.KnownWorlds.{shapes, Sees, IsKnownInterface, unit_known, routine_known, part_known, part_there, IsPackageItem, unbehind}
 use Rattle.legal_texts.proofs.SeenRegions.{seen_more_so}
 use Rattle.legal_texts.proofs.ToldWorlds.{unit_of}
@@ -89,7 +89,7 @@ no_generic p ts n (generic_interface formals region) h = absurd h
 no_generic p ts n (instance_interface g k actuals) h = absurd h
 no_generic p ts n (subprogram_interface r) h = refl
 
-module _ (l : Library) (main : List ℕ) (p : Program) (legal : IsLegal l main p) (packages : ArePackages l.units) (texts : AreUnitTexts l.units)
+module _ (l : Library) (main : List ℕ) (p : Program) (legal : IsLegal l main p) (packages : ArePlainUnits l.units) (texts : AreUnitTexts l.units)
     (of_facts : AreFactsOf p legal.walked.world.instances) (in_order : IsWholeOrder l) (standard_is : l.standard ≡ whole_standard) (standard : IsWholeStandard l.standard)
     (seen : IsSeenSo l main p legal packages texts of_facts in_order standard_is legal.walk.seen) where
   abbrev final : World
@@ -178,7 +178,7 @@ module _ (l : Library) (main : List ℕ) (p : Program) (legal : IsLegal l main p
         counted = m.objects ∙ (h.counted ∙ ap length (sym m.words));
         formed = subst (Everywhere (IsFormedThere p)) (sym m.is_made)
             (λ i stands. subst (λ j. IsFormed p j m.made) (sym (subst (λ g. StandsIn p g i) m.stands stands)) formed, h.formed);
-        objects = subst (AreFormed p 0 None) (sym same) h.objects;
+        objects = subst (AreKnownObjects p 0 None) (sym same) h.objects;
       }
 
   -- the body of a package
@@ -269,7 +269,7 @@ module _ (l : Library) (main : List ℕ) (p : Program) (legal : IsLegal l main p
     count : length s.subprograms ≡ bodies_before n l.units
     left : Left s
 
-  by_item : (s : State) (n : ℕ) (u : LibraryUnit) (t : State) (i : LibraryItem) → u.item ≡ i → IsPackageUnit i → IsItemText i → HasHome l i → IsAtBody l final last s n u t
+  by_item : (s : State) (n : ℕ) (u : LibraryUnit) (t : State) (i : LibraryItem) → u.item ≡ i → IsPlainUnit i → IsItemText i → HasHome l i → IsAtBody l final last s n u t
       → (bodies_judged typing l final s n u i).answer ≡ Ok t → length s.subprograms ≡ bodies_before n l.units → Left s → Left t
   by_item s n u t (library.Subprogram b) item is_unit text home at judged count h = subprogram_left s n u t b item text at judged h
   by_item s n u t (library.Package x) item is_unit text home at judged count h = subst Left (same_some (passed_rule u.pos (Some s) t judged)) h
@@ -322,20 +322,23 @@ module _ (l : Library) (main : List ℕ) (p : Program) (legal : IsLegal l main p
   all_objects none =
       subst (λ r. Everywhere (IsLibraryObject p) r.objects) (sym legal.made)
       (every_so IsObject (IsLibraryObject p) (reverse last.objects_declared) (λ o h. library_object o none h)
-      (every_reversed IsObject last.objects_declared (each_object last.objects_declared all_left.objects)))
+      (every_reversed IsObject last.objects_declared (each_object last.objects_declared all_left.objects.0)))
 
-pub no_instances : (us : List LibraryUnit) → ArePackages us → Everywhere (λ u. is_instance u.item ≡ false) us
-no_instances [] h = tt
-no_instances (u ∷ us) h = (of_item u.item h.0, no_instances us h.1)
-  where
-    of_item : (i : LibraryItem) → IsPackageUnit i → is_instance i ≡ false
-    of_item (library.Subprogram b) k = refl
-    of_item (library.Package x) k = refl
-    of_item (library.PackageBody x) k = refl
-    of_item (library.Instance x) k = absurd k
+  -- and their types have bounds
+  abbrev IsBoundedThere : LibraryObject → Type 0
+  IsBoundedThere o = (i : ℕ) → StandsIn p o.generic i → IsBounded p i o.subtype
+
+  bounded_there : (o : LibraryObject) → IsBoundedObject p 0 None o → IsBoundedThere o
+  bounded_there o h i stands = subst (λ j. IsBounded p j o.subtype) (sym (subst (λ g. StandsIn p g i) h.0 stands)) h.1
+
+  pub all_bounded : Everywhere IsBoundedThere p.objects
+  all_bounded =
+      subst (λ r. Everywhere IsBoundedThere r.objects) (sym legal.made)
+      (every_so (IsBoundedObject p 0 None) IsBoundedThere (reverse last.objects_declared) bounded_there
+      (every_reversed (IsBoundedObject p 0 None) last.objects_declared all_left.objects.1))
 
 -- what the interfaces of a legal program are
-pub all_seen : (l : Library) (main : List ℕ) (p : Program) (legal : IsLegal l main p) (packages : ArePackages l.units) (texts : AreUnitTexts l.units)
+pub all_seen : (l : Library) (main : List ℕ) (p : Program) (legal : IsLegal l main p) (packages : ArePlainUnits l.units) (texts : AreUnitTexts l.units)
     (of_facts : AreFactsOf p legal.walked.world.instances) (in_order : IsWholeOrder l) (standard_is : l.standard ≡ whole_standard)
     → IsSeenSo l main p legal packages texts of_facts in_order standard_is legal.walk.seen
 all_seen l main p is packages texts of_facts in_order standard_is =
@@ -354,33 +357,36 @@ all_seen l main p is packages texts of_facts in_order standard_is =
       names = refl;
       base = before_in_base (length l.units) l.units;
       sized = mapped_length (λ (u : LibraryUnit). no_interface) l.units;
-      formed = tt;
+      formed = (tt, tt);
       words = refl;
       counted = refl;
     })
 
 -- whole programs
 pub packages_formed : (units : List LibraryUnit) (main : List ℕ) (p : Program) → checked_with whole_standard units main ≡ legal p
-    → IsWholeOrder (library_of whole_standard units) → ArePackages units → Rise (units_places units) → Rise (units_decisions units) → AreUnitTexts units
-    → IsWellFormed p × (AreObjectsBounded p × AreTextsFormed p)
+    → IsWholeOrder (library_of whole_standard units) → ArePlainUnits units → Rise (units_places units) → Rise (units_decisions units) → AreUnitTexts units
+    → IsWellFormed p × (AreObjectsBounded p × (AreTextsFormed p × Everywhere (λ o. (i : ℕ) → StandsIn p o.generic i → IsBounded p i o.subtype) p.objects))
 packages_formed units main p h in_order packages statements decisions texts =
     let formed = all_formed l main p is packages texts of_facts in_order refl whole_is_whole seen in
-    let none = none_made l main p is (no_instances units packages) in
+    let none = none_made l main p is (plain_instances units packages) in
     let library = all_objects l main p is packages texts of_facts in_order refl whole_is_whole seen none in (
       well_formed l main p is whole_is_whole
           (record { statements = statements; decisions = subst Rise (sym (decisions_placed l main p is whole_is_whole)) decisions })
           (record {
-            resolved = nothing_to_resolve l main p is (no_instances units packages);
+            resolved = nothing_to_resolve l main p is (plain_instances units packages);
             library = library;
             bodies = bodies_formed p formed;
           }),
       (
         objects_bounded p formed,
-        record {
-          types = subst (λ is_list. Everywhere (λ i. Everywhere (HasTypeBounds p) i.actuals) is_list) (sym none) tt;
-          library = library;
-          bodies = bodies_formed p formed;
-        },
+        (
+          record {
+            types = subst (λ is_list. Everywhere (λ i. Everywhere (HasTypeBounds p) i.actuals) is_list) (sym none) tt;
+            library = library;
+            bodies = bodies_formed p formed;
+          },
+          all_bounded l main p is packages texts of_facts in_order refl whole_is_whole seen,
+        ),
       ),
     )
   where
@@ -391,23 +397,7 @@ packages_formed units main p h in_order packages statements decisions texts =
     is = is_legal l main p h
 
     of_facts : AreFactsOf p is.walked.world.instances
-    of_facts = facts_of_none l main p is (no_instances units packages)
+    of_facts = facts_of_none l main p is (plain_instances units packages)
 
     seen : IsSeenSo l main p is packages texts of_facts in_order refl is.walk.seen
     seen = all_seen l main p is packages texts of_facts in_order refl
-
--- programs of subprograms alone
-are_packages : (units : List LibraryUnit) → AreSubprograms units → ArePackages units
-are_packages [] h = tt
-are_packages (u ∷ us) h = (of_item u.item h.0, are_packages us h.1)
-  where
-    of_item : (i : LibraryItem) → IsSubprogramItem i → IsPackageUnit i
-    of_item (library.Subprogram b) k = tt
-    of_item (library.Package x) k = absurd k
-    of_item (library.PackageBody x) k = absurd k
-    of_item (library.Instance x) k = absurd k
-
-pub subprograms_formed : (units : List LibraryUnit) (main : List ℕ) (p : Program) → checked_with whole_standard units main ≡ legal p
-    → IsWholeOrder (library_of whole_standard units) → AreSubprograms units → Rise (units_places units) → Rise (units_decisions units) → AreUnitTexts units → IsWellFormed p × AreObjectsBounded p
-subprograms_formed units main p h whole subs statements decisions texts =
-    let all = packages_formed units main p h whole (are_packages units subs) statements decisions texts in (all.0, all.1.0)

@@ -22,7 +22,6 @@ use Rattle.ada_rules.specs.Statics.{Facts}
 use Rattle.ada_rules.specs.Subprograms.{Profile, specified, to_complete, body_number, routine_of, body_judged, with_routine, packaged_body}
 use Rattle.ada_rules.specs.Units.{package_item, body_item, body_items}
 use Rattle.legal_laws.specs.Known.{IsEntity}
-use Rattle.legal_laws.specs.LibraryLevel.{AreFormed}
 use Rattle.legal_laws.specs.Served.{Serves, AreListed, IsFormed}
 use Rattle.legal_laws.specs.Standing.{with_types}
 use Rattle.legal_laws.specs.Valued.{AreFactsOf}
@@ -40,6 +39,7 @@ use Rattle.legal_programs.proofs.WholeRegions.{local_whole}
 use Rattle.legal_programs.proofs.WithoutInstances.{served_once}
 use Rattle.legal_texts.specs.Told.{Table, TellsBehind, IsToldPlace}
 use Rattle.legal_texts.specs.UnitTexts.{IsBodyItemText}
+use Rattle.legal_texts.proofs.KnownObjects.{AreKnownObjects}
 use Rattle.legal_texts.proofs.BackedRoutines.{IsBackedAt, item_adds, body_backed, made_here, packaged_made}
 use Rattle.legal_texts.proofs.EntitiesThere.{opened_there}
 use Rattle.legal_texts.proofs.InterfaceWalk.{same_some}
@@ -137,7 +137,7 @@ module _ (l : Library) (main : List ℕ) (p : Program) (legal : IsLegal l main p
             counted = made.objects ∙ (left.counted ∙ ap length (sym made.words));
             formed = subst (Everywhere (IsFormedThere p)) (sym made.is_made)
                 (λ i stands. subst (λ j. IsFormed p j made.made) (sym (subst (λ o. StandsIn p o i) (made.stands ∙ none) stands)) body_formed, left.formed);
-            objects = subst (AreFormed p 0 None) (sym same) left.objects;
+            objects = subst (AreKnownObjects p 0 None) (sym same) left.objects;
           }
 
       region_known : Known g.value

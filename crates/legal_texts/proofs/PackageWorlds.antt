@@ -29,7 +29,6 @@ use Rattle.ada_rules.specs.Plan.{◌>>=◌, rule}
 use Rattle.ada_rules.specs.Subprograms.{Profile, specified, returning_of, typed_parameters, declared_only, place_among, body_number, routine_of}
 use Rattle.ada_rules.specs.Units.{Walked, env_of, at_unit, with_subprogram, library_routine, library_subprogram, seen_in, routine_entity, interface_judged}
 use Rattle.legal_laws.specs.Known.{AreApart, IsOneOf, IsRoutine, IsEntity}
-use Rattle.legal_laws.specs.LibraryLevel.{AreFormed}
 use Rattle.legal_laws.specs.Valued.{AreFactsOf, AreFactsInBase}
 use Rattle.legal_laws.specs.Standing.{AreOlder, Stands}
 use Rattle.legal_laws.proofs.Giving.{returns_value}
@@ -40,6 +39,7 @@ use Rattle.legal_programs.specs.Walked.{IsLegal}
 use Rattle.legal_programs.proofs.Passed.{of_ok, passed_part, passed_rule}
 use Rattle.legal_programs.proofs.Worlds.{IsSameWorld}
 use Rattle.legal_texts.specs.UnitTexts.{IsItemText, AreUnitTexts}
+use Rattle.legal_texts.proofs.KnownObjects.{AreKnownObjects}
 use Rattle.legal_texts.proofs.GrownWorlds.{IsGrown, AreAlikeRegions, seen_more_alike, places_alike, set_others}
 use Rattle.legal_texts.proofs.InterfaceWalk.{IsAtUnit, same_some}
 use Rattle.legal_texts.proofs.Leads.{leads_fit}
@@ -50,7 +50,7 @@ use Rattle.legal_texts.proofs.SeenRegions.{seen_more_so}
 use Rattle.legal_texts.proofs.DeclaredTypes.{added, apart_list, more_types, old_or_new, to_list}
 use Rattle.legal_texts.proofs.LibraryItems.{IsOfUnit}
 use Rattle.legal_instances.specs.Ordered.{IsWholeOrder}
-use Rattle.legal_texts.specs.Packages.{IsPackageUnit, ArePackages}
+use Rattle.legal_programs.specs.PlainUnits.{IsPlainUnit, ArePlainUnits}
 use Rattle.legal_texts.proofs.BackedPackages.{IsLibraryBody, library_body, library_number, routine_backed}
 use Rattle.legal_texts.proofs.PackageItems.{AreKnown}
 use Rattle.legal_texts.proofs.LibraryBodies.{body_env}
@@ -59,7 +59,7 @@ use Rattle.legal_texts.proofs.KnownWorlds.{shapes, Sees, IsKnownMark, IsKnownInt
 use Rattle.legal_texts.proofs.SubprogramItems.{AreBacked, package_known}
 use Rattle.legal_texts.proofs.ToldWorlds.{unit_of}
 
-module _ (l : Library) (main : List ℕ) (p : Program) (legal : IsLegal l main p) (packages : ArePackages l.units) (texts : AreUnitTexts l.units)
+module _ (l : Library) (main : List ℕ) (p : Program) (legal : IsLegal l main p) (packages : ArePlainUnits l.units) (texts : AreUnitTexts l.units)
     (of_facts : AreFactsOf p legal.walked.world.instances) (whole : IsWholeOrder l) (standard_is : l.standard ≡ whole_standard) where
   abbrev final : World
   final = legal.walk.seen.world
@@ -85,7 +85,7 @@ module _ (l : Library) (main : List ℕ) (p : Program) (legal : IsLegal l main p
     pub names : x.world.bodies ≡ all_bodies l.units
     pub base : Everywhere AreFactsInBase x.world.instances
     pub sized : length x.world.interfaces ≡ length l.units
-    pub formed : AreFormed p 0 None x.next.objects_declared
+    pub formed : AreKnownObjects p 0 None x.next.objects_declared
     pub words : x.next.words ≡ []
     pub counted : x.next.objects ≡ length x.next.words
 
@@ -163,7 +163,7 @@ module _ (l : Library) (main : List ℕ) (p : Program) (legal : IsLegal l main p
             names = h.names;
             base = h.base;
             sized = set_length x.world.interfaces n (library_routine env b q.value) ∙ h.sized;
-            formed = subst (AreFormed p 0 None) (sym (short.kept.objects refl)) h.formed;
+            formed = subst (AreKnownObjects p 0 None) (sym (short.kept.objects refl)) h.formed;
             words = h.words;
             counted = h.counted;
           }
@@ -287,7 +287,7 @@ module _ (l : Library) (main : List ℕ) (p : Program) (legal : IsLegal l main p
   pub text_at : (n : ℕ) (u : LibraryUnit) → slice_get l.units n ≡ Some u → IsItemText u.item
   text_at n u there = subst (λ o. IfSome o (λ v. IsItemText v.item)) there (every_at (λ v. IsItemText v.item) l.units n texts)
 
-  by_item : (x : Walked) (n : ℕ) (u : LibraryUnit) (y : Walked) (i : LibraryItem) → u.item ≡ i → IsPackageUnit i → IsItemText i → IsAtUnit l final last x n u y
+  by_item : (x : Walked) (n : ℕ) (u : LibraryUnit) (y : Walked) (i : LibraryItem) → u.item ≡ i → IsPlainUnit i → IsItemText i → IsAtUnit l final last x n u y
       → (interface_judged typing l x.world x.next n u i).answer ≡ Ok y → IsSeenSo x → IsSeenSo y
   by_item x n u y (library.Subprogram b) item is_unit text at judged h = subprogram_seen x n u b item at.there at.fresh at.grown at.same h y judged
   by_item x n u y (library.Package z) item is_unit text at judged h =

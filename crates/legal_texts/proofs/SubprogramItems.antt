@@ -21,7 +21,6 @@ use Rattle.ada_rules.specs.Subprograms.{Profile, specified, declared_only, retur
 use Rattle.ada_rules.specs.Plan.{construct}
 use Rattle.ada_rules.specs.Units.{package_item, package_items}
 use Rattle.legal_laws.specs.Known.{IsKnownSubtype, IsRoutine}
-use Rattle.legal_laws.specs.LibraryLevel.{AreFormed}
 use Rattle.legal_laws.specs.Standing.{with_types, ReturnsAs}
 use Rattle.legal_laws.specs.Valued.{AreFactsOf}
 use Rattle.legal_laws.proofs.Giving.{returns_value}
@@ -36,6 +35,7 @@ use Rattle.legal_programs.proofs.KeptNames.{Has}
 use Rattle.legal_programs.proofs.MainUnit.{name_same}
 use Rattle.legal_programs.proofs.Passed.{of_ok, passed_rule, passed_test}
 use Rattle.legal_texts.specs.UnitTexts.{IsPackageItemText}
+use Rattle.legal_texts.proofs.KnownObjects.{AreKnownObjects}
 use Rattle.legal_texts.proofs.BackedRoutines.{IsBackedAt, item_has}
 use Rattle.legal_texts.proofs.InterfaceWalk.{same_some}
 use Rattle.legal_texts.proofs.KeptBodies.{IsShort, specified_short}
@@ -156,7 +156,7 @@ module _ (l : Library) (main : List ℕ) (p : Program) (legal : IsLegal l main p
           new = made.new;
           own = made.own;
           stands = made.stands;
-          formed = subst (λ o. AreFormed p 0 o x.next.objects_declared) none (made.formed (subst (λ o. AreFormed p 0 o s.objects_declared) (sym none) formed_before));
+          formed = subst (λ o. AreKnownObjects p 0 o x.next.objects_declared) none (made.formed (subst (λ o. AreKnownObjects p 0 o s.objects_declared) (sym none) formed_before));
           words = still;
         }
 
@@ -172,7 +172,7 @@ module _ (l : Library) (main : List ℕ) (p : Program) (legal : IsLegal l main p
           new = [];
           own = tt;
           stands = stands_declared types env s q short.types st (redefined (key x.name) (routine (routine_of env (key x.name) true q.value)) h.region) known;
-          formed = subst (AreFormed p 0 None) (sym (short.kept.objects refl)) formed_before;
+          formed = subst (AreKnownObjects p 0 None) (sym (short.kept.objects refl)) formed_before;
           words = no_words;
         })
 

@@ -18,7 +18,7 @@ use Rattle.ada_rules.specs.Subprograms.{specified, declared_only, closed_by}
 use Rattle.ada_rules.specs.Units.{env_of, package_items, Walked, at_unit, in_specification, with_interface, with_package, package_judged, with_subprogram, library_routine, library_subprogram, seen_in, interface_judged}
 use Rattle.legal_programs.proofs.DecidedUnits.{every_at}
 use Rattle.legal_programs.proofs.Passed.{of_ok, passed_part, passed_rule}
-use Rattle.legal_texts.specs.Packages.{IsPackageUnit, ArePackages}
+use Rattle.legal_programs.specs.PlainUnits.{IsPlainUnit, ArePlainUnits}
 use Rattle.legal_texts.specs.Told.{Table, IsToldRegion, TellsMore, Names, TellsBehind, IsToldPlace}
 use Rattle.legal_texts.proofs.GrownWorlds.{set_others}
 use Rattle.legal_texts.proofs.InterfaceWalk.{IsAtUnit, same_some}
@@ -53,8 +53,8 @@ abbrev is_none : Interface → Bool
 is_none no_interface = true
 is_none i = false
 
-pub unit_of : (units : List LibraryUnit) → ArePackages units → (n : ℕ) (u : LibraryUnit) → slice_get units n ≡ Some u → IsPackageUnit u.item
-unit_of units packages n u there = subst (λ o. IfSome o (λ v. IsPackageUnit v.item)) there (every_at (λ v. IsPackageUnit v.item) units n packages)
+pub unit_of : (units : List LibraryUnit) → ArePlainUnits units → (n : ℕ) (u : LibraryUnit) → slice_get units n ≡ Some u → IsPlainUnit u.item
+unit_of units packages n u there = subst (λ o. IfSome o (λ v. IsPlainUnit v.item)) there (every_at (λ v. IsPlainUnit v.item) units n packages)
 
 module _ (l : Library) where
   pub record IsToldWorld (w : World) : Type 0 where
@@ -171,8 +171,8 @@ module _ (l : Library) where
       never : (i : Interface) → is_none i ≡ false → i ≡ no_interface → ⊥
       never i e f = false≢true (sym e ∙ ap is_none f)
 
-  module _ (packages : ArePackages l.units) (final : World) (last : State) where
-    by_item : (x : Walked) (n : ℕ) (u : LibraryUnit) (y : Walked) (i : LibraryItem) → u.item ≡ i → IsPackageUnit i → IsAtUnit l final last x n u y
+  module _ (packages : ArePlainUnits l.units) (final : World) (last : State) where
+    by_item : (x : Walked) (n : ℕ) (u : LibraryUnit) (y : Walked) (i : LibraryItem) → u.item ≡ i → IsPlainUnit i → IsAtUnit l final last x n u y
         → (interface_judged typing l x.world x.next n u i).answer ≡ Ok y → IsToldWorld x.world → IsToldWorld y.world
     by_item x n u y (library.Subprogram b) item is_unit at judged h = subprogram_told x n u b item at.there h y judged
     by_item x n u y (library.Package z) item is_unit at judged h = package_told x n u z item at.there at.fresh is_unit h y judged

@@ -4,8 +4,8 @@
 //!
 //! - what units see of each other only grows, so that a specification that is looked at twice says
 //!   the same (`Leading`);
-//! - where there is no generic and no instance (`Packages`), all that units see of each other is
-//!   known: declarations of packages, and the subprograms that bodies make;
+//! - where there is no generic and no instance (`PlainUnits` of `legal_programs`), all that units see
+//!   of each other is known: declarations of packages, and the subprograms that bodies make;
 //! - each body has a number of its own (`Numbers`), and marks are told by their identities, so that a
 //!   body has the parameters of the declaration that it completes (`Told`).
 //!
@@ -18,6 +18,7 @@ ghost use Rattle.cov_base.specs.declared.position.Pos.{Pos};
 ghost use Rattle.ada_syntax.specs.declared.declaration.Declaration.{Declaration};
 ghost use Rattle.ada_syntax.specs.declared.unit.BodyItem.{BodyItem};
 ghost use Rattle.ada_syntax.specs.declared.unit.PackageItem.{PackageItem};
+ghost use Rattle.ada_meaning.specs.Bodies.{StandsIn};
 ghost use Rattle.ada_meaning.specs.Program.{Program};
 ghost use Rattle.ada_meaning.specs.WellFormed.{IsWellFormed};
 ghost use Rattle.ada_rules.specs.Declarations.{declared};
@@ -30,14 +31,13 @@ ghost use Rattle.ada_rules.specs.Library.{Library, all_bodies};
 ghost use Rattle.ada_syntax.specs.declared.unit.Unit.{Unit as LibraryUnit};
 ghost use Rattle.legal_instances.specs.Resolved.{AreTextsFormed};
 ghost use Rattle.legal_instances.specs.Worked.{worked_units};
-ghost use Rattle.legal_laws.specs.Bounded.{AreObjectsBounded};
+ghost use Rattle.legal_laws.specs.Bounded.{AreObjectsBounded, IsBounded};
 ghost use Rattle.legal_programs.specs.DecisionPlaces.{units_decisions};
 ghost use Rattle.legal_programs.specs.InText.{Rise};
 ghost use Rattle.legal_programs.specs.TextPlaces.{units_places};
 ghost use Rattle.legal_programs.specs.Walked.{IsLegal};
 ghost use Rattle.legal_texts.specs.Numbers.{AreNumbered};
-ghost use Rattle.legal_texts.specs.Packages.{ArePackages};
-ghost use Rattle.legal_texts.specs.Subprograms.{AreSubprograms};
+ghost use Rattle.legal_programs.specs.PlainUnits.{ArePlainUnits};
 ghost use Rattle.legal_texts.specs.Told.{IsAsDeclared, IsOpen, IsTold, IsToldEntity, IsToldPlace};
 ghost use Rattle.legal_texts.specs.Told.{IsToldRegion, Table, TellsBehind, TellsOn};
 ghost use Rattle.legal_texts.specs.UnitTexts.{AreUnitTexts};
@@ -47,29 +47,22 @@ use legal_instances::orders_of_legal_programs_are_whole;
 
 /// A program of library subprograms, and of packages with their bodies, without generics and instances, that the rules
 /// of the whole language accept is well-formed, in each text of its units, and the types of the objects of its
-/// subprograms have bounds, where its statements and its conditions stand in the order of the text.
+/// subprograms and of the library level have bounds, where its statements and its conditions stand in the order of
+/// the text.
 pub fn programs_of_packages_are_well_formed()
     ensures formed { (units : List LibraryUnit) (main : List ℕ) (p : Program)
-        → checked_with whole_standard units main ≡ legal p → ArePackages units → Rise (units_places units)
+        → checked_with whole_standard units main ≡ legal p → ArePlainUnits units → Rise (units_places units)
         → Rise (units_decisions units) → AreUnitTexts units → IsWellFormed p }
     ensures bounded { (units : List LibraryUnit) (main : List ℕ) (p : Program)
-        → checked_with whole_standard units main ≡ legal p → ArePackages units → Rise (units_places units)
+        → checked_with whole_standard units main ≡ legal p → ArePlainUnits units → Rise (units_places units)
         → Rise (units_decisions units) → AreUnitTexts units → AreObjectsBounded p }
     ensures texts { (units : List LibraryUnit) (main : List ℕ) (p : Program)
-        → checked_with whole_standard units main ≡ legal p → ArePackages units → Rise (units_places units)
+        → checked_with whole_standard units main ≡ legal p → ArePlainUnits units → Rise (units_places units)
         → Rise (units_decisions units) → AreUnitTexts units → AreTextsFormed p }
-{
-    orders_of_legal_programs_are_whole();
-}
-
-/// So is a program of library subprograms alone.
-pub fn programs_of_subprograms_are_well_formed()
-    ensures formed { (units : List LibraryUnit) (main : List ℕ) (p : Program)
-        → checked_with whole_standard units main ≡ legal p → AreSubprograms units → Rise (units_places units)
-        → Rise (units_decisions units) → AreUnitTexts units → IsWellFormed p }
-    ensures bounded { (units : List LibraryUnit) (main : List ℕ) (p : Program)
-        → checked_with whole_standard units main ≡ legal p → AreSubprograms units → Rise (units_places units)
-        → Rise (units_decisions units) → AreUnitTexts units → AreObjectsBounded p }
+    ensures library { (units : List LibraryUnit) (main : List ℕ) (p : Program)
+        → checked_with whole_standard units main ≡ legal p → ArePlainUnits units → Rise (units_places units)
+        → Rise (units_decisions units) → AreUnitTexts units
+        → Everywhere (λ o. (i : ℕ) → StandsIn p o.generic i → IsBounded p i o.subtype) p.objects }
 {
     orders_of_legal_programs_are_whole();
 }
@@ -99,12 +92,12 @@ pub fn marks_are_told_by_their_identities()
 /// subprogram. The units of the worked program with an instance are written as the grammar ensures.
 pub fn worked_programs_meet_the_premises()
     ensures is_legal { checked_with whole_standard plain_units (codes "main") ≡ legal plain_program }
-    ensures packages { ArePackages plain_units }
+    ensures packages { ArePlainUnits plain_units }
     ensures statements { Rise (units_places plain_units) }
     ensures decisions { Rise (units_decisions plain_units) }
     ensures texts { AreUnitTexts plain_units }
     ensures calls_are_legal { checked_with whole_standard package_units (codes "main") ≡ legal package_program }
-    ensures calls_packages { ArePackages package_units }
+    ensures calls_packages { ArePlainUnits package_units }
     ensures calls_statements { Rise (units_places package_units) }
     ensures calls_decisions { Rise (units_decisions package_units) }
     ensures calls_texts { AreUnitTexts package_units }

@@ -27,7 +27,7 @@ use Rattle.ada_rules.specs.Entities.{component, Region}
 use Rattle.ada_rules.specs.Environment.{typed_rule, State, Given, given, map_given, Env, with_local, opened, new_identity, one_type_more, demanded, hide, hide_all, started}
 use Rattle.ada_rules.specs.Denoted.{Judged}
 use Rattle.ada_rules.specs.Expressions.{itself, judged, Valued, any_valued, value_named, static_known, accepted, static_part, Marked, mark_part, scalar_mark}
-use Rattle.ada_rules.specs.Declarations.{in_range, ordered, bounded, constrained, constraint_of, indicated, index_between, index_of, with_fields, all_as, fields_of, enumerated, unchanged, Defined, defined, value_for, any_value, known_of, NewValue, new_value, innermost, initial_for, LibraryValue, known_value, library_value, Declared, may_be_bare, one_name, numbered, known_constant, lying_in, with_objects, local_bare, local_set, with_library_objects, library_declared, no_library_value, objects_declared, exception_declared, exceptions_from, type_counted, type_declared, subtype_declared, kind_declared, declared, all_declared}
+use Rattle.ada_rules.specs.Declarations.{in_range, ordered, bounded, constrained, constraint_of, indicated, index_between, index_of, with_fields, all_as, fields_of, enumerated, unchanged, Defined, defined, value_for, any_value, known_of, NewValue, value_place, new_value, innermost, initial_for, LibraryValue, known_value, library_value, Declared, may_be_bare, one_name, numbered, known_constant, lying_in, with_objects, local_bare, local_set, with_library_objects, library_declared, no_library_value, objects_declared, exception_declared, exceptions_from, type_counted, type_declared, subtype_declared, kind_declared, declared, all_declared}
 use Rattle.ada_rules.specs.Statics.{Test, in_order}
 use Rattle.legal_laws.specs.Kept.{OnlyDecides}
 use Rattle.legal_laws.proofs.Passing.{IfPassed, if_test, answered, part_so, weaker_ok, typed_either, any_answer}
@@ -234,7 +234,7 @@ module _ (env : Env) where
 
   pub new_value_keeps : (s : State) (q : Pos) (t : AdaSubtype) (i : Initial) → IfOk (new_value env s q t i).answer (Keep s)
   new_value_keeps s q t i =
-      answered (Keep s) q _
+      answered (Keep s) (value_place q t i.others) _
       (part_so (Keep s) (Keep s) (judged env itself s i.value).answer
       (λ x. typed_rule env.step (given (record { value = any_value; known = None }) x.next)
       (option_map (λ v. given (record { value = v; known = known_of i.others x.value }) x.next) (value_for t i.others x.value)))
@@ -243,7 +243,7 @@ module _ (env : Env) where
 
   library_value_keeps : (s : State) (q : Pos) (t : AdaSubtype) (i : Initial) → IfOk (library_value env s q t i).answer (Keep s)
   library_value_keeps s q t i =
-      answered (Keep s) q _
+      answered (Keep s) (value_place q t i.others) _
       (part_so (Keep s) (Keep s) (static_part env s (λ k. true) (in_range (range_in (innermost t i.others))) i.value).answer
       (λ x. typed_rule env.step (given (record { initial = program.no_initial; known = None }) x.next)
       (option_map (λ v. given (record { initial = v; known = known_value i.others x.value }) x.next) (initial_for t i.others x.value)))

@@ -14,11 +14,9 @@ pub record IsObject (o : Object) : Type 0 where
   pub closed : IsClosed o
   pub sound : IsSound o
 
--- what the language of the moment leaves out: data, declared exceptions, instances of generics, and regions
+-- what the language of the moment leaves out: instances of generics, and regions
 abbrev pub is_plain : Object → Bool
-is_plain o =
-    (length o.init == 0) && (length o.obligations.exceptions == 4) && (length o.obligations.instances == 1)
-    && (length o.obligations.regions == 0)
+is_plain o = (length o.obligations.instances == 1) && (length o.obligations.regions == 0)
 
 -- the check `field` in the language of the moment
 abbrev pub passes_plain_field : Object → Bool

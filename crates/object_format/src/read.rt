@@ -17,8 +17,8 @@ use std::alloc::Global;
 
 /// The object whose file the bytes are. The fault is the first check that fails: `Short` under 8
 /// bytes, `Magic`, `Version`, `Short` where a count runs past the end, and then the others in the
-/// order of [`ObjectFault`]. In the language of the moment an object has no data, no declared
-/// exceptions, one instance and no regions, and any other fails as [`ObjectFault::Field`].
+/// order of [`ObjectFault`]. In the language of the moment an object has one instance and no regions, and
+/// any other fails as [`ObjectFault::Field`].
 pub fn read_object(alloc: Global, bytes: &[u8]) -> Result<Object, Failure<ObjectFault>>
     // What is read is an object, and is spelled so.
     ensures found { IfOk result (λ o. IsObject o × (is_plain o ≡ true) × (bytes.now ≡ object_bytes o)) }
@@ -79,8 +79,5 @@ fn is_plain(value: &Object) -> bool
     ensures { result ≡ is_plain value.now }
 {
     let due = &value.obligations;
-    value.init.len() == 0
-        && due.exceptions.len() == 4
-        && due.instances.len() == 1
-        && due.regions.len() == 0
+    due.instances.len() == 1 && due.regions.len() == 0
 }

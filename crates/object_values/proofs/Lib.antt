@@ -2,3 +2,4 @@ pub mod ValueLaws
 pub mod Knowing
 pub mod ValueFor
 pub mod NewValueLaws
+pub mod PlaceLaws

@@ -1,3 +1,4 @@
 pub mod Values
 pub mod Reached
+pub mod Places
 pub mod NewValues

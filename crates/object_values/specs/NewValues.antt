@@ -9,7 +9,7 @@ use Rattle.ada_rules.specs.Plan.{ruled, answer_at}
 use Rattle.ada_rules.specs.Environment.{State, given, Env}
 use Rattle.ada_rules.specs.Denoted as rules
 use Rattle.ada_rules.specs.Declarations as declarations
-use Rattle.ada_rules.specs.Declarations.{known_of}
+use Rattle.ada_rules.specs.Declarations.{known_of, value_place}
 use Rattle.ada_syntax.specs.declared.declaration.Initial.{Initial}
 use Rattle.ada_entities.specs.declared.fault.Refusal.{Refusal}
 use Rattle.ada_entities.specs.Answers.{Answers}
@@ -54,11 +54,12 @@ abbrev pub IsTypedValue : Symbols → Subtype → Pos → List Pos → Judged �
 IsTypedValue symbols t p others x result =
     IsKnown symbols → (k : Tables) → Begins symbols k → (n : State)
     → Answers (λ v. given (new_value_of k v) n)
-    (answer_at p (ruled (option_map (λ v. given (record { value = v; known = known_of others (judged_of k x) }) n)
+    (answer_at (value_place p (subtype_of k.types t) others) (ruled (option_map (λ v. given (record { value = v; known = known_of others (judged_of k x) }) n)
     (declarations.value_for (subtype_of k.types t) others (judged_of k x))))) result
 
 -- in both steps, in a statement or declaration that begins at this place, from these decisions to those
-abbrev pub IsNewValue : Site → (old new : Decisions) → Pos → Subtype → Initial → Result NewValue (Failure Refusal) → Type 0
+abbrev pub IsNewValue : Site → (old new : Decisions) → Pos → Subtype → Initial → Result NewValue (Failure Refusal)
+    → Type 0
 IsNewValue site old new p t i result =
     (k : Tables) (env : Env) (s : State) → StandsAt site k env
     → Answers (λ v. given (new_value_of k v) (counted new s))

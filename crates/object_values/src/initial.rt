@@ -6,6 +6,7 @@ ghost use Rattle.ada_entities.specs.EntityViews.{Tables};
 ghost use Rattle.object_values.specs.NewValues.{new_value_of, known_for, IsValueFor, IsTypedValue, IsNewValue};
 
 use crate::others::in_others;
+use crate::place::value_place;
 use crate::reach::{indices_of, reached};
 use crate::single::single_value;
 use ada_entities::{Refusal, Subtype, refused};
@@ -73,8 +74,8 @@ fn value_for(
 }
 
 /// What an object of this subtype is set to by an expression, with an `others` at each of these places
-/// round it, in the step of types. That it is of the type is asked of the statement or declaration, which
-/// begins at `pos`.
+/// round it, in the step of types. That it is of the type is asked where the rules say, in a statement or
+/// declaration that begins at `pos`.
 #[tactic(auto, using(crate::proofs::NewValueLaws::parts))]
 fn typed_value(
     alloc: Global,
@@ -89,7 +90,7 @@ fn typed_value(
     let known = known_for(others, value.known);
     let found = value_for(alloc, symbols, subtype, others, value.kind, value.form)?;
     let Some(value) = found else {
-        return Err(refused(pos));
+        return Err(refused(value_place(symbols, pos, subtype, others)?));
     };
     Ok(NewValue { value, known })
 }

@@ -3,7 +3,9 @@
 
 mod initial;
 mod others;
+mod place;
 mod reach;
 mod single;
 
 pub use initial::{NewValue, new_value};
+pub use place::value_place;

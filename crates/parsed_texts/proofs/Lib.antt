@@ -10,4 +10,4 @@ pub mod Few
 pub mod Texts
 pub mod Choices
 pub mod Spelling
-pub mod Subprograms
+pub mod Packages

@@ -6,18 +6,17 @@ ghost use Rattle.cov_base.specs.Lists.{Everywhere};
 ghost use Rattle.cov_base.specs.TextOrder.{rise};
 ghost use Rattle.expression_parser.specs.Extents.{opens};
 ghost use Rattle.expression_parser.specs.declared.extent.Extent.{Extent};
-ghost use Rattle.expression_parser.specs.declared.extent.Extent.TheVariants.{Subprograms};
+ghost use Rattle.expression_parser.specs.declared.extent.Extent.TheVariants.{Generics};
 ghost use Rattle.legal_counts.specs.Choices.{UnitsHaveChoices};
 ghost use Rattle.legal_counts.specs.ConditionPlaces.{units_conditions};
 ghost use Rattle.legal_instances.specs.InOrder.{UnitsRise};
 ghost use Rattle.legal_programs.specs.DecisionPlaces.{units_decisions};
 ghost use Rattle.legal_programs.specs.InText.{Rise};
+ghost use Rattle.legal_programs.specs.PlainUnits.{ArePlainUnits};
 ghost use Rattle.legal_programs.specs.TextPlaces.{units_places};
-ghost use Rattle.legal_texts.specs.Subprograms.{AreSubprograms};
 ghost use Rattle.legal_texts.specs.UnitTexts.{AreUnitTexts};
 ghost use Rattle.parsed_texts.specs.Places.{AreInFiles, IsInFiles};
 ghost use Rattle.parsed_texts.specs.Parsed.{AreOfFiles};
-ghost use Rattle.legal_levels.specs.Levels.{AreSubprogramUnits};
 ghost use Rattle.legal_names.specs.Spelled.{AreUnitsSpelled};
 
 /// The units of files stand one after the other.
@@ -65,16 +64,14 @@ pub fn texts_have_choices()
     ensures { (units : List LibraryUnit) → AreUnitTexts units → UnitsHaveChoices units }
 {}
 
-/// Units, bodies and exceptions of files have names that are spelled in ASCII.
+/// Units, bodies and exceptions of files have names that are words in ASCII.
 pub fn names_of_files_are_ascii()
     ensures { (extent : Extent) (files : ℕ) (units : List LibraryUnit)
         → AreOfFiles extent files units → AreUnitsSpelled units }
 {}
 
-/// Where packages are closed, files have subprograms that declare no exception, and nothing else.
-pub fn files_of_an_early_extent_are_subprograms()
-    ensures units { (extent : Extent) (files : ℕ) (units : List LibraryUnit) → opens extent Subprograms ≡ false
-        → AreOfFiles extent files units → AreSubprograms units }
-    ensures bare { (extent : Extent) (files : ℕ) (units : List LibraryUnit) → opens extent Subprograms ≡ false
-        → AreOfFiles extent files units → AreSubprogramUnits units }
+/// Where generics are closed, files have subprograms, packages and bodies of packages, and nothing else.
+pub fn files_without_generics_are_packages()
+    ensures { (extent : Extent) (files : ℕ) (units : List LibraryUnit) → opens extent Generics ≡ false
+        → AreOfFiles extent files units → ArePlainUnits units }
 {}

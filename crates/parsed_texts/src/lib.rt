@@ -9,6 +9,6 @@ mod laws;
 
 pub use laws::{
     conditions_of_files_stand_in_them, decisions_of_files_rise, files_have_texts,
-    files_of_an_early_extent_are_subprograms, names_of_files_are_ascii, statements_of_files_rise,
+    files_without_generics_are_packages, names_of_files_are_ascii, statements_of_files_rise,
     texts_have_choices, units_of_files_rise,
 };

@@ -101,10 +101,17 @@ fn are_refused(alloc: Global, before: &MemFiles, cases: &[Case<'_>]) -> Result<b
     Ok(true)
 }
 
-/// Of each trace the front is read first, then its parts, the last of which tells that nothing follows.
-fn file_faults() -> [Case<'static>; 14] {
+/// All sources are read before one is checked. Of each trace the front is read first, then its parts, the
+/// last of which tells that nothing follows.
+fn file_faults() -> [Case<'static>; 15] {
     [
         unread(COMPILE, 0, &[0], "gnatcov: cannot read p1.adb\n"),
+        unread(
+            "gnatcov compile --main=P1 -o new empty p1.adb",
+            1,
+            &[1],
+            "gnatcov: cannot read p1.adb\n",
+        ),
         unwritten(COMPILE, &[1]),
         unread(RUN, 0, &[0], "gnatcov: cannot read p1.obj\n"),
         unread(RUN, 1, &[1], "gnatcov: cannot read empty\n"),
@@ -122,9 +129,10 @@ fn file_faults() -> [Case<'static>; 14] {
 }
 
 /// No fault is counted for a file that is not there.
-fn absences() -> [Case<'static>; 5] {
+fn absences() -> [Case<'static>; 6] {
     [
         absent("gnatcov compile --main=P1 -o new none", 0),
+        absent("gnatcov compile --main=P1 -o new empty p1.adb none", 2),
         absent("gnatcov run --input=empty -o new none", 0),
         absent("gnatcov run --input=none -o new p1.obj", 1),
         absent(

@@ -1,39 +1,40 @@
-//! `compile`: a source is made an object file.
+//! `compile`: sources are made an object file.
 
-ghost use Rattle.std.specs.Prelude.{◌≡◌, ◌<◌, ◌≤◌, ℕ, List, All, IfOk, IfErr, length, sum_by};
-ghost use Rattle.command_words.specs.Task.{Compile};
+ghost use Rattle.std.specs.Prelude.{◌≡◌, ◌<◌, ◌≤◌, All, IfOk, IfErr, length, map, sum_by};
+ghost use Rattle.command_words.specs.Task.{AreSources, Compile};
 ghost use Rattle.compiler.specs.Built.{HasPlainName};
-ghost use Rattle.commands.specs.Content.{CompilesTo, RefusesSource, object_lines, sources_of};
+ghost use Rattle.commands.specs.Content.{CompilesTo, RefusesSources, object_lines};
 ghost use Rattle.commands.specs.declared.status.Status.TheVariants.{WantOfMemory};
 ghost use Rattle.commands.specs.Outcome.{Prepares};
 ghost use Rattle.commands.specs.Reading.{UnlessMemory};
 ghost use Rattle.commands.specs.Failures.{source_status};
 ghost use Rattle.commands.specs.Ready.{verdict_view};
 
-use crate::ready::{Ready, ReadyFile, read_file};
+use crate::ready::sources::read_sources;
+use crate::ready::{Ready, ReadyFile};
 use crate::status::Status;
 use compiler::{Compiled, SourceFault, compile};
-use cov_base::{Bytes, DecEntry, Failure, SourceFile};
+use cov_base::{DecEntry, Failure, SourceFile};
 use cov_io::Files;
 use object_format::Object;
 use std::alloc::{AllocError, Global};
 
-/// Reads the source, compiles it, and makes the lines that tell what came of it.
+/// Reads the sources, compiles them, and makes the lines that tell what came of it.
 pub fn prepare<'a, F: Files>(
     alloc: Global,
     main: &str,
     object: &'a str,
-    source: &str,
+    sources: &[&str],
     files: &mut F,
 ) -> Result<Ready<'a>, Status>
-    requires { length source.now ≤ 4096 }
-    ensures prepares { Prepares (Compile main.now object.now source.now) (F.held files.old) (F.reads_failed files.old)
-        (F.reads_failed files.new) (verdict_view result) }
+    requires { AreSources (map (λ source. source.now) sources.now) }
+    ensures prepares { Prepares (Compile main.now object.now (map (λ source. source.now) sources.now))
+        (F.held files.old) (F.reads_failed files.old) (F.reads_failed files.new) (verdict_view result) }
     ensures same { F.held files.new ≡ F.held files.old }
     ensures writes { F.writes_failed files.new ≡ F.writes_failed files.old }
 {
-    let bytes = read_file(alloc, 0, source, files)?;
-    let (bytes, text) = compiled(alloc, main, source, bytes)?;
+    let sources = read_sources(alloc, sources, files)?;
+    let (bytes, text) = compiled(alloc, main, sources.as_slice())?;
     Ok(Ready {
         file: Some(ReadyFile {
             name: object,
@@ -43,50 +44,15 @@ pub fn prepare<'a, F: Files>(
     })
 }
 
-/// The sources of a compilation: so far one.
-fn sources(alloc: Global, name: &str, source: Vec<u8>) -> Result<Vec<SourceFile>, AllocError>
-    requires { length name.now ≤ 4096 }
-    ensures files { IfOk result (λ files. files.items ≡ sources_of name.now source.items) }
-    ensures many { IfOk result (λ files. (0 < length files.items) × (length files.items ≤ 64)) }
-    ensures names { IfOk result (λ files. All HasPlainName files.items) }
-{
-    let file = SourceFile {
-        name: Bytes::from(Vec::from_slice(alloc, name.as_bytes())?),
-        bytes: Bytes::from(source),
-    };
-    Ok(vec![in alloc; file]?)
-}
-
-/// The object file of a source, and the lines that tell of it.
-fn compiled(
-    alloc: Global,
-    main: &str,
-    name: &str,
-    source: Vec<u8>,
-) -> Result<(Vec<u8>, Vec<u8>), Status>
-    requires { length name.now ≤ 4096 }
-    ensures made { IfOk result (λ made. CompilesTo main.now name.now source.items
+/// The object file of sources, and the lines that tell of it.
+fn compiled(alloc: Global, main: &str, sources: &[SourceFile]) -> Result<(Vec<u8>, Vec<u8>), Status>
+    requires many { (0 < length sources.now) × (length sources.now ≤ 64) }
+    requires names { All HasPlainName sources.now }
+    ensures made { IfOk result (λ made. CompilesTo main.now sources.now
         (record { file = made.0.items; text = made.1.items })) }
-    ensures refused { IfErr result (UnlessMemory (RefusesSource main.now name.now source.items)) }
+    ensures refused { IfErr result (UnlessMemory (RefusesSources main.now sources.now)) }
 {
-    let files = sources(alloc, name, source)?;
-    compiled_from(alloc, main, files.as_slice())
-}
-
-/// The same, of the sources.
-fn compiled_from(
-    alloc: Global,
-    main: &str,
-    files: &[SourceFile],
-) -> Result<(Vec<u8>, Vec<u8>), Status>
-    requires many { (0 < length files.now) × (length files.now ≤ 64) }
-    requires names { All HasPlainName files.now }
-    ensures made { (name source : List ℕ) → files.now ≡ sources_of name source
-        → IfOk result (λ made. CompilesTo main.now name source (record { file = made.0.items; text = made.1.items })) }
-    ensures refused { (name source : List ℕ) → files.now ≡ sources_of name source
-        → IfErr result (UnlessMemory (RefusesSource main.now name source)) }
-{
-    match compile(alloc, files, main) {
+    match compile(alloc, sources, main) {
         Ok(compiled) => told(alloc, compiled),
         Err(failure) => Err(status_of(failure)),
     }
@@ -129,7 +95,7 @@ fn lines(alloc: Global, object: &Object) -> Result<Vec<u8>, AllocError>
     Ok(text.into_bytes())
 }
 
-/// The status of a source that is refused.
+/// The status of sources that are refused.
 fn status_of(failure: Failure<SourceFault>) -> Status
     ensures { result ≡ source_status failure }
 {

@@ -20,4 +20,10 @@ pub returns-clause-texts : goal.returns-clause-texts
 returns-clause-texts c = λ units main p h packages statements decisions texts.
     (packages_formed units main p h
     (c.orders_of_legal_programs_are_whole.ensures whole_standard units main p (is_legal (library_of whole_standard units) main p h))
-    packages statements decisions texts).1.1
+    packages statements decisions texts).1.1.0
+
+pub returns-clause-library : goal.returns-clause-library
+returns-clause-library c = λ units main p h packages statements decisions texts.
+    (packages_formed units main p h
+    (c.orders_of_legal_programs_are_whole.ensures whole_standard units main p (is_legal (library_of whole_standard units) main p h))
+    packages statements decisions texts).1.1.1

@@ -1,3 +1,4 @@
+use Rattle.ada_rules.specs.Entities.{whole_standard}
 use Rattle.checker.specs.Checking.{whole_library}
 use Rattle.legal_programs.proofs.Passed.{is_legal}
 use Rattle.compiler.proofs.Texts.{text_law}
@@ -8,3 +9,4 @@ returns c = λ files units main p h.
     let is = is_legal (whole_library units) main p h.program.legal in
     text_law files units main p h (c.obligations_stand_in_the_text.ensures (whole_library units) main p is)
     (c.obligations_are_numbered.ensures.labels (whole_library units) main p is)
+    (c.each_exception_has_a_token.ensures whole_standard units main p is)

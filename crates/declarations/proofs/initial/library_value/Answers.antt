@@ -3,6 +3,7 @@ use Rattle.ada_tree.specs.View.{scalar_range_of}
 use Rattle.ada_rules.specs.Types.{range_in}
 use Rattle.ada_rules.specs.Plan.{ruled, answer_at}
 use Rattle.ada_rules.specs.Environment.{given}
+use Rattle.ada_rules.specs.Declarations.{value_place}
 use Rattle.ada_phrases.specs.Scopes.{step_of}
 use Rattle.ada_phrases.proofs.Parts.{answers_as}
 use Rattle.static_parts.specs.Places.{with_notes}
@@ -42,5 +43,5 @@ returns-in-Typing c k env s h =
     answers_as (λ v. given (library_value_of k v) x.next) _ _ c.typed_value.result
     (value_passes env (with_notes k c.args.notes.now s) c.args.pos (subtype_in k c.args.subtype) i _ range x _ (c.in_ok-value.ensures k env s h)
     (h.site.step ∙ ap step_of c.in-Typing.is)
-    ∙ ap (λ o. answer_at c.args.pos (ruled (option_map (with_known i.others x.value x.next) o))) (within.initial x.value))
-    (rw (sym c.as_slice-others.ensures) (c.typed_value.ensures k x.next))
+    ∙ ap (λ o. answer_at (value_place c.args.pos (subtype_in k c.args.subtype) i.others) (ruled (option_map (with_known i.others x.value x.next) o))) (within.initial x.value))
+    (rw (sym c.as_slice-others.ensures) (c.typed_value.ensures h.site.units.known k h.site.units.begins x.next))

@@ -10,4 +10,4 @@ returns c =
     let one = IfOk-weaker c.arg-line.result _ _ (λ line added. added.shape c.required_option.ensures.local ∙ ap₂ with_rule c.new.ensures.app c.required_option.ensures.rule) c.arg-line.ensures in
     let two = IfOk-weaker c.with_argument-line.result _ _ (λ line added. added ∙ ap (with_rule first) c.output_option.ensures.rule) (c.with_argument-line.ensures first one) in
     let second : App = with_rule first (output_option (codes "object")) in
-    IfOk-weaker c.with_argument.result _ _ (λ line added. added ∙ ap (with_rule second) c.required_name.ensures.rule) (c.with_argument.ensures second two)
+    IfOk-weaker c.with_argument.result _ _ (λ line added. added ∙ ap (with_rule second) c.required_names.ensures.rule) (c.with_argument.ensures second two)

@@ -1,0 +1,196 @@
+-- Declarations in no generic declare nothing in one, in both steps.
+use Rattle.std.proofs.Common.{◌≡◌, Bool, true, false, if◌then◌else◌, List, [], ◌∷◌, ◌++◌, Option, Some, None, option_map, IfSome, Result, IfOk, sym, ap, subst}
+use Rattle.cov_base.specs.declared.position.Pos.{Pos}
+use Rattle.ada_syntax.specs.Tree as source
+use Rattle.ada_syntax.specs.declared.declaration.Constancy.{Constancy}
+use Rattle.ada_syntax.specs.declared.declaration.Declaration.{Declaration}
+use Rattle.ada_syntax.specs.declared.declaration.DeclarationKind.{DeclarationKind}
+use Rattle.ada_syntax.specs.declared.declaration.DeclarationKind.TheVariants as declares
+use Rattle.ada_syntax.specs.declared.declaration.DiscreteRange.{DiscreteRange}
+use Rattle.ada_syntax.specs.declared.declaration.Initial.{Initial}
+use Rattle.ada_syntax.specs.declared.name.Identifier.{Identifier}
+use Rattle.ada_syntax.specs.declared.statement.Choice.{Choice}
+use Rattle.ada_syntax.specs.declared.statement.ExceptionChoice.{ExceptionChoice}
+use Rattle.ada_meaning.specs.Tree as tree
+use Rattle.ada_meaning.specs.Types.{Static}
+use Rattle.ada_rules.specs.Plan.{Plan, ◌>>=◌, rule}
+use Rattle.ada_rules.specs.Types.{AdaSubtype, Kind}
+use Rattle.ada_rules.specs.Entities.{key, raisable, Region, redefined}
+use Rattle.ada_rules.specs.Environment.{typed_rule, State, Given, Env, with_local, owner_of, new_identity, one_type_more, hide, hide_all}
+use Rattle.ada_rules.specs.Expressions.{itself, denoted, judged, decision, static_part, scalar_mark}
+use Rattle.ada_rules.specs.Declarations.{LibraryValue, library_value, indicated, defined, NewValue, new_value, Declared, may_be_bare, one_name, known_constant, lying_in, local_bare, local_set, library_declared, no_library_value, objects_declared, exception_declared, exceptions_from, type_declared, subtype_declared, kind_declared, declared, all_declared}
+use Rattle.ada_rules.specs.Statements.{target, Selector, selector, all_chosen, turned, all_caught}
+use Rattle.ada_rules.specs.Statics.{Test}
+use Rattle.legal_laws.specs.Kept.{OnlyDecides, OnlyStatics}
+use Rattle.legal_laws.proofs.KeptStatics as kept
+use Rattle.legal_laws.proofs.KeptStatics.{Behind, decides_statics}
+use Rattle.legal_laws.proofs.KnownObjects.{constant_keeps}
+use Rattle.legal_laws.proofs.Passing.{IfPassed, answered, part_so, weaker_ok, typed_either, any_answer}
+use Rattle.legal_levels.specs.Levels.{Keeps, AreInNoGeneric, AreExceptionsInNoGeneric}
+
+-- what a construct gives keeps them
+abbrev pub Keep : {A : Type 0} → State → Given A → Type 0
+Keep s g = Keeps s g.next
+
+abbrev pub KeepsOn : State → Declared → Type 0
+KeepsOn s x = Keeps s x.next
+
+pub keeps_same : (s : State) → Keeps s s
+keeps_same s = record { exceptions = λ h. h; subprograms = λ h. h }
+
+pub keeps_both : (s t u : State) → Keeps s t → Keeps t u → Keeps s u
+keeps_both s t u h k = record { exceptions = λ before. k.exceptions (h.exceptions before); subprograms = λ before. k.subprograms (h.subprograms before) }
+
+keeps_statics : (s t : State) → OnlyStatics s t → Keeps s t
+keeps_statics s t only = record {
+  exceptions = λ before. subst AreExceptionsInNoGeneric (sym (ap (λ x. x.exceptions_declared) only)) before;
+  subprograms = λ before. subst AreInNoGeneric (sym (ap (λ x. x.subprograms) only)) before;
+}
+
+pub keeps_decides : (s t : State) → OnlyDecides s t → Keeps s t
+keeps_decides s t only = keeps_statics s t (decides_statics s t only)
+
+-- what only changes what static expressions do
+of_statics : {A : Type 0} (s : State) (r : Result (Given A) Pos) → IfOk r (Behind s) → IfOk r (Keep s)
+of_statics s r h = weaker_ok (Behind s) (Keep s) r h (λ x k. keeps_statics s x.next k)
+
+module _ (env : Env) where
+  pub expression_keeps : (s : State) (e : source.Expr) → IfOk (judged env itself s e).answer (Keep s)
+  expression_keeps s e = of_statics s (judged env itself s e).answer (kept.expression_keeps env s e)
+
+  pub static_keeps : (s : State) (accepts : Kind → Bool) (test : Static → Test) (e : source.Expr) → IfOk (static_part env s accepts test e).answer (Keep s)
+  static_keeps s accepts test e = of_statics s (static_part env s accepts test e).answer (kept.static_keeps env s accepts test e)
+
+  pub scalar_mark_keeps : (s : State) (n : source.Name) → IfOk (scalar_mark env s n).answer (Keep s)
+  scalar_mark_keeps s n = of_statics s (scalar_mark env s n).answer (kept.scalar_mark_keeps env s n)
+
+  pub new_value_keeps : (s : State) (q : Pos) (t : AdaSubtype) (i : Initial) → IfOk (new_value env s q t i).answer (Keep s)
+  new_value_keeps s q t i = of_statics s (new_value env s q t i).answer (kept.new_value_keeps env s q t i)
+
+  pub name_keeps : (s : State) (n : source.Name) → IfOk (denoted env s n).answer (Keep s)
+  name_keeps s n = of_statics s (denoted env s n).answer (kept.name_keeps env s n)
+
+  pub decision_keeps : (s : State) (q : Pos) (e : source.Expr) → IfOk (decision env s q e).answer (Keep s)
+  decision_keeps s q e = of_statics s (decision env s q e).answer (kept.decision_keeps env s q e)
+
+  pub target_keeps : (s : State) (n : source.Name) → IfOk (target env s n).answer (Keep s)
+  target_keeps s n = of_statics s (target env s n).answer (kept.target_keeps env s n)
+
+  pub selector_keeps : (s : State) (e : source.Expr) → IfOk (selector env s e).answer (Keep s)
+  selector_keeps s e = of_statics s (selector env s e).answer (kept.selector_keeps env s e)
+
+  pub turned_keeps : (s : State) (r : DiscreteRange) → IfOk (turned env s r).answer (Keep s)
+  turned_keeps s r = of_statics s (turned env s r).answer (kept.turned_keeps env s r)
+
+  pub all_chosen_keep : (s : State) (x : Selector) (q : Pos) (cs : List Choice) → IfOk (all_chosen env s x q cs).answer (Keep s)
+  all_chosen_keep s x q cs = of_statics s (all_chosen env s x q cs).answer (kept.all_chosen_keep env s x q cs)
+
+  pub all_caught_keep : (s : State) (b : Bool) (q : Pos) (cs : List ExceptionChoice) → IfOk (all_caught env s b q cs).answer (Keep s)
+  all_caught_keep s b q cs = of_statics s (all_caught env s b q cs).answer (kept.all_caught_keep env s b q cs)
+
+  -- what follows a value that a rule on types gives
+  pub mapped_keeps : {A B : Type 0} (s t : State) (f : A → B) (x : Option A) → Keeps s t → IfSome (option_map (λ v. record { value = f v; next = t }) x) (Keep s)
+  mapped_keeps s t f None h = tt
+  mapped_keeps s t f (Some v) h = h
+
+-- objects
+set_keeps : (env : Env) (q : Pos) (c : Constancy) (region : Region) (is : List Identifier) (t : AdaSubtype) (v : Given NewValue) (s : State) → Keeps s v.next
+    → KeepsOn s (local_set env q c region is t v)
+set_keeps env q c region is t v s h =
+    let k = known_constant env c t (lying_in env t) v.value.known v.next in
+    let all = keeps_both s v.next k.next h (keeps_statics v.next k.next (constant_keeps env c t (lying_in env t) v.value.known v.next)) in
+    record { exceptions = all.exceptions; subprograms = all.subprograms }
+
+library_keeps : (env : Env) (c : Constancy) (region : Region) (is : List Identifier) (t : AdaSubtype) (v : LibraryValue) (s x : State) → Keeps s x
+    → KeepsOn s (library_declared env c region is t v x)
+library_keeps env c region is t v s x h =
+    let k = known_constant env c t (λ e. Some e) v.known x in
+    let all = keeps_both s x k.next h (keeps_statics x k.next (constant_keeps env c t (λ e. Some e) v.known x)) in
+    record { exceptions = all.exceptions; subprograms = all.subprograms }
+
+either_plan : {B : Type 0} (P : B → Type 0) (b : Bool) (x y : Plan B) → IfPassed x.outcome P → IfPassed y.outcome P → IfPassed (if b then x else y).outcome P
+either_plan P true x y h k = h
+either_plan P false x y h k = k
+
+mapped_any : {A B : Type 0} (P : B → Type 0) (x : Option A) (y : B) → P y → IfSome (option_map (λ u. y) x) P
+mapped_any P None y h = tt
+mapped_any P (Some u) y h = h
+
+objects_keep : (env : Env) (q : Pos) (c : Constancy) (region : Region) (is : List Identifier) (s : State) (t : Given AdaSubtype) (i : Option Initial)
+    → Keeps s t.next → IfPassed (objects_declared env q c region is t i).outcome (KeepsOn s)
+objects_keep env q c region is s t None h =
+    let library = library_keeps env c region is t.value no_library_value s t.next h in
+    let bare : KeepsOn s (local_bare c region is t) = record { exceptions = h.exceptions; subprograms = h.subprograms } in
+    either_plan (KeepsOn s) env.is_library
+    (typed_rule env.step (library_declared env c region is t.value no_library_value t.next)
+    (option_map (λ u. library_declared env c region is t.value no_library_value t.next) (may_be_bare c)))
+    (typed_rule env.step (local_bare c region is t) (option_map (λ u. local_bare c region is t) (may_be_bare c)))
+    (typed_either (KeepsOn s) env.step _ _ library (mapped_any (KeepsOn s) (may_be_bare c) _ library))
+    (typed_either (KeepsOn s) env.step _ _ bare (mapped_any (KeepsOn s) (may_be_bare c) _ bare))
+objects_keep env q c region is s t (Some i) h =
+    either_plan (KeepsOn s) env.is_library
+    (library_value (with_local env region) t.next q t.value i >>= (λ v. typed_rule env.step (library_declared env c region is t.value v.value v.next)
+    (option_map (λ u. library_declared env c region is t.value v.value v.next) (one_name is))))
+    (new_value (with_local env region) t.next q t.value i >>= (λ v. typed_rule env.step (local_set env q c region is t.value v)
+    (option_map (λ u. local_set env q c region is t.value v) (one_name is))))
+    (part_so (Keep t.next) (KeepsOn s) (library_value (with_local env region) t.next q t.value i).answer
+    (λ v. typed_rule env.step (library_declared env c region is t.value v.value v.next)
+    (option_map (λ u. library_declared env c region is t.value v.value v.next) (one_name is)))
+    (of_statics t.next (library_value (with_local env region) t.next q t.value i).answer (kept.library_value_keeps (with_local env region) t.next q t.value i))
+    (λ v k. let all = library_keeps env c region is t.value v.value s v.next (keeps_both s t.next v.next h k) in
+    typed_either (KeepsOn s) env.step _ _ all (mapped_any (KeepsOn s) (one_name is) _ all)))
+    (part_so (Keep t.next) (KeepsOn s) (new_value (with_local env region) t.next q t.value i).answer
+    (λ v. typed_rule env.step (local_set env q c region is t.value v) (option_map (λ u. local_set env q c region is t.value v) (one_name is)))
+    (new_value_keeps (with_local env region) t.next q t.value i)
+    (λ v k. let all = set_keeps env q c region is t.value v s (keeps_both s t.next v.next h k) in
+    typed_either (KeepsOn s) env.step _ _ all (mapped_any (KeepsOn s) (one_name is) _ all)))
+
+-- exceptions
+exceptions_keep : (env : Env) → env.generic ≡ None → (s : State) (region : Region) (is : List Identifier) → KeepsOn s (exceptions_from env s region is)
+exceptions_keep env outside s region [] = keeps_same s
+exceptions_keep env outside s region (i ∷ is) =
+    let rest = exceptions_keep env outside (exception_declared env i s) (redefined (key i) (raisable (tree.declared (owner_of env) s.exceptions)) region) is in
+    record { exceptions = λ before. rest.exceptions (outside, before); subprograms = rest.subprograms }
+
+kind_keeps : (env : Env) → env.generic ≡ None → (s : State) (q : Pos) (d : DeclarationKind) → IfPassed (kind_declared env s q d).outcome (KeepsOn s)
+kind_keeps env outside s q (declares.Type i d) =
+    part_so (λ x. Unit {0}) (KeepsOn s) (hide env.local i).answer
+    (λ region. defined (with_local env region) (one_type_more s) q (new_identity env s) d >>= (λ x. rule (Some (type_declared env q i (new_identity env s) x))))
+    (any_answer (hide env.local i).answer)
+    (λ region u. part_so (Keep (one_type_more s)) (KeepsOn s) (defined (with_local env region) (one_type_more s) q (new_identity env s) d).answer
+    (λ x. rule (Some (type_declared env q i (new_identity env s) x)))
+    (of_statics (one_type_more s) _ (kept.defined_keeps (with_local env region) (one_type_more s) q (new_identity env s) d))
+    (λ x h. record { exceptions = h.exceptions; subprograms = h.subprograms }))
+kind_keeps env outside s q (declares.Subtype i t) =
+    part_so (λ x. Unit {0}) (KeepsOn s) (hide env.local i).answer
+    (λ region. indicated (with_local env region) (one_type_more s) t >>= (λ x. rule (Some (subtype_declared i region (new_identity env s) x))))
+    (any_answer (hide env.local i).answer)
+    (λ region u. part_so (Keep (one_type_more s)) (KeepsOn s) (indicated (with_local env region) (one_type_more s) t).answer
+    (λ x. rule (Some (subtype_declared i region (new_identity env s) x)))
+    (of_statics (one_type_more s) _ (kept.indicated_keeps (with_local env region) (one_type_more s) t))
+    (λ x h. record { exceptions = h.exceptions; subprograms = h.subprograms }))
+kind_keeps env outside s q (declares.Object is c t i) =
+    part_so (λ x. Unit {0}) (KeepsOn s) (hide_all q env.local is).answer
+    (λ region. indicated (with_local env region) s t >>= (λ x. objects_declared env q c region is x i)) (any_answer (hide_all q env.local is).answer)
+    (λ region u. part_so (Keep s) (KeepsOn s) (indicated (with_local env region) s t).answer
+    (λ x. objects_declared env q c region is x i)
+    (of_statics s _ (kept.indicated_keeps (with_local env region) s t)) (λ x h. objects_keep env q c region is s x i h))
+kind_keeps env outside s q (declares.Exception is) =
+    part_so (λ x. Unit {0}) (KeepsOn s) (hide_all q env.local is).answer (λ region. rule (Some (exceptions_from env s region is)))
+    (any_answer (hide_all q env.local is).answer) (λ region u. exceptions_keep env outside s region is)
+kind_keeps env outside s q (declares.Pragma a) = keeps_same s
+
+pub declaration_keeps : (env : Env) → env.generic ≡ None → (s : State) (d : Declaration) → IfOk (declared env s d).answer (KeepsOn s)
+declaration_keeps env outside s d = answered (KeepsOn s) d.pos (kind_declared env s d.pos d.kind).outcome (kind_keeps env outside s d.pos d.kind)
+
+pub declarations_keep : (env : Env) → env.generic ≡ None → (s : State) (q : Pos) (ds : List Declaration) → IfOk (all_declared env s q ds).answer (KeepsOn s)
+declarations_keep env outside s q [] = keeps_same s
+declarations_keep env outside s q (d ∷ ds) =
+    answered (KeepsOn s) q _
+    (part_so (KeepsOn s) (KeepsOn s) (declared env s d).answer
+    (λ x. all_declared (with_local env x.region) x.next q ds >>= (λ xs. rule (Some (record { region = xs.region; next = xs.next; made = x.made ++ xs.made }))))
+    (declaration_keeps env outside s d)
+    (λ x h. part_so (KeepsOn x.next) (KeepsOn s) (all_declared (with_local env x.region) x.next q ds).answer
+    (λ xs. rule (Some (record { region = xs.region; next = xs.next; made = x.made ++ xs.made })))
+    (declarations_keep (with_local env x.region) outside x.next q ds)
+    (λ xs k. keeps_both s x.next xs.next h k)))
