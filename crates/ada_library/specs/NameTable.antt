@@ -1,8 +1,9 @@
 -- Tables of numbers by name.
-use Rattle.std.specs.Prelude.{◌≡◌, ℕ, List, ◌∷◌, Option}
+use Rattle.std.specs.Prelude.{◌≡◌, ℕ, ◌+◌, List, [], ◌∷◌, Option}
 use Rattle.std.specs.Option.{option_or}
 use Rattle.ada_syntax.specs.declared.unit.LibraryItem.{LibraryItem}
 use Rattle.ada_syntax.specs.declared.unit.LibraryItem.TheVariants as library
+use Rattle.ada_syntax.specs.declared.unit.Unit.{Unit as LibraryUnit}
 use Rattle.ada_rules.specs.Entities.{key}
 use Rattle.ada_rules.specs.Library.{unit_named}
 
@@ -19,3 +20,8 @@ Adds old with_one new =
 abbrev pub with_body : ℕ → LibraryItem → List (List ℕ × ℕ) → List (List ℕ × ℕ)
 with_body n (library.PackageBody b) names = (key b.name, n) ∷ names
 with_body n i names = names
+
+-- the bodies of packages among units, of which the first has this number
+abbrev pub bodies_from : ℕ → List LibraryUnit → List (List ℕ × ℕ)
+bodies_from n [] = []
+bodies_from n (u ∷ us) = with_body n u.item (bodies_from (n + 1) us)

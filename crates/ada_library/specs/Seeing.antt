@@ -1,11 +1,12 @@
 -- What units see of the library, as the code keeps it.
-use Rattle.std.specs.Prelude.{◌≡◌, ℕ, List, ◌++◌, map, Option, option_map}
+use Rattle.std.specs.Prelude.{◌≡◌, ℕ, List, [], ◌∷◌, ◌++◌, map, Option, option_map}
 use Rattle.ada_syntax.specs.declared.name.Identifier.{Identifier}
+use Rattle.ada_syntax.specs.declared.unit.LibraryItem.{LibraryItem}
 use Rattle.ada_syntax.specs.declared.unit.Unit.{Unit as LibraryUnit}
 use Rattle.ada_rules.specs.Entities.{Actual, key}
 use Rattle.ada_rules.specs.Environment.{World}
 use Rattle.ada_rules.specs.Library as rules
-use Rattle.ada_rules.specs.Library.{denoted_in_with, seen_more}
+use Rattle.ada_rules.specs.Library.{denoted_in_with, item_name, seen_more}
 use Rattle.ada_rules.specs.Units.{seen_in, seen_in_body}
 use Rattle.ada_entities.specs.declared.entity.Entity.{Entity}
 use Rattle.ada_entities.specs.declared.units.Interface.{Interface}
@@ -31,6 +32,10 @@ abbrev pub SeesNames : Library → List Interface → (old : List (List ℕ × E
 SeesNames x units old names new =
     (all : List LibraryUnit) (k : Tables) (w : World) (l : rules.Library) → Stands x units all k w l
     → (more : List Identifier) → seen_more w l more (region_of k new) ≡ seen_more w l (names ++ more) (region_of k old)
+
+-- a region with the name of a unit alone, which denotes this
+abbrev pub IsOwn : LibraryItem → Entity → List (List ℕ × Entity) → Type 0
+IsOwn i entity region = (k : Tables) → region_of k region ≡ (key (item_name i), entity_of k entity) ∷ []
 
 -- what a unit sees in which its own name denotes this, and what the body of the package with a number sees
 abbrev pub IsSeen : Library → List Interface → LibraryUnit → Entity → List (List ℕ × Entity) → Type 0

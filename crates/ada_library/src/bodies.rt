@@ -7,6 +7,7 @@ ghost use Rattle.ada_rules.specs.Library.{body_names, bodies_of_item, all_bodies
 ghost use Rattle.ada_rules.specs.Subprograms.{is_body};
 ghost use Rattle.ada_library.specs.BodyNumbering.{body_named, AddsBodies, AreBodies};
 
+use crate::items::both;
 use ada_entities::key;
 use ada_syntax::{BodyItem, Identifier, LibraryItem, Unit};
 use indexmap::IndexMap;
@@ -41,9 +42,9 @@ impl BodyNumbers {
     ) -> Result<(), AllocError>
         ensures { OnOk result (AddsBodies self.old (body_named package_name.now name.now ∷ []) self.new) }
     {
-        let names = (key(alloc, package_name)?, key(alloc, name)?);
         let number = self.count;
         self.count = number.checked_add(1).ok_or(AllocError)?;
+        let names = both(key(alloc, package_name), key(alloc, name))?;
         if self.table.get(&names).is_some() {
             return Ok(());
         }
@@ -120,10 +121,8 @@ impl BodyNumbers {
     ) -> Result<Option<u32>, AllocError>
         ensures { IfOk result (λ o. o ≡ lookup (is_body package_name.now name.now) self.now.numbers) }
     {
-        let names = (
-            Vec::from_slice(alloc, package_name)?,
-            Vec::from_slice(alloc, name)?,
-        );
+        let package_name = Vec::from_slice(alloc, package_name);
+        let names = both(package_name, Vec::from_slice(alloc, name))?;
         Ok(self.table.get(&names).copied())
     }
 }

@@ -1,6 +1,6 @@
 //! What units declare (Ada RM 2012, 10.1.1).
 
-ghost use Rattle.std.specs.Prelude.{◌≡◌, [], ◌∷◌, codes, IfOk};
+ghost use Rattle.std.specs.Prelude.{◌≡◌, [], ◌∷◌, codes, Ok, IfOk};
 ghost use Rattle.ada_rules.specs.Entities.{same_name};
 ghost use Rattle.ada_rules.specs.Library as rules;
 ghost use Rattle.ada_library.specs.UnitNaming.{IsWanting};
@@ -80,4 +80,15 @@ pub fn numbered(index: usize) -> Result<u32, AllocError>
         Ok(number) => Ok(number),
         Err(_) => Err(AllocError),
     }
+}
+
+/// Two parts, where both were made. A caller that hands them over owns nothing where one was not.
+pub fn both<A: Drop, B: Drop, E: Drop>(
+    first: Result<A, E>,
+    second: Result<B, E>,
+) -> Result<(A, B), E>
+    ensures first { IfOk result (λ parts. first ≡ Ok parts.0) }
+    ensures second { IfOk result (λ parts. second ≡ Ok parts.1) }
+{
+    Ok((first?, second?))
 }

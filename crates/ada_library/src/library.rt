@@ -6,6 +6,7 @@ ghost use Rattle.ada_library.specs.LibraryView.{IsLibraryOf, IsNamed, IsFirstBod
 use crate::bodies::BodyNumbers;
 use crate::dependencies::Dependencies;
 use crate::instances::InstanceNumbers;
+use crate::items::both;
 use crate::unit_names::UnitNames;
 use ada_syntax::Unit;
 use std::alloc::{AllocError, Global};
@@ -24,10 +25,12 @@ impl Library {
     pub fn new(alloc: Global, units: &[Unit]) -> Result<Library, AllocError>
         ensures { IfOk result (IsLibraryOf units.now) }
     {
-        let instances = InstanceNumbers::new(alloc, units)?;
         let names = UnitNames::new(alloc, units)?;
-        let dependencies = Dependencies::new(alloc, &names.units, units)?;
-        let bodies = BodyNumbers::new(alloc, units)?;
+        let dependencies = Dependencies::new(alloc, &names.units, units);
+        let graph = both(Ok(names), dependencies);
+        let bodies = BodyNumbers::new(alloc, units);
+        let numbers = both(bodies, InstanceNumbers::new(alloc, units));
+        let ((names, dependencies), (bodies, instances)) = both(graph, numbers)?;
         Ok(Library {
             names,
             dependencies,

@@ -3,7 +3,7 @@
 ghost use Rattle.std.specs.Prelude.{IfOk, OnOk};
 ghost use Rattle.ada_rules.specs.Library as rules;
 ghost use Rattle.ada_library.specs.NameTable.{Adds, with_body};
-ghost use Rattle.ada_library.specs.UnitNaming.{AreNames};
+ghost use Rattle.ada_library.specs.UnitNaming.{AreNames, AddsNames};
 
 use crate::items::{item_name, numbered};
 use crate::names::Names;
@@ -34,6 +34,16 @@ impl UnitNames {
         }
     }
 
+    /// Adds these units by their places.
+    fn add_all(&mut self, alloc: Global, units: &[Unit]) -> Result<(), AllocError>
+        ensures { OnOk result (AddsNames self.old units.now self.new) }
+    {
+        for (index, unit) in units.iter().enumerate() {
+            self.add(alloc, numbered(index)?, &unit.item)?;
+        }
+        Ok(())
+    }
+
     /// The names of these units.
     pub fn new(alloc: Global, units: &[Unit]) -> Result<UnitNames, AllocError>
         ensures { IfOk result (AreNames units.now) }
@@ -42,9 +52,7 @@ impl UnitNames {
             units: Names::new(alloc),
             package_bodies: Names::new(alloc),
         };
-        for (index, unit) in units.iter().enumerate() {
-            names.add(alloc, numbered(index)?, &unit.item)?;
-        }
-        Ok(names)
+        let added = names.add_all(alloc, units);
+        added.and(Ok(names))
     }
 }

@@ -3,12 +3,12 @@
 ghost use Rattle.std.specs.Prelude.{◌≡◌, [], ◌∷◌, slice_get, IfOk, OnOk};
 ghost use Rattle.ada_rules.specs.Library.{clause_names};
 ghost use Rattle.ada_rules.specs.Units as rules;
-ghost use Rattle.ada_library.specs.Seeing.{IsDenoted, SeesNames, IsSeen, IsSeenInBody};
+ghost use Rattle.ada_library.specs.Seeing.{IsDenoted, SeesNames, IsOwn, IsSeen, IsSeenInBody};
 
 use crate::items::{is_test_io, item_name};
 use crate::library::Library;
 use ada_entities::{Entity, Region, Units, key};
-use ada_syntax::{Identifier, Unit, WithClause};
+use ada_syntax::{Identifier, LibraryItem, Unit, WithClause};
 use std::alloc::{AllocError, Global};
 
 /// What a name, in lower case, denotes in the library.
@@ -73,6 +73,16 @@ fn see_clauses(
     Ok(())
 }
 
+/// A region in which a unit sees its own name, which denotes this there.
+fn own_region(alloc: Global, item: &LibraryItem, entity: Entity) -> Result<Region, AllocError>
+    ensures { IfOk result (IsOwn item.now entity) }
+{
+    let name = key(alloc, item_name(item))?;
+    let mut region = Region::new(alloc);
+    let told = region.see(name, entity);
+    told.and(Ok(region))
+}
+
 /// What a unit sees of the library: its own name, which denotes this there, and what it names in
 /// `with`.
 pub fn seen(
@@ -84,16 +94,10 @@ pub fn seen(
 ) -> Result<Region, AllocError>
     ensures { IfOk result (IsSeen library.now interfaces.now unit.now entity) }
 {
-    let mut region = Region::new(alloc);
-    region.see(key(alloc, item_name(&unit.item))?, entity)?;
-    see_clauses(
-        alloc,
-        library,
-        interfaces,
-        unit.withs.as_slice(),
-        &mut region,
-    )?;
-    Ok(region)
+    let mut region = own_region(alloc, &unit.item, entity)?;
+    let clauses = unit.withs.as_slice();
+    let told = see_clauses(alloc, library, interfaces, clauses, &mut region);
+    told.and(Ok(region))
 }
 
 /// The `with` clauses of the unit with this number.
@@ -119,12 +123,7 @@ pub fn seen_in_body(
     ensures { IfOk result (IsSeenInBody library.now interfaces.now units.now package_unit body.now) }
 {
     let mut region = seen(alloc, library, interfaces, body, Entity::Unit(package_unit))?;
-    see_clauses(
-        alloc,
-        library,
-        interfaces,
-        withs_of(units, package_unit),
-        &mut region,
-    )?;
-    Ok(region)
+    let clauses = withs_of(units, package_unit);
+    let told = see_clauses(alloc, library, interfaces, clauses, &mut region);
+    told.and(Ok(region))
 }

@@ -1,16 +1,14 @@
-use Rattle.std.proofs.Common.{◌≡◌, [], ◌∷◌, ◌++◌, ap, ◌∙◌, append-nil}
-use Rattle.ada_rules.specs.Entities.{key}
-use Rattle.ada_rules.specs.Library.{item_name, clause_names, seen_too, seen_more}
-use Rattle.ada_entities.specs.EntityViews.{entity_of, region_of}
+use Rattle.std.proofs.Common.{◌≡◌, [], ◌++◌, ap, ◌∙◌, append-nil}
+use Rattle.ada_rules.specs.Library.{clause_names, seen_more}
+use Rattle.ada_library.specs.Seeing.{IsSeen}
+use Rattle.ada_library.proofs.NameLaws.{kept}
 use Rattle.ada_library.proofs.visible.seen.Goals as goal
 
 pub returns : goal.returns
-returns c all k w l s =
+returns c =
     let u = c.args.unit.now in
-    let x = entity_of k c.args.entity in
-    let name = c.in_ok-key.ensures ∙ ap key c.item_name.ensures in
-    let own : region_of k c.see.new.self ≡ (key (item_name u.item), x) ∷ [] =
-    c.in_ok-see.ensures k ∙ (λ z. seen_too (name z) x (region_of k (c.new-region.ensures z))) in
-    let withs : clause_names c.as_slice.result.now ++ [] ≡ clause_names u.withs =
-    append-nil (clause_names c.as_slice.result.now) ∙ ap clause_names c.as_slice.ensures in
-    c.in_ok-see_clauses.ensures all k w l s [] ∙ (λ z. seen_more w l (withs z) (own z))
+    let withs : clause_names c.as_slice-clauses.result.now ++ [] ≡ clause_names u.withs =
+    append-nil (clause_names c.as_slice-clauses.result.now) ∙ ap clause_names c.as_slice-clauses.ensures in
+    kept (IsSeen c.args.library.now c.args.interfaces.now u c.args.entity) c.see_clauses-told.result c.see_clauses-told.new.region
+    c.and.result c.and.ensures c.see_clauses-told.ensures
+    (λ sees all k w l s. sees all k w l s [] ∙ (λ z. seen_more w l (withs z) (c.in_ok-region.ensures k z)))

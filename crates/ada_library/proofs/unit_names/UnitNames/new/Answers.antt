@@ -1,21 +1,16 @@
-use Rattle.std.proofs.Common.{arith, sym, ◌∙◌}
-use Rattle.std.proofs.lemmas.List.{at_drop_all}
-use Rattle.ada_rules.specs.Library.{names_from, unit_named}
-use Rattle.ada_library.specs.NameTable.{named_in}
-use Rattle.ada_library.proofs.NameLaws.{bodies_from, bodies_first, or_nothing}
+use Rattle.std.proofs.Common.{[], sym, ap, ◌∙◌}
+use Rattle.ada_rules.specs.Library.{names_from}
+use Rattle.ada_library.specs.NameTable.{named_in, bodies_from}
+use Rattle.ada_library.specs.UnitNaming.{AreNames}
+use Rattle.ada_library.proofs.NameLaws.{bodies_first, or_nothing, kept}
 use Rattle.ada_library.proofs.unit_names.UnitNames.new.Goals as goal
 
 pub returns : goal.returns
 returns c =
     let us = c.args.units.now in
-    let i = c.loop-index.index in
-    let names = c.loop-index.names in
-    record {
-      named = λ name.
-          sym (or_nothing (unit_named names.units name))
-          ∙ (sym (at_drop_all (λ vs. named_in names.units (names_from i vs) name) us i (omega arith)) ∙ c.loop-index.invariant.named name);
-      bodies = λ name.
-          sym (or_nothing (unit_named names.package_bodies name))
-          ∙ (sym (at_drop_all (λ vs. named_in names.package_bodies (bodies_from i vs) name) us i (omega arith))
-          ∙ (c.loop-index.invariant.bodies name ∙ bodies_first name 0 us));
-    }
+    let names = c.add_all-added.new.self in
+    kept (AreNames us) c.add_all-added.result names c.and.result c.and.ensures c.add_all-added.ensures
+    (λ adds. record {
+      named = λ name. sym (or_nothing _) ∙ (adds.named name ∙ ap (λ xs. named_in xs (names_from 0 us) name) c.new.ensures);
+      bodies = λ name. sym (or_nothing _) ∙ (adds.bodies name ∙ (ap (λ xs. named_in xs (bodies_from 0 us) name) c.new-2.ensures ∙ bodies_first name 0 us));
+    })
