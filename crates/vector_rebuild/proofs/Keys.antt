@@ -4,7 +4,8 @@ use Rattle.std.specs.Cmp.{nat_eq_equiv}
 use Rattle.transcript.specs.Visit.{Key as Activation, same_key}
 use Rattle.std.specs.Option.{option_map}
 use Rattle.vector_rebuild.specs.declared.half.Half.{Half}
-use Rattle.vector_rebuild.specs.Rebuilt.{half_as, key_in, same}
+use Rattle.vector_rebuild.specs.Kept.{same}
+use Rattle.vector_rebuild.specs.Rebuilt.{half_as, key_in}
 
 -- two keys are the same either way round, and as transcripts have them
 pub same_as : (k l : Activation) → same (key_in k) (key_in l) ≡ same_key l k

@@ -1,7 +1,7 @@
 -- What a rebuild holds of a history.
-use Rattle.std.specs.Prelude.{◌≡◌, ℕ, nat_eq, Bool, ◌&&◌, List, [], map, length, option_and_then, option_to_list, Option, Some, None}
+use Rattle.std.specs.Prelude.{◌≡◌, ℕ, List, [], map, length, option_and_then, option_to_list, Option, Some, None}
 use Rattle.std.specs.Option.{option_map}
-use Rattle.std.specs.HashMap.{get, spare}
+use Rattle.std.specs.HashMap.{spare}
 use Rattle.cov_base.specs.declared.event.Event.{Event}
 use Rattle.cov_base.specs.declared.event.Event.TheVariants.{Done}
 use Rattle.cov_base.specs.declared.event.Vector.{Vector}
@@ -22,6 +22,7 @@ use Rattle.vector_rebuild.specs.declared.visit.Visit.{Visit}
 use Rattle.vector_rebuild.specs.declared.half.Half.{Half}
 use Rattle.vector_rebuild.specs.declared.rebuild.Rebuild.{Rebuild}
 use Rattle.vector_rebuild.specs.Entries.{branched_of}
+use Rattle.vector_rebuild.specs.Kept.{half_in}
 
 -- ---- the program's values as what they stand for
 
@@ -44,15 +45,11 @@ half_as h = record { vector = h.vector; next = h.next.0 }
 abbrev pub key_in : Activation → Key
 key_in k = record { decision = k.decision.0; instance = k.instance.0; x8 = k.x8 }
 
--- whether two such keys are the same
-abbrev pub same : Key → Key → Bool
-same k l = nat_eq k.decision l.decision && (nat_eq k.instance l.instance && nat_eq k.x8 l.x8)
-
 -- ---- what is held
 
 -- the evaluation of a key that is under way
 abbrev pub kept_of : Rebuild → Activation → Option Open
-kept_of r k = option_map half_as (get same r.halves (key_in k))
+kept_of r k = option_map half_as (half_in r.halves (key_in k))
 
 -- how many entries were fed
 abbrev pub count_of : Rebuild → ℕ
@@ -60,7 +57,7 @@ count_of r = r.fed
 
 -- for how many entries there is room
 abbrev pub room_of : Rebuild → ℕ
-room_of r = spare r.halves
+room_of r = spare r.halves.table
 
 -- of each key the same is under way, and as many entries were fed
 pub record IsAsBefore (old new : Rebuild) : Type 0 where

@@ -10,6 +10,7 @@
 mod edges;
 mod fault;
 mod half;
+mod halves;
 mod rebuild;
 mod visit;
 

@@ -1,7 +1,6 @@
 //! Vectors rebuilt from a history, entry by entry.
 
 ghost use Rattle.std.specs.Prelude.{◌≡◌, ◌≢◌, ◌++◌, ◌+◌, ◌<◌, ◌≤◌, ◌-◌, ◌^◌, List, [], ◌∷◌, length, option_to_list, true, IfOk, IfErr, OnOk, OnErr, IsOk, Some, Err, if◌then◌else◌};
-ghost use Rattle.std.specs.HashMap.{get};
 ghost use Rattle.std.specs.Option.{option_map};
 ghost use Rattle.cov_base.specs.declared.failure.Failure.TheVariants.{WantOfMemory};
 ghost use Rattle.condition_graph.specs.Target.{place_of};
@@ -15,23 +14,24 @@ ghost use Rattle.transcript.specs.Trace.{visit_in};
 ghost use Rattle.transcript.specs.Visit.{Key as Activation, onto};
 ghost use Rattle.trace_format.specs.declared.trace.HistoryEntry.{HistoryEntry};
 ghost use Rattle.vector_rebuild.specs.Entries.{branched_of};
-ghost use Rattle.vector_rebuild.specs.Rebuilt.{visit_as, half_as, key_in, same, kept_of, count_of, visits_of, taken_by, under_way, room_of, IsOff, IsAsBefore, IsEventOf, IsRefusedAfter, Rebuilds};
+ghost use Rattle.vector_rebuild.specs.Kept.{same, half_in};
+ghost use Rattle.vector_rebuild.specs.Rebuilt.{visit_as, half_as, key_in, kept_of, count_of, visits_of, taken_by, under_way, room_of, IsOff, IsAsBefore, IsEventOf, IsRefusedAfter, Rebuilds};
 
 use crate::fault::BrokenHistory;
 use crate::half::{Half, begun, with_step};
+use crate::halves::Halves;
 use crate::visit::{Key, Visit, visit_of};
 use condition_graph::Next;
 use cov_base::{CondIx, Event, Failure, Vector};
 use decision_map::DecisionMap;
 use std::alloc::{AllocError, Global};
-use std::collections::HashMap;
 use trace_format::HistoryEntry;
 
 /// What is kept while a history is fed: of each key the evaluation that is under way, and how many
 /// entries were fed.
 #[derive(Drop)]
 pub struct Rebuild {
-    halves: HashMap<Key, Half>,
+    halves: Halves,
     fed: u32,
 }
 
@@ -42,7 +42,7 @@ impl Rebuild {
         ensures count { count_of result ≡ 0 }
     {
         Rebuild {
-            halves: HashMap::new(alloc),
+            halves: Halves::new(alloc),
             fed: 0,
         }
     }
@@ -64,22 +64,15 @@ impl Rebuild {
         self.halves.reserve(more as usize)
     }
 
-    /// The evaluation of a key that is under way.
-    fn half(&self, key: Key) -> Option<Half>
-        ensures { result ≡ get same self.now.halves key }
-    {
-        self.halves.get(&key).copied()
-    }
-
     /// The vector with which an evaluation of a key comes to a node, if one does. To the root a new one
     /// comes, so nothing is looked up for it.
     fn coming(&self, key: Key, node: CondIx) -> Option<Vector>
-        ensures { result ≡ begun (option_map half_as (get same self.now.halves key)) node.0 }
+        ensures { result ≡ begun (option_map half_as (half_in self.now.halves key)) node.0 }
     {
         if node.0 == 0 {
             return begun(None, node);
         }
-        begun(self.half(key), node)
+        begun(self.halves.find(key), node)
     }
 
     /// Keeps an evaluation that has come to a node, or answers its vector where it has come to an
@@ -97,11 +90,11 @@ impl Rebuild {
     {
         match next {
             Next::Node(next) => {
-                self.halves.insert(key, Half { vector, next })?;
+                self.halves.put(key, Some(Half { vector, next }))?;
                 Ok(None)
             }
             Next::Leaf(_) => {
-                self.halves.remove(&key);
+                self.halves.put(key, None)?;
                 Ok(Some(vector))
             }
         }
