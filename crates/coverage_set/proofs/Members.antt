@@ -1,11 +1,12 @@
 -- The items of sorted lists.
-use Rattle.std.proofs.Common.{◌≡◌, ◌≢◌, ◌↔◌, ◌⊎◌, ℕ, suc, zero, ◌<◌, ◌≤◌, Bool, true, List, [], ◌∷◌, ◌++◌, length, get_or, Contains, IsPermutation, is_eq, inl, inr, arith, refl, sym, ◌∙◌, subst, ap, drop, ◌+◌, Result, Ok, Err, IfOk, is_ok}
+use Rattle.std.proofs.Common.{◌≡◌, ◌≢◌, ◌↔◌, ◌⊎◌, ℕ, suc, zero, ◌<◌, ◌≤◌, Bool, true, List, [], ◌∷◌, ◌++◌, length, get_or, slice_get, Some, Contains, IsPermutation, is_eq, inl, inr, arith, refl, sym, ◌∙◌, subst, ap, drop, ◌+◌, Result, Ok, Err, IfOk, is_ok}
 use Rattle.std.specs.Cmp.{IsTotalOrder, IsEquivalence}
 use Rattle.std.specs.List.{dedup, AllByRecursion, AllPairs}
 use Rattle.std.specs.Ordering.{eq_by_cmp}
 use Rattle.std.specs.List.{HoldsAt}
 use Rattle.std.specs.List.Sorted.{IsSearchInRange}
 use Rattle.std.proofs.lemmas.List.{at_drop_more}
+use Rattle.std.proofs.lemmas.Option.{slice_get_within, slice_get-get_or}
 use Rattle.std.specs.declared.cmp.Ordering.{Ordering}
 use Rattle.std.specs.declared.cmp.Ordering.TheVariants.{Less, Equal, Greater}
 use Rattle.std.proofs.lemmas.List.Sorted.{Contains-permutation, IsPermutation-sym}
@@ -24,6 +25,11 @@ somewhere_at (y ∷ xs) x (suc k) within is = inr (somewhere_at xs x k (omega ar
 
 pub somewhere_of : {X : Type 0} (xs : List X) (x : X) → Contains xs x → Somewhere (λ y. y ≡ x) xs
 somewhere_of xs x has = somewhere_at xs x has.0 has.1 has.2
+
+pub stands_at : {X : Type 0} (xs : List X) (k : ℕ) (x : X) → slice_get xs k ≡ Some x → Somewhere (λ y. y ≡ x) xs
+stands_at xs k x is =
+    let within = slice_get_within xs k x is in
+    somewhere_at xs x k within (cc (is, slice_get-get_or xs k x within))
 
 pub contains_of : {X : Type 0} (xs : List X) (x : X) → Somewhere (λ y. y ≡ x) xs → Contains xs x
 contains_of [] x some = absurd some
@@ -51,6 +57,14 @@ of_push old kept new item is same x =
       ],
       λ some. both.1 (elim some [ inl early ↦ inl ((same x).1 early) | inr here ↦ inr (inl here) ]),
     )
+
+-- what stands in a list already need not be put there
+pub of_same : {X : Type 0} (xs : List X) (item : X) → Somewhere (λ y. y ≡ item) xs
+    → (x : X) → Somewhere (λ y. y ≡ x) xs ↔ (Somewhere (λ y. y ≡ x) xs ⊎ (item ≡ x))
+of_same xs item there x = (
+  λ some. inl some,
+  λ either. elim either [ inl some ↦ some | inr is ↦ subst (λ z. Somewhere (λ y. y ≡ z) xs) is there ],
+)
 
 -- a union with what is said otherwise
 pub in_either : (A B C D : Type 0) → (C ↔ (A ⊎ B)) → (B ↔ D) → C ↔ (A ⊎ D)

@@ -1,6 +1,6 @@
 //! Items that are gathered one by one, of which most stand there already.
 
-ghost use Rattle.std.specs.Prelude.{◌≡◌, ◌↔◌, ◌⊎◌, [], OnOk};
+ghost use Rattle.std.specs.Prelude.{◌≡◌, ◌↔◌, ◌⊎◌, [], IsTrue, OnOk};
 ghost use Rattle.cov_base.specs.Lists.{Somewhere};
 
 use crate::exact::Exact;
@@ -43,9 +43,22 @@ impl<T: Exact + Drop> Gathered<T> {
         ensures { OnOk result ((x : T) → Somewhere (λ y. y ≡ x) self.new
             ↔ (Somewhere (λ y. y ≡ x) self.old ⊎ (item ≡ x))) }
     {
+        if self.ends_with(&item) {
+            return Ok(());
+        }
         self.make_room();
         self.items.push(item)?;
         Ok(())
+    }
+
+    /// Whether this item stands last. Of a loop's turns most tell again what the one before told.
+    fn ends_with(&self, item: &T) -> bool
+        ensures { IsTrue result → Somewhere (λ x. x ≡ item.now) self.now }
+    {
+        match self.items.last() {
+            Some(last) => *last == *item,
+            None => false,
+        }
     }
 
     /// Adds the items of a list.
