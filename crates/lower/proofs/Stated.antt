@@ -1,5 +1,6 @@
 -- How the code of statements is put together of its pieces.
 use Rattle.std.proofs.Common.{◌≡◌, ℕ, true, false, List, [], ◌∷◌, refl, sym, ap, ◌∙◌}
+use Rattle.ada_meaning.specs.Tree as tree
 use Rattle.ada_tree.specs.declared.statement.Direction.{Direction}
 use Rattle.ada_tree.specs.declared.statement.Direction.TheVariants as direction
 use Rattle.ada_tree.specs.declared.statement.Handler.{Handler}
@@ -10,7 +11,8 @@ use Rattle.kernel_ir.specs.Tree.{catch, Code, no_op}
 use Rattle.statement_code.specs.Flows.{counted_code, range_code}
 use Rattle.statement_code.specs.Statements.{guarded_code}
 use Rattle.statement_code.specs.Values.{single, one}
-use Rattle.lower.specs.Stated.{step_of, turn_end, exchange_by, range_by}
+use Rattle.lower.specs.declared.context.BodyContext.{BodyContext}
+use Rattle.lower.specs.Stated.{step_of, turn_end, exchange_by, range_by, own_start_for, held_for, stated_for}
 use Rattle.lower.proofs.Building.{three_put}
 use Rattle.lower.proofs.Pieces.{false_is_not}
 
@@ -40,3 +42,21 @@ unguarded (h ∷ hs) a b k bare = absurd (false_is_not (sym bare))
 pub guarded : (hs : List Handler) (a b : Code) (k : ℕ) → is_filled hs ≡ true → single (catch a k b) ≡ guarded_code (handlers_of hs) a k b
 guarded [] a b k filled = absurd (false_is_not filled)
 guarded (h ∷ hs) a b k filled = refl
+
+-- the start of a statement, and what it does when it has started
+pub started : (c : BodyContext) (k t : ℕ) (s : tree.Stmt) → joined (own_start_for c s) (held_for c k t s) ≡ stated_for c k t s
+started c k t (tree.null_statement l) = refl
+started c k t (tree.assignment l o parts v) = refl
+started c k t (tree.procedure_call l callee actuals) = refl
+started c k t (tree.if_statement l bs) = refl
+started c k t (tree.case_statement l e choices) = refl
+started c k t (tree.bare_loop l ss) = refl
+started c k t (tree.while_loop l d u ss) = refl
+started c k t (tree.for_loop l d reversed ts ss) = refl
+started c k t (tree.exit_statement l) = refl
+started c k t (tree.exit_when l d u) = refl
+started c k t (tree.return_statement l) = refl
+started c k t (tree.return_value l r e) = refl
+started c k t (tree.raise_statement l x) = refl
+started c k t (tree.raise_again l) = refl
+started c k t (tree.block_statement b) = refl

@@ -8,11 +8,16 @@ use Rattle.ada_tree.specs.declared.statement.Direction.TheVariants as direction
 use Rattle.kernel_ir.specs.declared.simple.Simple.TheVariants as op
 use Rattle.kernel_ir.specs.declared.simple.Relation.TheVariants as relation
 use Rattle.kernel_ir.specs.Sequence.{joined}
-use Rattle.kernel_ir.specs.Tree.{simple, choose, for_loop, exit, Code, no_op, and_op}
-use Rattle.statement_code.specs.Statements.{keep_on, start_of, first_code, declaration_code, declarations_code, statement_code, statements_code, branches_code, alternatives_code, block_code, handlers_code}
-use Rattle.statement_code.specs.Values.{single, one, Home, address_on}
+use Rattle.kernel_ir.specs.Tree.{simple, choose, for_loop, forever, exit, returns, Code, no_op, and_op}
+use Rattle.statement_code.specs.Flows.{range_code}
+use Rattle.statement_code.specs.Statements.{keep_on, slot_of, start_of, first_code, declaration_code, declarations_code, statement_code, statements_code, branches_code, alternatives_code, block_code, handlers_code}
+use Rattle.statement_code.specs.Values.{single, one, Home, address_on, within}
 use Rattle.lower.specs.declared.context.BodyContext.{BodyContext}
+use Rattle.lower.specs.Choosing.{bounds_for, decided_for}
 use Rattle.lower.specs.Context.{names_for, shape_for, home_for, layout_for, site_for}
+use Rattle.lower.specs.Pieces.{expr_for}
+use Rattle.lower.specs.Procedures.{procedure_for}
+use Rattle.lower.specs.Settings.{assign_for}
 
 -- the first value of an object that stands somewhere: of a scalar one by the bounds of its subtype, of another by its layout
 abbrev pub first_by : (k layout : ℕ) → Home → Option Bounds → Code
@@ -61,6 +66,24 @@ module _ (c : BodyContext) where
   abbrev pub stated_for : (k t : ℕ) → tree.Stmt → Code
   stated_for k t s = statement_code (names_for c) (shape_for c) (home_for c) (site_for c) (layout_for c) k t s
 
+  -- the start of a statement, which a block has not, and what it does when it has started
+  abbrev pub own_start_for : tree.Stmt → Code
+  own_start_for (tree.null_statement l) = start_for l
+  own_start_for (tree.assignment l o parts v) = start_for l
+  own_start_for (tree.procedure_call l c actuals) = start_for l
+  own_start_for (tree.if_statement l bs) = start_for l
+  own_start_for (tree.case_statement l e choices) = start_for l
+  own_start_for (tree.bare_loop l ss) = start_for l
+  own_start_for (tree.while_loop l d u ss) = start_for l
+  own_start_for (tree.for_loop l d reversed ts ss) = start_for l
+  own_start_for (tree.exit_statement l) = start_for l
+  own_start_for (tree.exit_when l d u) = start_for l
+  own_start_for (tree.return_statement l) = start_for l
+  own_start_for (tree.return_value l r e) = start_for l
+  own_start_for (tree.raise_statement l x) = start_for l
+  own_start_for (tree.raise_again l) = start_for l
+  own_start_for (tree.block_statement b) = no_op
+
   abbrev pub all_for : (k t : ℕ) → tree.Stmts → Code
   all_for k t ss = statements_code (names_for c) (shape_for c) (home_for c) (site_for c) (layout_for c) k t ss
 
@@ -75,3 +98,22 @@ module _ (c : BodyContext) where
 
   abbrev pub handlers_for : (k : ℕ) → tree.Handlers → Code
   handlers_for k hs = handlers_code (names_for c) (shape_for c) (home_for c) (site_for c) (layout_for c) k hs
+
+  abbrev pub held_for : (k t : ℕ) → tree.Stmt → Code
+  held_for k t (tree.null_statement l) = no_op
+  held_for k t (tree.assignment l o parts v) = assign_for c k o parts v
+  held_for k t (tree.procedure_call l callee actuals) = procedure_for c k ((names_for c).target callee) actuals
+  held_for k t (tree.if_statement l bs) = branches_for k t bs
+  held_for k t (tree.case_statement l e choices) = joined (expr_for c k e) (alternatives_for k t choices)
+  held_for k t (tree.bare_loop l ss) = single (forever (all_for k t ss))
+  held_for k t (tree.while_loop l d u ss) = single (forever (decided_for c k d u (all_for k t ss) (single exit)))
+  held_for k t (tree.for_loop l d reversed ts ss) =
+      joined (bounds_for c k ts) (range_code k (k + 2) (slot_of (home_for c (tree.local_object d))) reversed (all_for (k + 2) t ss))
+  held_for k t (tree.exit_statement l) = single exit
+  held_for k t (tree.exit_when l d u) = decided_for c k d u (single exit) no_op
+  held_for k t (tree.return_statement l) = single returns
+  held_for k t (tree.return_value l r e) =
+      joined (expr_for c k e) (and_op (simple (within k ((names_for c).bounds r))) (and_op (simple (op.Move 0 k)) (single returns)))
+  held_for k t (tree.raise_statement l x) = one (op.Raise ((names_for c).exception x))
+  held_for k t (tree.raise_again l) = one (op.RaiseSlot t)
+  held_for k t (tree.block_statement b) = frame_for k t b

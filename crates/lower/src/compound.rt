@@ -2,7 +2,7 @@
 
 ghost use Rattle.std.specs.Prelude.{◌≡◌, ◌+◌, OnOk};
 ghost use Rattle.ada_meaning.specs.Tree as tree;
-ghost use Rattle.ada_tree.specs.View.{alternatives_of, branches_of, handlers_of, is_filled, is_reversed, label_of, statements_of, turns_of};
+ghost use Rattle.ada_tree.specs.View.{alternatives_of, branches_of, handlers_of, is_filled, is_reversed, label_of, statement_at, statements_of, turns_of};
 ghost use Rattle.kernel_ir.specs.Sequence.{joined};
 ghost use Rattle.kernel_ir.specs.Tree.{exit, forever};
 ghost use Rattle.kernel_ir.specs.declared.simple.Simple.TheVariants as op;
@@ -11,7 +11,7 @@ ghost use Rattle.statement_code.specs.Statements.{slot_of};
 ghost use Rattle.statement_code.specs.Values.{one, single};
 ghost use Rattle.lower.specs.Choosing.{bounds_for, decided_for};
 ghost use Rattle.lower.specs.Context.{home_for, home_of};
-ghost use Rattle.lower.specs.Stated.{all_for, alternatives_for, branches_for, exchange_by, frame_for, handlers_for, range_by, stated_for, step_of, turn_end};
+ghost use Rattle.lower.specs.Stated.{all_for, alternatives_for, branches_for, exchange_by, frame_for, handlers_for, held_for, own_start_for, range_by, stated_for, step_of, turn_end};
 
 use crate::calls::slots_behind;
 use crate::choosing::{put_bounds, put_choices, put_compared, put_decided, put_exception_choices};
@@ -156,66 +156,89 @@ fn put_stated(
 ) -> Result<(), AllocError>
     ensures { OnOk result (code.new ≡ joined code.old (stated_for context.now slot taken statement.now)) }
 {
-    match &statement.kind {
-        StatementKind::Null(label) => put_start(context, code, *label),
-        StatementKind::Assignment(label, object, value) => {
-            put_start(context, code, *label)?;
+    put_own_start(context, code, &statement.kind)?;
+    put_held(alloc, context, code, slot, taken, &statement.kind)
+}
+
+/// Puts the start of a statement behind code. A block has none of its own.
+fn put_own_start(
+    context: &BodyContext,
+    code: &mut Code,
+    kind: &StatementKind,
+) -> Result<(), AllocError>
+    ensures { OnOk result (code.new ≡ joined code.old (own_start_for context.now (statement_at kind.now))) }
+{
+    match kind {
+        StatementKind::Null(label)
+        | StatementKind::Assignment(label, ..)
+        | StatementKind::PartAssignment(label, ..)
+        | StatementKind::Call(label, ..)
+        | StatementKind::If(label, ..)
+        | StatementKind::Case(label, ..)
+        | StatementKind::Loop(label, _)
+        | StatementKind::While(label, ..)
+        | StatementKind::For(label, ..)
+        | StatementKind::Exit(label)
+        | StatementKind::ExitWhen(label, _)
+        | StatementKind::Return(label)
+        | StatementKind::ReturnValue(label, ..)
+        | StatementKind::Raise(label, _)
+        | StatementKind::RaiseAgain(label) => put_start(context, code, *label),
+        StatementKind::Block(_) => Ok(()),
+    }
+}
+
+/// Puts behind code what a statement does when it has started.
+#[cycle(statements)]
+fn put_held(
+    alloc: Global,
+    context: &BodyContext,
+    code: &mut Code,
+    slot: Slot,
+    taken: Slot,
+    kind: &StatementKind,
+) -> Result<(), AllocError>
+    ensures { OnOk result (code.new
+        ≡ joined code.old (held_for context.now slot taken (statement_at kind.now))) }
+{
+    match kind {
+        StatementKind::Null(_) => Ok(()),
+        StatementKind::Assignment(_, object, value) => {
             put_assignment(alloc, context, code, slot, *object, &[], value)
         }
-        StatementKind::PartAssignment(label, object, selectors, value) => {
-            put_start(context, code, *label)?;
+        StatementKind::PartAssignment(_, object, selectors, value) => {
             put_assignment(alloc, context, code, slot, *object, selectors, value)
         }
-        StatementKind::Call(label, callee, actuals) => {
-            put_start(context, code, *label)?;
+        StatementKind::Call(_, callee, actuals) => {
             let target = context.target(*callee);
             put_procedure(alloc, context, code, slot, target, actuals.as_slice())
         }
-        StatementKind::If(label, branches, otherwise) => {
-            put_start(context, code, *label)?;
+        StatementKind::If(_, branches, otherwise) => {
             put_branches(alloc, context, code, slot, taken, branches, otherwise)
         }
-        StatementKind::Case(label, expr, alternatives) => {
-            put_start(context, code, *label)?;
+        StatementKind::Case(_, expr, alternatives) => {
             put_value(alloc, context, code, slot, expr)?;
             put_alternatives(alloc, context, code, slot, taken, alternatives)
         }
-        StatementKind::Loop(label, statements) => {
-            put_start(context, code, *label)?;
+        StatementKind::Loop(_, statements) => {
             put_loop(alloc, context, code, slot, taken, statements)
         }
-        StatementKind::While(label, decision, statements) => {
-            put_start(context, code, *label)?;
+        StatementKind::While(_, decision, statements) => {
             put_while(alloc, context, code, slot, taken, decision, statements)
         }
-        StatementKind::For(label, scheme, statements) => {
-            put_start(context, code, *label)?;
+        StatementKind::For(_, scheme, statements) => {
             put_for(alloc, context, code, slot, taken, scheme, statements)
         }
-        StatementKind::Exit(label) => {
-            put_start(context, code, *label)?;
-            code.push(Op::Exit)
-        }
-        StatementKind::ExitWhen(label, decision) => {
-            put_start(context, code, *label)?;
+        StatementKind::Exit(_) => code.push(Op::Exit),
+        StatementKind::ExitWhen(_, decision) => {
             put_exit_when(alloc, context, code, slot, decision)
         }
-        StatementKind::Return(label) => {
-            put_start(context, code, *label)?;
-            code.push(Op::Returns)
-        }
-        StatementKind::ReturnValue(label, range, expr) => {
-            put_start(context, code, *label)?;
+        StatementKind::Return(_) => code.push(Op::Returns),
+        StatementKind::ReturnValue(_, range, expr) => {
             put_result(alloc, context, code, slot, *range, expr)
         }
-        StatementKind::Raise(label, name) => {
-            put_start(context, code, *label)?;
-            put_raise(context, code, *name)
-        }
-        StatementKind::RaiseAgain(label) => {
-            put_start(context, code, *label)?;
-            code.push_simple(Simple::RaiseSlot { slot: taken })
-        }
+        StatementKind::Raise(_, name) => put_raise(context, code, *name),
+        StatementKind::RaiseAgain(_) => code.push_simple(Simple::RaiseSlot { slot: taken }),
         StatementKind::Block(block) => put_frame(alloc, context, code, slot, taken, block),
     }
 }
@@ -302,6 +325,7 @@ fn put_alternatives(
     let Some((alternative, others)) = alternatives.split_first() else {
         return put_unfitted(code);
     };
+    let fits = slot_behind(slot)?;
     put_choices(alloc, context, code, slot, alternative.choices.as_slice())?;
     let mut if_true = Code::new(alloc);
     put_all(
@@ -314,7 +338,6 @@ fn put_alternatives(
     )?;
     let mut if_false = Code::new(alloc);
     put_alternatives(alloc, context, &mut if_false, slot, taken, others)?;
-    let fits = slot_behind(slot)?;
     code.push(Op::Choose {
         slot: fits,
         if_true,

@@ -123,6 +123,8 @@ pub fn lower(alloc: Global, program: &Program, copies: &Copies) -> Result<Kernel
     ensures kernel { IfOk result (λ kernel. kernel ≡ spec.kernel_for program.now copies.now.bodies) }
     ensures words { IfOk result (λ kernel. Everywhere HasWord kernel.layouts) }
 {
+    let main = bodies_before(copies.bodies.as_slice(), 0, program.main)?;
+    let exceptions = exception_count(program.exceptions.as_slice())?;
     let sizes = TypeSizes::of(alloc, program)?;
     let library = library_of(alloc, &sizes)?;
     let layouts = TypeLayouts::of(alloc, &sizes)?;
@@ -137,9 +139,9 @@ pub fn lower(alloc: Global, program: &Program, copies: &Copies) -> Result<Kernel
     )?;
     Ok(Kernel {
         bodies,
-        main: bodies_before(copies.bodies.as_slice(), 0, program.main)?,
+        main,
         layouts: layouts.into_layouts(),
         library: library.words,
-        exceptions: exception_count(program.exceptions.as_slice())?,
+        exceptions,
     })
 }

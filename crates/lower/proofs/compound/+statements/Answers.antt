@@ -1,24 +1,22 @@
 use Rattle.std.proofs.Common.{◌+◌, map, refl, sym, ap, ◌∙◌, arith}
 use Rattle.ada_meaning.specs.Tree as tree
 use Rattle.ada_tree.proofs.Within.{statement_within}
-use Rattle.ada_tree.specs.Sizes.{stmt_size}
-use Rattle.ada_tree.specs.View.{alternatives_of, actuals_of, branches_of, callee_of, choice_of, declaration_of, exception_choice_of, exception_of, handlers_of, is_filled, is_reversed, label_of, object_of, parts_of, scalar_range_of, statements_of, turns_of, value_of}
+use Rattle.ada_tree.specs.Sizes.{alternatives_size, stmt_size, stmts_size}
+use Rattle.ada_tree.specs.View.{alternatives_of, choice_of, declaration_of, exception_choice_of, handlers_of, is_filled, is_reversed, statement_at, statements_of, turns_of}
 use Rattle.kernel_ir.specs.declared.simple.Simple.TheVariants as op
 use Rattle.kernel_ir.specs.Sequence.{joined}
-use Rattle.kernel_ir.specs.Tree.{simple, and_op, catch, choose, exit, for_loop, forever, no_op}
-use Rattle.kernel_ir.specs.Tree as kernel
+use Rattle.kernel_ir.specs.Tree.{catch, choose}
 use Rattle.statement_code.specs.Flows.{range_code}
 use Rattle.statement_code.specs.Statements.{guarded_code, slot_of}
-use Rattle.statement_code.specs.Values.{one, single, within}
-use Rattle.lower.specs.Choosing.{bounds_for, choices_for, decided_for, exception_choices_for}
-use Rattle.lower.specs.Context.{home_for, names_for}
+use Rattle.statement_code.specs.Values.{one, single}
+use Rattle.lower.specs.Choosing.{bounds_for, choices_for, exception_choices_for}
+use Rattle.lower.specs.Context.{home_for}
 use Rattle.lower.specs.Pieces.{expr_for}
-use Rattle.lower.specs.Procedures.{procedure_for}
-use Rattle.lower.specs.Settings.{assign_for}
-use Rattle.lower.specs.Stated.{all_for, alternatives_for, branches_for, declarations_for, handlers_for, range_by, start_for, stated_for}
+use Rattle.lower.specs.Stated.{all_for, alternatives_for, declarations_for, handlers_for, held_for, own_start_for, range_by, stated_for}
 use Rattle.lower.proofs.Building.{none_left, one_more, then_put}
-use Rattle.lower.proofs.Pieces.{in_words, three_then}
-use Rattle.lower.proofs.Stated.{guarded, range_put, unguarded}
+use Rattle.kernel_ir.proofs.Joining.{joined_nothing}
+use Rattle.lower.proofs.Pieces.{in_words}
+use Rattle.lower.proofs.Stated.{guarded, range_put, started, unguarded}
 use Rattle.lower.proofs.compound.+statements.Goals as goal
 
 pub put_all-put_stated-requires :
@@ -121,115 +119,79 @@ put_frame-returns t c =
     ∙ guarded hs stated handled k (sym (c.has_handlers.ensures ∙ ap is_filled c.deref.ensures.value) ∙ c.if-not-has_handlers.false))
     c.push.ensures.ok))
 
-pub put_stated-returns-in_ok-put_start-in-Assignment :
-    goal.put_stated-returns-in_ok-put_start-in-Assignment
-put_stated-returns-in_ok-put_start-in-Assignment t c =
-    let k = c.args.slot in
-    rw (← c.statement.view_is, c.in-Assignment.is)
-    (then_put c.put_assignment.result c.args.code.now c.put_start-in-Assignment.new.code c.put_assignment.new.code (start_for c.args.context.now (label_of c.in-Assignment.label)) (assign_for c.args.context.now k (object_of c.in-Assignment.object) tree.whole (value_of c.in-Assignment.value))
-    c.in_ok-put_start-in-Assignment.ensures c.put_assignment.ensures)
+pub put_stated-returns : goal.put_stated-returns
+put_stated-returns t c =
+    let x = c.args.context.now in
+    let s = c.args.statement.now in
+    in_words c.put_held.result c.args.code.now c.put_held.new.code _ _ (started x c.args.slot c.args.taken s)
+    (then_put c.put_held.result c.args.code.now c.put_own_start.new.code c.put_held.new.code (own_start_for x s) (held_for x c.args.slot c.args.taken s)
+    (rw c.statement.view_is at c.in_ok-put_own_start.ensures) (rw c.statement.view_is at c.put_held.ensures))
 
-pub put_stated-returns-in_ok-put_start-in-PartAssignment :
-    goal.put_stated-returns-in_ok-put_start-in-PartAssignment
-put_stated-returns-in_ok-put_start-in-PartAssignment t c =
-    let k = c.args.slot in
-    rw (← c.statement.view_is, c.in-PartAssignment.is)
-    (then_put c.put_assignment-in-PartAssignment.result c.args.code.now c.put_start-in-PartAssignment.new.code c.put_assignment-in-PartAssignment.new.code (start_for c.args.context.now (label_of c.in-PartAssignment.label)) (assign_for c.args.context.now k (object_of c.in-PartAssignment.object) (parts_of c.in-PartAssignment.selectors.items) (value_of c.in-PartAssignment.value))
-    c.in_ok-put_start-in-PartAssignment.ensures (rw c.deref.ensures.value at c.put_assignment-in-PartAssignment.ensures))
+pub put_held-returns-in-Assignment : goal.put_held-returns-in-Assignment
+put_held-returns-in-Assignment t c = rw c.in-Assignment.is c.put_assignment.ensures
 
-pub put_stated-returns-in_ok-put_start-in-Call :
-    goal.put_stated-returns-in_ok-put_start-in-Call
-put_stated-returns-in_ok-put_start-in-Call t c =
-    let k = c.args.slot in
-    rw (← c.statement.view_is, c.in-Call.is)
-    (then_put c.put_procedure.result c.args.code.now c.put_start-in-Call.new.code c.put_procedure.new.code (start_for c.args.context.now (label_of c.in-Call.label)) (procedure_for c.args.context.now k ((names_for c.args.context.now).target (callee_of c.in-Call.callee)) (actuals_of c.in-Call.actuals))
-    c.in_ok-put_start-in-Call.ensures (rw (c.target-target.ensures, c.as_slice.ensures) at c.put_procedure.ensures))
+pub put_held-returns-in-PartAssignment : goal.put_held-returns-in-PartAssignment
+put_held-returns-in-PartAssignment t c = rw c.in-PartAssignment.is (rw c.deref.ensures.value at c.put_assignment-in-PartAssignment.ensures)
 
-pub put_stated-returns-in_ok-put_start-in-If :
-    goal.put_stated-returns-in_ok-put_start-in-If
-put_stated-returns-in_ok-put_start-in-If t c =
-    let k = c.args.slot in
-    rw (← c.statement.view_is, c.in-If.is)
-    (then_put c.put_branches.result c.args.code.now c.put_start-in-If.new.code c.put_branches.new.code (start_for c.args.context.now (label_of c.in-If.label)) (branches_for c.args.context.now k c.args.taken (branches_of c.in-If.branches.items (statements_of c.in-If.otherwise.items)))
-    c.in_ok-put_start-in-If.ensures (rw (c.deref-in-If.ensures.value, c.deref-in-If-2.ensures.value) at c.put_branches.ensures))
+pub put_held-returns-in-Call : goal.put_held-returns-in-Call
+put_held-returns-in-Call t c = rw c.in-Call.is (rw (c.target-target.ensures, c.as_slice.ensures) at c.put_procedure.ensures)
 
-pub put_stated-returns-in_ok-put_start-in-Loop :
-    goal.put_stated-returns-in_ok-put_start-in-Loop
-put_stated-returns-in_ok-put_start-in-Loop t c =
-    let k = c.args.slot in
-    rw (← c.statement.view_is, c.in-Loop.is)
-    (then_put c.put_loop.result c.args.code.now c.put_start-in-Loop.new.code c.put_loop.new.code (start_for c.args.context.now (label_of c.in-Loop.label)) (single (forever (all_for c.args.context.now k c.args.taken (statements_of c.in-Loop.statements.items))))
-    c.in_ok-put_start-in-Loop.ensures (rw c.deref-in-Loop.ensures.value at c.put_loop.ensures))
+pub put_held-returns-in-If : goal.put_held-returns-in-If
+put_held-returns-in-If t c = rw c.in-If.is (rw (c.deref-in-If.ensures.value, c.deref-in-If-2.ensures.value) at c.put_branches.ensures)
 
-pub put_stated-returns-in_ok-put_start-in-While :
-    goal.put_stated-returns-in_ok-put_start-in-While
-put_stated-returns-in_ok-put_start-in-While t c =
-    let k = c.args.slot in
-    rw (← c.statement.view_is, c.in-While.is)
-    (then_put c.put_while.result c.args.code.now c.put_start-in-While.new.code c.put_while.new.code (start_for c.args.context.now (label_of c.in-While.label)) (single (forever (decided_for c.args.context.now k (label_of c.in-While.decision.label) c.in-While.decision.test (all_for c.args.context.now k c.args.taken (statements_of c.in-While.statements.items)) (single exit))))
-    c.in_ok-put_start-in-While.ensures (rw c.deref-in-While.ensures.value at c.put_while.ensures))
+pub put_held-returns-in-Loop : goal.put_held-returns-in-Loop
+put_held-returns-in-Loop t c = rw c.in-Loop.is (rw c.deref-in-Loop.ensures.value at c.put_loop.ensures)
 
-pub put_stated-returns-in_ok-put_start-in-For :
-    goal.put_stated-returns-in_ok-put_start-in-For
-put_stated-returns-in_ok-put_start-in-For t c =
-    let k = c.args.slot in
-    rw (← c.statement.view_is, c.in-For.is)
-    (then_put c.put_for.result c.args.code.now c.put_start-in-For.new.code c.put_for.new.code (start_for c.args.context.now (label_of c.in-For.label)) (joined (bounds_for c.args.context.now k (turns_of c.in-For.scheme.values)) (range_code k (k + 2) (slot_of (home_for c.args.context.now (tree.local_object c.in-For.scheme.parameter))) (is_reversed c.in-For.scheme.direction) (all_for c.args.context.now (k + 2) c.args.taken (statements_of c.in-For.statements.items))))
-    c.in_ok-put_start-in-For.ensures (rw c.deref-in-For.ensures.value at c.put_for.ensures))
+pub put_held-returns-in-While : goal.put_held-returns-in-While
+put_held-returns-in-While t c = rw c.in-While.is (rw c.deref-in-While.ensures.value at c.put_while.ensures)
 
-pub put_stated-returns-in_ok-put_start-in-Exit :
-    goal.put_stated-returns-in_ok-put_start-in-Exit
-put_stated-returns-in_ok-put_start-in-Exit t c =
-    let k = c.args.slot in
-    rw (← c.statement.view_is, c.in-Exit.is)
-    (then_put c.push.result c.args.code.now c.put_start-in-Exit.new.code c.push.new.self (start_for c.args.context.now (label_of c.in-Exit.label)) (single exit)
-    c.in_ok-put_start-in-Exit.ensures c.push.ensures.ok)
+pub put_held-returns-in-For : goal.put_held-returns-in-For
+put_held-returns-in-For t c = rw c.in-For.is (rw c.deref-in-For.ensures.value at c.put_for.ensures)
 
-pub put_stated-returns-in_ok-put_start-in-ExitWhen :
-    goal.put_stated-returns-in_ok-put_start-in-ExitWhen
-put_stated-returns-in_ok-put_start-in-ExitWhen t c =
-    let k = c.args.slot in
-    rw (← c.statement.view_is, c.in-ExitWhen.is)
-    (then_put c.put_exit_when.result c.args.code.now c.put_start-in-ExitWhen.new.code c.put_exit_when.new.code (start_for c.args.context.now (label_of c.in-ExitWhen.label)) (decided_for c.args.context.now k (label_of c.in-ExitWhen.decision.label) c.in-ExitWhen.decision.test (single exit) no_op)
-    c.in_ok-put_start-in-ExitWhen.ensures c.put_exit_when.ensures)
+pub put_held-returns-in-Exit : goal.put_held-returns-in-Exit
+put_held-returns-in-Exit t c = rw c.in-Exit.is c.push.ensures.ok
 
-pub put_stated-returns-in_ok-put_start-in-Return :
-    goal.put_stated-returns-in_ok-put_start-in-Return
-put_stated-returns-in_ok-put_start-in-Return t c =
-    let k = c.args.slot in
-    rw (← c.statement.view_is, c.in-Return.is)
-    (then_put c.push-in-Return.result c.args.code.now c.put_start-in-Return.new.code c.push-in-Return.new.self (start_for c.args.context.now (label_of c.in-Return.label)) (single kernel.returns)
-    c.in_ok-put_start-in-Return.ensures c.push-in-Return.ensures.ok)
+pub put_held-returns-in-ExitWhen : goal.put_held-returns-in-ExitWhen
+put_held-returns-in-ExitWhen t c = rw c.in-ExitWhen.is c.put_exit_when.ensures
 
-pub put_stated-returns-in_ok-put_start-in-ReturnValue :
-    goal.put_stated-returns-in_ok-put_start-in-ReturnValue
-put_stated-returns-in_ok-put_start-in-ReturnValue t c =
-    let k = c.args.slot in
-    rw (← c.statement.view_is, c.in-ReturnValue.is)
-    (then_put c.put_result.result c.args.code.now c.put_start-in-ReturnValue.new.code c.put_result.new.code (start_for c.args.context.now (label_of c.in-ReturnValue.label)) (joined (expr_for c.args.context.now k c.in-ReturnValue.expr) (and_op (simple (within k ((names_for c.args.context.now).bounds (scalar_range_of c.in-ReturnValue.range)))) (and_op (simple (op.Move 0 k)) (single kernel.returns))))
-    c.in_ok-put_start-in-ReturnValue.ensures c.put_result.ensures)
+pub put_held-returns-in-Return : goal.put_held-returns-in-Return
+put_held-returns-in-Return t c = rw c.in-Return.is c.push-in-Return.ensures.ok
 
-pub put_stated-returns-in_ok-put_start-in-Raise :
-    goal.put_stated-returns-in_ok-put_start-in-Raise
-put_stated-returns-in_ok-put_start-in-Raise t c =
-    let k = c.args.slot in
-    rw (← c.statement.view_is, c.in-Raise.is)
-    (then_put c.put_raise.result c.args.code.now c.put_start-in-Raise.new.code c.put_raise.new.code (start_for c.args.context.now (label_of c.in-Raise.label)) (one (op.Raise ((names_for c.args.context.now).exception (exception_of c.in-Raise.name))))
-    c.in_ok-put_start-in-Raise.ensures c.put_raise.ensures)
+pub put_held-returns-in-ReturnValue : goal.put_held-returns-in-ReturnValue
+put_held-returns-in-ReturnValue t c = rw c.in-ReturnValue.is c.put_result.ensures
 
-pub put_stated-returns-in_ok-put_start-in-RaiseAgain :
-    goal.put_stated-returns-in_ok-put_start-in-RaiseAgain
-put_stated-returns-in_ok-put_start-in-RaiseAgain t c =
-    let k = c.args.slot in
-    rw (← c.statement.view_is, c.in-RaiseAgain.is)
-    (then_put c.push_simple.result c.args.code.now c.put_start-in-RaiseAgain.new.code c.push_simple.new.self (start_for c.args.context.now (label_of c.in-RaiseAgain.label)) (one (op.RaiseSlot c.args.taken))
-    c.in_ok-put_start-in-RaiseAgain.ensures c.push_simple.ensures.ok)
+pub put_held-returns-in-Raise : goal.put_held-returns-in-Raise
+put_held-returns-in-Raise t c = rw c.in-Raise.is c.put_raise.ensures
 
-pub put_stated-returns-in_ok-put_value-in-Case :
-    goal.put_stated-returns-in_ok-put_value-in-Case
-put_stated-returns-in_ok-put_value-in-Case t c =
+pub put_held-returns-in-RaiseAgain : goal.put_held-returns-in-RaiseAgain
+put_held-returns-in-RaiseAgain t c = rw c.in-RaiseAgain.is c.push_simple.ensures.ok
+
+pub put_held-returns-in-Block : goal.put_held-returns-in-Block
+put_held-returns-in-Block t c = rw c.in-Block.is c.put_frame.ensures
+
+pub put_held-returns-in-Null : goal.put_held-returns-in-Null
+put_held-returns-in-Null t c = rw c.in-Null.is (sym (joined_nothing c.args.code.now))
+
+pub put_held-returns-in_ok-put_value-in-Case : goal.put_held-returns-in_ok-put_value-in-Case
+put_held-returns-in_ok-put_value-in-Case t c =
     let k = c.args.slot in
-    rw (← c.statement.view_is, c.in-Case.is)
-    (three_then c.put_alternatives.result c.args.code.now c.put_start-in-Case.new.code c.put_value.new.code c.put_alternatives.new.code (start_for c.args.context.now (label_of c.in-Case.label))
+    rw c.in-Case.is
+    (then_put c.put_alternatives.result c.args.code.now c.put_value.new.code c.put_alternatives.new.code
     (expr_for c.args.context.now k c.in-Case.expr) (alternatives_for c.args.context.now k c.args.taken (alternatives_of c.in-Case.alternatives.items))
-    c.in_ok-put_start-in-Case.ensures c.in_ok-put_value-in-Case.ensures (rw c.deref-in-Case.ensures.value at c.put_alternatives.ensures))
+    c.in_ok-put_value-in-Case.ensures (rw c.deref-in-Case.ensures.value at c.put_alternatives.ensures))
+
+pub put_held-put_loop-requires : goal.put_held-put_loop-requires
+put_held-put_loop-requires t c =
+    (omega (arith, c.decreases, ap (λ k. stmt_size (statement_at k)) c.in-Loop.is, ap (λ xs. stmts_size (statements_of xs)) c.deref-in-Loop.ensures.value), tt)
+
+pub put_held-put_while-requires : goal.put_held-put_while-requires
+put_held-put_while-requires t c =
+    (omega (arith, c.decreases, ap (λ k. stmt_size (statement_at k)) c.in-While.is, ap (λ xs. stmts_size (statements_of xs)) c.deref-in-While.ensures.value), tt)
+
+pub put_held-put_for-requires : goal.put_held-put_for-requires
+put_held-put_for-requires t c =
+    (omega (arith, c.decreases, ap (λ k. stmt_size (statement_at k)) c.in-For.is, ap (λ xs. stmts_size (statements_of xs)) c.deref-in-For.ensures.value), tt)
+
+pub put_held-put_alternatives-requires : goal.put_held-put_alternatives-requires
+put_held-put_alternatives-requires t c =
+    (omega (arith, c.decreases, ap (λ k. stmt_size (statement_at k)) c.in-Case.is, ap (λ xs. alternatives_size (alternatives_of xs)) c.deref-in-Case.ensures.value), tt)
