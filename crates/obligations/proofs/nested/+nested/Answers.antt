@@ -1,4 +1,5 @@
 use Rattle.std.proofs.Common.{[], refl, rules, sym, ap, ◌∙◌, arith}
+use Rattle.std.proofs.lemmas.Grind.{common_steps}
 use Rattle.ada_meaning.specs.Collected.{in_expr, in_parts, in_actuals}
 use Rattle.ada_tree.specs.declared.expr.Operand.{Operand}
 use Rattle.ada_tree.specs.Sizes.{expr_size, test_size}
@@ -180,3 +181,6 @@ add_in_selector-returns-in-Component t c = rw c.in-Component.is (nothing_added c
 
 pub add_in_actual-returns-in-Variable : goal.add_in_actual-returns-in-Variable
 add_in_actual-returns-in-Variable t c = rw c.in-Variable.is (nothing_added c.args.listing.now [] refl)
+
+pub add_tests-loop-test-preserved : goal.add_tests-loop-test-preserved
+add_tests-loop-test-preserved t c = grind (arith, common_steps)
