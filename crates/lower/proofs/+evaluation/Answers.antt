@@ -1,4 +1,5 @@
 use Rattle.std.proofs.Common.{◌+◌, refl, sym, ap, ◌∙◌, arith, drop}
+use Rattle.std.proofs.lemmas.Grind.{common_steps}
 use Rattle.ada_tree.proofs.Chains.{chain_size, operands_size, operand_within, expr_positive, tests_size, forms_size, test_positive, actual_size, actual_within, selector_size, selector_within}
 use Rattle.ada_tree.specs.declared.expr.Operand.{Operand}
 use Rattle.ada_tree.specs.Programs.{mode_of, bounds_of, target_of}
@@ -107,6 +108,10 @@ pub parts::put_located-put_selector-requires :
     goal.parts::put_located-put_selector-requires
 parts::put_located-put_selector-requires t c =
     (omega (arith, c.decreases, selector_within c.args.selectors.now c.loop-selector.selector-index c.selector-item.result (omega arith), ap selector_size c.selector-item.is), tt)
+
+pub parts::put_located-loop-selector-preserved :
+    goal.parts::put_located-loop-selector-preserved
+parts::put_located-loop-selector-preserved t c = grind (arith, common_steps)
 
 pub parts::put_located-returns :
     goal.parts::put_located-returns
@@ -233,3 +238,60 @@ value::put_value-returns-in_ok-put_call-in-Call t c =
     (then_put c.push_simple-in-Call.result c.args.code.now c.put_call.new.code c.push_simple-in-Call.new.self
     (call_for c.args.context.now c.args.to ((names_for c.args.context.now).target (callee_of c.in-Call.callee)) actuals) (one (op.Move c.args.to c.args.context.now.width))
     (rw (c.deref-in-Call.ensures.value, c.target.ensures) at c.in_ok-put_call-in-Call.ensures) c.push_simple-in-Call.ensures.ok)
+
+pub value::put_value-returns-then-not-has_parts : goal.value::put_value-returns-then-not-has_parts
+value::put_value-returns-then-not-has_parts t c = grind (arith, common_steps)
+
+pub parts::put_selector-returns-in_default-2-3 : goal.parts::put_selector-returns-in_default-2-3
+parts::put_selector-returns-in_default-2-3 t c = grind (arith, common_steps)
+
+pub parts::put_selector-returns-in_default-2 : goal.parts::put_selector-returns-in_default-2
+parts::put_selector-returns-in_default-2 t c = grind (arith, common_steps)
+
+pub parts::put_selector-returns-in_default : goal.parts::put_selector-returns-in_default
+parts::put_selector-returns-in_default t c = grind (arith, common_steps)
+
+pub nodes::put_operand_nodes-loop-operand-preserved : goal.nodes::put_operand_nodes-loop-operand-preserved
+nodes::put_operand_nodes-loop-operand-preserved t c = grind (arith, common_steps)
+
+pub value::put_value-returns-in-Relation : goal.value::put_value-returns-in-Relation
+value::put_value-returns-in-Relation t c = grind (arith, common_steps)
+
+pub parts::put_selector-returns-in_default-2-2 : goal.parts::put_selector-returns-in_default-2-2
+parts::put_selector-returns-in_default-2-2 t c = grind (arith, common_steps)
+
+pub value::put_value-returns-in-Decision : goal.value::put_value-returns-in-Decision
+value::put_value-returns-in-Decision t c = grind (arith, common_steps)
+
+pub value::put_value-returns-in-Read : goal.value::put_value-returns-in-Read
+value::put_value-returns-in-Read t c = grind (arith, common_steps)
+
+pub value::put_value-returns-in-Constant : goal.value::put_value-returns-in-Constant
+value::put_value-returns-in-Constant t c = grind (arith, common_steps)
+
+pub parts::put_selector-put_value-requires : goal.parts::put_selector-put_value-requires
+parts::put_selector-put_value-requires t c = grind (arith, common_steps)
+
+pub calls::put_actual-returns-then-not-has_parts : goal.calls::put_actual-returns-then-not-has_parts
+calls::put_actual-returns-then-not-has_parts t c = grind (arith, common_steps)
+
+pub value::put_value-put_located-requires : goal.value::put_value-put_located-requires
+value::put_value-put_located-requires t c = grind (arith, common_steps)
+
+pub nodes::put_operand_nodes-returns : goal.nodes::put_operand_nodes-returns
+nodes::put_operand_nodes-returns t c = grind (arith, common_steps)
+
+pub value::put_value-put_call-requires : goal.value::put_value-put_call-requires
+value::put_value-put_call-requires t c = grind (arith, common_steps)
+
+pub value::put_value-put_relation-requires : goal.value::put_value-put_relation-requires
+value::put_value-put_relation-requires t c = grind (arith, common_steps)
+
+pub nodes::put_nodes-returns-in-Negation : goal.nodes::put_nodes-returns-in-Negation
+nodes::put_nodes-returns-in-Negation t c = grind (arith, common_steps)
+
+pub value::put_value-returns-in-Literal : goal.value::put_value-returns-in-Literal
+value::put_value-returns-in-Literal t c = grind (arith, common_steps)
+
+pub calls::put_actual-returns-in-Composite : goal.calls::put_actual-returns-in-Composite
+calls::put_actual-returns-in-Composite t c = grind (arith, common_steps)

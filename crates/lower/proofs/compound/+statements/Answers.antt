@@ -1,4 +1,5 @@
 use Rattle.std.proofs.Common.{◌+◌, map, refl, sym, ap, ◌∙◌, arith}
+use Rattle.std.proofs.lemmas.Grind.{common_steps}
 use Rattle.ada_meaning.specs.Tree as tree
 use Rattle.ada_tree.proofs.Within.{statement_within}
 use Rattle.ada_tree.specs.Sizes.{alternatives_size, stmt_size, stmts_size}
@@ -195,3 +196,54 @@ put_held-put_for-requires t c =
 pub put_held-put_alternatives-requires : goal.put_held-put_alternatives-requires
 put_held-put_alternatives-requires t c =
     (omega (arith, c.decreases, ap (λ k. stmt_size (statement_at k)) c.in-Case.is, ap (λ xs. alternatives_size (alternatives_of xs)) c.deref-in-Case.ensures.value), tt)
+
+pub put_handlers-put_handlers-requires : goal.put_handlers-put_handlers-requires
+put_handlers-put_handlers-requires t c = grind (arith, common_steps)
+
+pub put_branches-put_all-requires : goal.put_branches-put_all-requires
+put_branches-put_all-requires t c = grind (arith, common_steps)
+
+pub put_frame-put_handlers-requires : goal.put_frame-put_handlers-requires
+put_frame-put_handlers-requires t c = grind (arith, common_steps)
+
+pub put_alternatives-put_alternatives-requires : goal.put_alternatives-put_alternatives-requires
+put_alternatives-put_alternatives-requires t c = grind (arith, common_steps)
+
+pub put_branches-returns : goal.put_branches-returns
+put_branches-returns t c = grind (arith, common_steps)
+
+pub put_handlers-put_all-requires : goal.put_handlers-put_all-requires
+put_handlers-put_all-requires t c = grind (arith, common_steps)
+
+pub put_frame-put_all-requires-2 : goal.put_frame-put_all-requires-2
+put_frame-put_all-requires-2 t c = grind (arith, common_steps)
+
+pub put_frame-put_all-requires : goal.put_frame-put_all-requires
+put_frame-put_all-requires t c = grind (arith, common_steps)
+
+pub put_while-returns : goal.put_while-returns
+put_while-returns t c = grind (arith, common_steps)
+
+pub put_branches-put_branches-requires : goal.put_branches-put_branches-requires
+put_branches-put_branches-requires t c = grind (arith, common_steps)
+
+pub put_alternatives-put_all-requires : goal.put_alternatives-put_all-requires
+put_alternatives-put_all-requires t c = grind (arith, common_steps)
+
+pub put_handlers-returns-in_default : goal.put_handlers-returns-in_default
+put_handlers-returns-in_default t c = grind (arith, common_steps)
+
+pub put_branches-returns-in_default : goal.put_branches-returns-in_default
+put_branches-returns-in_default t c = grind (arith, common_steps)
+
+pub put_loop-returns : goal.put_loop-returns
+put_loop-returns t c = grind (arith, common_steps)
+
+pub put_alternatives-returns-in_default : goal.put_alternatives-returns-in_default
+put_alternatives-returns-in_default t c = grind (arith, common_steps)
+
+pub put_branches-put_all-requires-2 : goal.put_branches-put_all-requires-2
+put_branches-put_all-requires-2 t c = grind (arith, common_steps)
+
+pub put_held-put_branches-requires : goal.put_held-put_branches-requires
+put_held-put_branches-requires t c = grind (arith, common_steps)
