@@ -1,4 +1,5 @@
 use Rattle.std.proofs.Common.{arith}
+use Rattle.std.proofs.lemmas.Grind.{common_steps}
 use Rattle.ada_meaning.specs.Arithmetic.{count_between}
 use Rattle.ada_resolved.specs.Forms.{shape_of}
 use Rattle.storage_layout.specs.Initial.{initial_words}
@@ -24,3 +25,6 @@ push_record-push_words-requires t c =
       ),
       tt,
     )
+
+pub push_record-loop-subtype-preserved : goal.push_record-loop-subtype-preserved
+push_record-loop-subtype-preserved t c = grind (arith, common_steps)
