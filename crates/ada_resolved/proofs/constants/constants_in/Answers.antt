@@ -1,4 +1,5 @@
 use Rattle.std.proofs.Common.{◌∙◌, arith}
+use Rattle.std.proofs.lemmas.Grind.{common_steps}
 use Rattle.ada_meaning.specs.Statics.{values_of}
 use Rattle.ada_tree.specs.Programs.{program_of}
 use Rattle.ada_resolved.proofs.Instances.{one_more}
@@ -10,3 +11,9 @@ loop-constant-preserved c =
     c.loop-constant.values.items c.as_slice.result.now c.push.new.self.items c.next_constant-value.result
     (omega arith) c.if-constant-generic.false c.as_slice.ensures.value c.next_constant-value.ensures c.in_ok-push.ensures.items
     ∙ c.loop-constant.invariant
+
+pub loop-constant-preserved-then-constant-generic : goal.loop-constant-preserved-then-constant-generic
+loop-constant-preserved-then-constant-generic c = grind (arith, common_steps)
+
+pub returns : goal.returns
+returns c = grind (arith, common_steps)

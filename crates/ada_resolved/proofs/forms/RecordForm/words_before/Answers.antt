@@ -1,4 +1,5 @@
 use Rattle.std.proofs.Common.{◌+◌, ◌≤◌, ap, ◌∙◌, arith, drop}
+use Rattle.std.proofs.lemmas.Grind.{common_steps}
 use Rattle.ada_resolved.specs.Forms.{shape_of, shapes_of}
 use Rattle.ada_resolved.specs.Sizes.{all_words, word_limit, words}
 use Rattle.ada_resolved.proofs.TypeForms.{next_within, within_limit}
@@ -24,3 +25,6 @@ returns-clause-small c =
     c.first_of-component-items.result.now (drop c.loop-component.component-index c.first_of-component-items.result.now) c.first_of-component-items.ensures
     c.args.self.now.small c.loop-component.invariant in
     omega (arith, small)
+
+pub loop-component-preserved : goal.loop-component-preserved
+loop-component-preserved c = grind (arith, common_steps)
