@@ -1,4 +1,5 @@
 use Rattle.std.proofs.Common.{ap, arith}
+use Rattle.std.proofs.lemmas.Grind.{common_steps}
 use Rattle.ada_tree.specs.Sizes.{stmt_size, stmts_size}
 use Rattle.ada_tree.specs.View.{statements_of}
 use Rattle.ada_tree.proofs.Within.{statement_within, branch_within, other_within, alternative_within, handler_within}
@@ -47,3 +48,27 @@ objects_of_handlers-objects_of_statements-requires t c = (
   ),
   tt,
 )
+
+pub objects_of_block-returns : goal.objects_of_block-returns
+objects_of_block-returns t c = grind (arith, common_steps)
+
+pub objects_of_branches-returns : goal.objects_of_branches-returns
+objects_of_branches-returns t c = grind (arith, common_steps)
+
+pub objects_of_branches-loop-branch-preserved : goal.objects_of_branches-loop-branch-preserved
+objects_of_branches-loop-branch-preserved t c = grind (arith, common_steps)
+
+pub objects_of_alternatives-loop-alternative-preserved : goal.objects_of_alternatives-loop-alternative-preserved
+objects_of_alternatives-loop-alternative-preserved t c = grind (arith, common_steps)
+
+pub objects_of_alternatives-returns : goal.objects_of_alternatives-returns
+objects_of_alternatives-returns t c = grind (arith, common_steps)
+
+pub objects_of_handlers-loop-handler-preserved : goal.objects_of_handlers-loop-handler-preserved
+objects_of_handlers-loop-handler-preserved t c = grind (arith, common_steps)
+
+pub objects_of_handlers-returns : goal.objects_of_handlers-returns
+objects_of_handlers-returns t c = grind (arith, common_steps)
+
+pub objects_of_statements-loop-statement-preserved : goal.objects_of_statements-loop-statement-preserved
+objects_of_statements-loop-statement-preserved t c = grind (arith, common_steps)

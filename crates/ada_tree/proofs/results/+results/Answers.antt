@@ -1,4 +1,5 @@
 use Rattle.std.proofs.Common.{ap, arith}
+use Rattle.std.proofs.lemmas.Grind.{common_steps}
 use Rattle.ada_tree.specs.Sizes.{stmt_size, stmts_size}
 use Rattle.ada_tree.specs.View.{statements_of}
 use Rattle.ada_tree.proofs.Within.{statement_within, branch_within, other_within, alternative_within, handler_within}
@@ -47,3 +48,36 @@ result_in_handlers-result_in_statements-requires t c = (
   ),
   tt,
 )
+
+pub result_in_alternatives-returns-then-result_in_statements : goal.result_in_alternatives-returns-then-result_in_statements
+result_in_alternatives-returns-then-result_in_statements t c = grind (arith, common_steps)
+
+pub result_in_alternatives-loop-alternative-preserved : goal.result_in_alternatives-loop-alternative-preserved
+result_in_alternatives-loop-alternative-preserved t c = grind (arith, common_steps)
+
+pub result_in_alternatives-returns : goal.result_in_alternatives-returns
+result_in_alternatives-returns t c = grind (arith, common_steps)
+
+pub result_in_handlers-returns-then-result_in_statements : goal.result_in_handlers-returns-then-result_in_statements
+result_in_handlers-returns-then-result_in_statements t c = grind (arith, common_steps)
+
+pub result_in_handlers-loop-handler-preserved : goal.result_in_handlers-loop-handler-preserved
+result_in_handlers-loop-handler-preserved t c = grind (arith, common_steps)
+
+pub result_in_handlers-returns : goal.result_in_handlers-returns
+result_in_handlers-returns t c = grind (arith, common_steps)
+
+pub result_in_branches-returns-then-result_in_statements : goal.result_in_branches-returns-then-result_in_statements
+result_in_branches-returns-then-result_in_statements t c = grind (arith, common_steps)
+
+pub result_in_branches-loop-branch-preserved : goal.result_in_branches-loop-branch-preserved
+result_in_branches-loop-branch-preserved t c = grind (arith, common_steps)
+
+pub result_in_branches-returns : goal.result_in_branches-returns
+result_in_branches-returns t c = grind (arith, common_steps)
+
+pub result_in_statements-loop-statement-preserved : goal.result_in_statements-loop-statement-preserved
+result_in_statements-loop-statement-preserved t c = grind (arith, common_steps)
+
+pub result_in_statements-returns-then-result_in_statement : goal.result_in_statements-returns-then-result_in_statement
+result_in_statements-returns-then-result_in_statement t c = grind (arith, common_steps)
