@@ -1,6 +1,7 @@
 use Rattle.std.proofs.Common.{ap, arith, sum_by}
 use Rattle.std.proofs.lemmas.List.{at_drop_all}
 use Rattle.std.proofs.lemmas.List.Sums.{get_or-le-sum_by}
+use Rattle.std.proofs.lemmas.Grind.{common_steps}
 use Rattle.ada_syntax.specs.Nodes as count
 use Rattle.ada_syntax.specs.Tree.{expr_size, name_size, simple}
 use Rattle.ada_syntax.specs.TreeView.{expr_at}
@@ -63,3 +64,15 @@ nodes_of_expr-nodes_of_joined-requires t c =
 pub nodes_of_name-nodes_of_suffixes-requires : goal.nodes_of_name-nodes_of_suffixes-requires
 nodes_of_name-nodes_of_suffixes-requires t c =
     (omega (arith, c.decreases, name_size-with_suffixes (simple c.name.inside.prefix) c.name.inside.suffixes.items, ap name_size c.name.view_is, ap (λ xs. sum_by suffix_size xs) c.deref.ensures.value), tt)
+
+pub nodes_of_joined-loop-expr-preserved : goal.nodes_of_joined-loop-expr-preserved
+nodes_of_joined-loop-expr-preserved t c = grind (arith, common_steps)
+
+pub nodes_of_operands-loop-operand-preserved : goal.nodes_of_operands-loop-operand-preserved
+nodes_of_operands-loop-operand-preserved t c = grind (arith, common_steps)
+
+pub nodes_of_suffixes-loop-suffix-preserved : goal.nodes_of_suffixes-loop-suffix-preserved
+nodes_of_suffixes-loop-suffix-preserved t c = grind (arith, common_steps)
+
+pub nodes_of_exprs-loop-expr-preserved : goal.nodes_of_exprs-loop-expr-preserved
+nodes_of_exprs-loop-expr-preserved t c = grind (arith, common_steps)

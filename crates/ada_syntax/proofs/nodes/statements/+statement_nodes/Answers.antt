@@ -1,5 +1,6 @@
 use Rattle.std.proofs.Common.{◌≡◌, ◌+◌, ◌≤◌, List, [], ◌∷◌, length, ap, arith}
 use Rattle.std.proofs.lemmas.List.{at_drop_all}
+use Rattle.std.proofs.lemmas.Grind.{common_steps}
 use Rattle.ada_syntax.specs.Nodes as count
 use Rattle.ada_syntax.specs.StatementTree.{Statement, statement_size, statements_size}
 use Rattle.ada_syntax.specs.declared.statement.Handler.{Handler}
@@ -52,3 +53,15 @@ nodes_of_else-returns-in_default t c = omega (arith, else_part c.args.statements
 
 pub nodes_of_exception_part-returns-in_default : goal.nodes_of_exception_part-returns-in_default
 nodes_of_exception_part-returns-in_default t c = omega (arith, exception_part c.args.handlers.now (omega arith))
+
+pub nodes_of_statements-loop-statement-preserved : goal.nodes_of_statements-loop-statement-preserved
+nodes_of_statements-loop-statement-preserved t c = grind (arith, common_steps)
+
+pub nodes_of_branches-loop-branch-preserved : goal.nodes_of_branches-loop-branch-preserved
+nodes_of_branches-loop-branch-preserved t c = grind (arith, common_steps)
+
+pub nodes_of_handlers-loop-handler-preserved : goal.nodes_of_handlers-loop-handler-preserved
+nodes_of_handlers-loop-handler-preserved t c = grind (arith, common_steps)
+
+pub nodes_of_alternatives-loop-alternative-preserved : goal.nodes_of_alternatives-loop-alternative-preserved
+nodes_of_alternatives-loop-alternative-preserved t c = grind (arith, common_steps)
