@@ -6,6 +6,7 @@ use Rattle.ada_syntax.specs.Nodes as count
 use Rattle.ada_syntax.specs.Tree.{expr_size, name_size, simple}
 use Rattle.ada_syntax.specs.TreeView.{expr_at}
 use Rattle.ada_syntax.proofs.SizeLaws.{expr_size_positive, operand_size, suffix_size, expr_size-with_operands, expr_size-joined, name_size-with_suffixes}
+use Rattle.ada_syntax.proofs.NodeLaws.{nodes}
 use Rattle.ada_syntax.proofs.nodes.expressions.+expr_nodes.Goals as goal
 
 pub nodes_of_operands-nodes_of_expr-requires : goal.nodes_of_operands-nodes_of_expr-requires
@@ -76,3 +77,15 @@ nodes_of_suffixes-loop-suffix-preserved t c = grind (arith, common_steps)
 
 pub nodes_of_exprs-loop-expr-preserved : goal.nodes_of_exprs-loop-expr-preserved
 nodes_of_exprs-loop-expr-preserved t c = grind (arith, common_steps)
+
+pub nodes_of_expr-returns-in-Logical : goal.nodes_of_expr-returns-in-Logical
+nodes_of_expr-returns-in-Logical t c = grind (arith, common_steps, nodes)
+
+pub nodes_of_expr-returns-in-Sum : goal.nodes_of_expr-returns-in-Sum
+nodes_of_expr-returns-in-Sum t c = grind (arith, common_steps, nodes)
+
+pub nodes_of_expr-returns-in-Product : goal.nodes_of_expr-returns-in-Product
+nodes_of_expr-returns-in-Product t c = grind (arith, common_steps, nodes)
+
+pub nodes_of_name-returns : goal.nodes_of_name-returns
+nodes_of_name-returns t c = grind (arith, common_steps, nodes)
