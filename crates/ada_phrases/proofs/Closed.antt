@@ -1,5 +1,5 @@
 -- A decision is no object.
-use Rattle.std.proofs.Common.{◌≡◌, Bool, true, false, List, [], ◌∷◌, Option, Some, None, option_map, is_some, if◌then◌else◌, Result, Ok, Err, refl, sym, ap, ◌∙◌, subst}
+use Rattle.std.proofs.Common.{◌≡◌, Bool, true, false, List, [], ◌∷◌, Option, Some, None, option_map, is_some, if◌then◌else◌, Result, Ok, Err, refl, sym, subst}
 use Rattle.std.proofs.lemmas.Bool.{false≢true}
 use Rattle.cov_base.specs.declared.position.Pos.{Pos}
 use Rattle.ada_meaning.specs.Tree as tree
@@ -8,15 +8,15 @@ use Rattle.ada_syntax.specs.TreeView.{is_filled}
 use Rattle.ada_syntax.specs.declared.expr.LogicalOperator.{LogicalOperator}
 use Rattle.ada_syntax.specs.declared.expr.UnaryOperator.{UnaryOperator}
 use Rattle.ada_syntax.specs.declared.expr.UnaryOperator.TheVariants as sign
-use Rattle.ada_rules.specs.Plan.{◌>>=◌, rule, outcome_after, answer_at}
+use Rattle.ada_rules.specs.Plan.{rule, outcome_after, answer_at}
 use Rattle.ada_rules.specs.Environment.{Step, naming, typing, typed_rule, State, Given, given, Env}
 use Rattle.ada_rules.specs.Types.{is_boolean}
 use Rattle.ada_rules.specs.Entities.{Variable}
 use Rattle.ada_rules.specs.Denoted as rules
 use Rattle.ada_rules.specs.Denoted.{any_judged, enclosed, complement_of, circuit_of, neutral_of, unary_of}
-use Rattle.ada_rules.specs.Expressions.{Role, itself, operand, opens, entered, closed, is_circuit, is_circuit_under, typed_as, judged, role_under}
+use Rattle.ada_rules.specs.Expressions.{Role, itself, operand, opens, entered, closed, is_circuit, is_circuit_under, typed_as, judged}
 use Rattle.ada_phrases.specs.Answers.{along}
-use Rattle.ada_phrases.specs.Closing.{label_if, closing, closing_in, IsClosable}
+use Rattle.ada_phrases.specs.Closing.{label_if, IsClosable}
 use Rattle.ada_phrases.specs.Steps.{joined_in, finished}
 use Rattle.ada_phrases.proofs.Walks.{closed_behind, joined_along}
 

@@ -1,5 +1,5 @@
 -- Attributes, calls and actuals: the checker finds what the rules say.
-use Rattle.std.proofs.Common.{◌≡◌, ℕ, ◌+◌, ◌≤◌, nat_eq, Bool, true, false, not, List, [], ◌∷◌, ◌++◌, length, map, drop, get_or, reverse, Option, Some, None, option_map, if◌then◌else◌, IsTrue, sum_by, Box, Global, refl, sym, ap, ◌∙◌, subst, arith}
+use Rattle.std.proofs.Common.{◌≡◌, ℕ, ◌+◌, ◌≤◌, nat_eq, Bool, true, false, List, [], ◌∷◌, ◌++◌, length, map, reverse, Option, Some, None, option_map, if◌then◌else◌, IsTrue, sum_by, Box, Global, refl, sym, ap, ◌∙◌, arith}
 use Rattle.std.specs.Option.{option_and_then}
 use Rattle.std.proofs.lemmas.Bool.{false≢true}
 use Rattle.std.proofs.lemmas.List.{reverse-append}
@@ -7,7 +7,6 @@ use Rattle.std.proofs.lemmas.List.Sums.{sum_by-cons}
 use Rattle.cov_base.specs.declared.position.Pos.{Pos}
 use Rattle.ada_meaning.specs.Tree as tree
 use Rattle.ada_meaning.specs.Types.{Owner, here, of_instance, Range}
-use Rattle.ada_syntax.specs.Tree as source
 use Rattle.ada_syntax.specs.TreeView.{expr_at, has_operators}
 use Rattle.ada_syntax.specs.declared.expr.Expr.{Expr}
 use Rattle.ada_syntax.specs.declared.expr.ExprKind.{ExprKind}
@@ -17,8 +16,8 @@ use Rattle.ada_syntax.specs.declared.expr.UnaryOperator.{UnaryOperator}
 use Rattle.ada_tree.specs.declared.expr.Actual.{Actual}
 use Rattle.ada_tree.specs.View.{with_actual, actuals_of, with_tests, is_filled}
 use Rattle.ada_tree.proofs.Chains.{tests_size}
-use Rattle.ada_rules.specs.Types.{Identity, AdaType, integer_type, enumeration, formal_type, array_type, record_type, AdaSubtype, type_in, range_in, kind_of}
-use Rattle.ada_rules.specs.Statics.{Spans, within}
+use Rattle.ada_rules.specs.Types.{Identity, AdaType, integer_type, enumeration, formal_type, array_type, record_type, AdaSubtype, type_in, kind_of}
+use Rattle.ada_rules.specs.Statics.{Spans}
 use Rattle.ada_rules.specs.Entities.{Parameter, Routine, Variable, parameter_seen}
 use Rattle.ada_rules.specs.Denoted as rules
 use Rattle.ada_rules.specs.Expressions.{is_circuit}
@@ -35,7 +34,7 @@ use Rattle.ada_phrases.specs.Applied.{only, where_single}
 use Rattle.ada_phrases.specs.declared.names.Denoted.{Denoted}
 use Rattle.ada_phrases.specs.declared.names.Denoted.TheVariants as denoted
 use Rattle.ada_phrases.specs.DenotedView.{denotes}
-use Rattle.ada_phrases.specs.Routines.{parameter_by, result_in}
+use Rattle.ada_phrases.specs.Routines.{parameter_by}
 use Rattle.ada_phrases.proofs.Walks.{operations_circuit}
 
 -- a type by its kind

@@ -1,5 +1,5 @@
 -- One construct: it passes with its parts, or is refused with one of them.
-use Rattle.std.proofs.Common.{◌≡◌, Bool, List, Option, Some, option_map, is_some, Result, Ok, Err, refl, sym, ap, ◌∙◌, subst}
+use Rattle.std.proofs.Common.{◌≡◌, List, Option, Some, option_map, is_some, Result, Ok, sym, ap, ◌∙◌, subst}
 use Rattle.cov_base.specs.declared.position.Pos.{Pos}
 use Rattle.cov_base.specs.declared.failure.Failure.{Failure}
 use Rattle.ada_meaning.specs.Tree as tree
@@ -18,7 +18,7 @@ use Rattle.ada_rules.specs.Expressions.{Role, itself, operand, opens, entered, c
 use Rattle.ada_entities.specs.declared.fault.Refusal.{Refusal}
 use Rattle.ada_entities.specs.Answers.{Refuses, refused_at, no_memory}
 use Rattle.ada_phrases.specs.Answers.{along}
-use Rattle.ada_phrases.specs.Closing.{label_if, closing, closing_in}
+use Rattle.ada_phrases.specs.Closing.{label_if, closing}
 use Rattle.ada_phrases.specs.Steps.{operand_in, joined_in, applied_in, finished}
 use Rattle.ada_phrases.proofs.Parts.{in_part, refused_as}
 use Rattle.ada_phrases.proofs.Walks.{closed_is, closed_behind, filled_along}

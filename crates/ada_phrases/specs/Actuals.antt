@@ -1,6 +1,6 @@
 -- Actual parameters, as the checker finds them. Each is a step of the list that they are: the actual, and those
 -- behind it.
-use Rattle.std.specs.Prelude.{◌≡◌, ℕ, List, [], ◌∷◌, ◌&&◌, map, reverse, Option, Some, None, option_map, if◌then◌else◌}
+use Rattle.std.specs.Prelude.{◌≡◌, List, [], ◌∷◌, map, reverse, Option, Some, None, option_map, if◌then◌else◌}
 use Rattle.std.specs.Option.{option_and_then}
 use Rattle.std.specs.declared.alloc.Global.{Global}
 use Rattle.std.specs.declared.vec.Vec.{Vec}
@@ -10,17 +10,19 @@ use Rattle.ada_tree.specs.declared.expr.Actual.{Actual}
 use Rattle.ada_tree.specs.declared.program.Mode.{Mode}
 use Rattle.ada_tree.specs.View.{with_actual, actuals_of}
 use Rattle.ada_tree.specs.Programs.{mode_of}
+use Rattle.ada_rules.specs.Types.{is_scalar}
 use Rattle.ada_rules.specs.Entities as entities
 use Rattle.ada_rules.specs.Denoted as rules
 use Rattle.ada_entities.specs.declared.routines.Parameter.{Parameter}
+use Rattle.ada_entities.specs.declared.types.AdaType.{AdaType}
 use Rattle.ada_entities.specs.declared.types.Subtype.{Subtype}
-use Rattle.ada_entities.specs.Views.{TypeTables, subtype_of}
+use Rattle.ada_entities.specs.Views.{TypeTables, type_of, subtype_of}
 use Rattle.ada_entities.specs.EntityViews.{Tables}
 use Rattle.ada_entities.specs.RoutineViews.{parameter_of}
 use Rattle.ada_judged.specs.declared.judged.Form.{Form}
 use Rattle.ada_judged.specs.declared.judged.Judged.{Judged}
 use Rattle.ada_judged.specs.declared.judged.Variable.{Variable}
-use Rattle.ada_judged.specs.JudgedView.{variable_of, variable_in, judged_of}
+use Rattle.ada_judged.specs.JudgedView.{variable_of, variable_in, form_of, judged_of}
 use Rattle.ada_phrases.specs.Routines.{parameter_by}
 
 -- an actual with those behind it, where there is one
@@ -56,6 +58,12 @@ abbrev pub IsComposite : Form → Option Actual → Type 0
 IsComposite f o =
     (k : Tables) (rest : tree.Actuals) → in_front o rest
     ≡ option_map (λ v. tree.by_composite v.object v.parts rest) (variable_in k f)
+
+abbrev pub IsRead : AdaType → Form → Option Actual → Type 0
+IsRead of f o =
+    (k : Tables) (rest : tree.Actuals) → in_front o rest
+    ≡ (if is_scalar (type_of k.types of) then Some (tree.by_expression (rules.expr_of_form (form_of f)) rest)
+    else option_map (λ v. tree.by_composite v.object v.parts rest) (variable_in k f))
 
 abbrev pub IsByValue : Subtype → Judged → Option Actual → Type 0
 IsByValue t x o =

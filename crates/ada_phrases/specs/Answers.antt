@@ -1,8 +1,9 @@
 -- What the walk answers: what the rules give, as the checker keeps it.
-use Rattle.std.specs.Prelude.{◌≡◌, ℕ, List, [], ◌∷◌, ◌++◌, reverse, Option, Some, None, Result, Ok, Err}
+use Rattle.std.specs.Prelude.{◌≡◌, List, [], ◌∷◌, ◌++◌, reverse, Option, Result, Ok, Err}
 use Rattle.std.specs.Option.{ok_or}
 use Rattle.cov_base.specs.declared.position.Pos.{Pos}
 use Rattle.cov_base.specs.declared.failure.Failure.{Failure}
+use Rattle.cov_base.specs.declared.failure.Failure.TheVariants.{WantOfMemory}
 use Rattle.ada_rules.specs.Plan.{Plan, outcome_after, answer_at}
 use Rattle.ada_rules.specs.Environment.{State, Given, given, Env}
 use Rattle.ada_entities.specs.declared.fault.Refusal.{Refusal}
@@ -30,6 +31,11 @@ ComesTo view scope old new answer result =
 abbrev pub typed_answer : {A : Type 0} → Step → Pos → A → Option A → Result A (Failure Refusal)
 typed_answer step.Naming p anything o = Ok anything
 typed_answer step.Typing p anything o = ok_or o (refusal p)
+
+-- the same of a rule that takes memory
+abbrev pub IsTypedFound : {A E : Type 0} → Step → Pos → A → Result (Option A) E → Result A (Failure Refusal) → Type 0
+IsTypedFound own p x (Ok o) r = r ≡ typed_answer own p x o
+IsTypedFound own p x (Err e) r = r ≡ Err WantOfMemory
 
 -- constructs that grow to the right, each round the one before it
 abbrev pub along : {A X : Type 0} → Pos → (A → X → Plan A) → Result A Pos → List X → Result A Pos

@@ -1,12 +1,10 @@
 -- Names with expressions behind them, and names as expressions, as the checker finds them.
-use Rattle.std.specs.Prelude.{◌≡◌, ℕ, List, [], ◌∷◌, map, Option, Some, None, option_map}
+use Rattle.std.specs.Prelude.{◌≡◌, List, [], ◌∷◌, map, Option, Some, None, option_map}
 use Rattle.std.specs.Option.{option_and_then}
 use Rattle.cov_base.specs.declared.position.Pos.{Pos}
-use Rattle.ada_meaning.specs.Tree as tree
 use Rattle.ada_tree.specs.declared.expr.Actual.{Actual}
 use Rattle.ada_tree.specs.View.{actuals_of}
 use Rattle.ada_rules.specs.Types.{type_in}
-use Rattle.ada_rules.specs.Entities as entities
 use Rattle.ada_rules.specs.Environment.{Env}
 use Rattle.ada_rules.specs.Denoted as rules
 use Rattle.ada_entities.specs.declared.entity.RoutineName.{RoutineName}

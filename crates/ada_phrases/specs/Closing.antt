@@ -1,5 +1,5 @@
 -- Decisions by themselves: where an expression opens one, its number is taken first, and its label is set last.
-use Rattle.std.specs.Prelude.{◌≡◌, Bool, Option, Some, None, option_map, if◌then◌else◌}
+use Rattle.std.specs.Prelude.{◌≡◌, Bool, Option, Some, None, if◌then◌else◌}
 use Rattle.cov_base.specs.declared.position.Pos.{Pos}
 use Rattle.ada_meaning.specs.Tree as tree
 use Rattle.ada_tree.specs.View.{label_of}
@@ -38,6 +38,11 @@ closing_in typing l p g = closing l p g
 abbrev pub IsClosable : Option tree.Label → rules.Judged → Type 0
 IsClosable None x = Unit
 IsClosable (Some l) x = x.variable ≡ None
+
+-- the expression of a decision with this test, which was measured, from these decisions to those
+abbrev pub IsDecisionOf : (old new : Decisions) → Label → Pos → tree.Test → tree.Expr → Type 0
+IsDecisionOf old new l p t e =
+    (e ≡ tree.decision (label_of l) t) × ((s : State) → counted new s ≡ measured p t (counted old s))
 
 -- an expression that was closed, from these decisions to those
 abbrev pub IsClosed : (old new : Decisions) → (own closed : Judged) → (Given rules.Judged → Given rules.Judged)

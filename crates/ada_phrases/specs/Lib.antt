@@ -8,3 +8,4 @@ pub mod Actuals
 pub mod Applied
 pub mod Steps
 pub mod DecisionView
+pub mod Pairs

@@ -1,5 +1,5 @@
 -- Subprograms as they are seen.
-use Rattle.std.specs.Prelude.{◌≡◌, ℕ, List, Option, Some, None, option_map}
+use Rattle.std.specs.Prelude.{◌≡◌, Option, option_map}
 use Rattle.std.specs.Borrow.{Bor}
 use Rattle.ada_meaning.specs.Tree.{Callee}
 use Rattle.ada_meaning.specs.Types.{Owner, here, of_instance}

@@ -1,6 +1,5 @@
 -- Where the checker stands: what the rules look at a construct in.
 use Rattle.std.specs.Prelude.{◌≡◌, ℕ, List, Option, Some, None, option_map}
-use Rattle.ada_rules.specs.Types.{AdaSubtype}
 use Rattle.ada_rules.specs.Entities as entities
 use Rattle.ada_rules.specs.Entities.{Actual, test_io_region}
 use Rattle.ada_rules.specs.Environment as rules

@@ -1,15 +1,16 @@
 //! Actual parameters (Ada RM 2012, 6.4, 6.4.1).
 
-ghost use Rattle.std.specs.Prelude.{◌≡◌, IfOk};
+ghost use Rattle.std.specs.Prelude.{◌≡◌, IfOk, option_map};
 ghost use Rattle.ada_meaning.specs.Tree as tree;
 ghost use Rattle.ada_tree.specs.View.{owner_of, with_actual};
 ghost use Rattle.ada_rules.specs.Denoted as rules;
 ghost use Rattle.ada_entities.specs.Views.{type_of};
 ghost use Rattle.ada_entities.specs.TypeTable.{tables};
 ghost use Rattle.ada_entities.specs.EntityViews.{Tables, is_variable};
-ghost use Rattle.ada_judged.specs.JudgedView.{variable_of};
-ghost use Rattle.ada_phrases.specs.Actuals.{IsByName, IsComposite, IsByValue, IsByObject, IsPassedByName, IsPassed, IsNext, AreActuals};
+ghost use Rattle.ada_judged.specs.JudgedView.{variable_of, variable_in, is_name};
+ghost use Rattle.ada_phrases.specs.Actuals.{IsByName, IsComposite, IsRead, IsByValue, IsByObject, IsPassedByName, IsPassed, IsNext, AreActuals};
 
+use crate::handing::provided;
 use crate::routines::subtype_by;
 use ada_entities::{Access, AdaType, Parameter, Subtype, Types};
 use ada_judged::{Form, Judged, Spelling, Variable};
@@ -45,13 +46,37 @@ fn by_name(subtype: Subtype, variable: Variable) -> Option<Actual>
     }
 }
 
+/// The object or the part of one that an expression is.
+fn object_of(form: Form) -> Option<Variable>
+    ensures { (k : Tables) → option_map (variable_of k) result ≡ variable_in k form }
+{
+    match form {
+        Form::Object(variable) => Some(variable),
+        other => {
+            drop(other);
+            None
+        }
+    }
+}
+
 /// An object as a whole, where an expression is one.
 fn composite(form: Form) -> Option<Actual>
     ensures { IsComposite form result }
 {
-    match form {
-        Form::Object(variable) => Some(Actual::Composite(variable.object, variable.parts)),
-        Form::Plain(_) | Form::Test(_) => None,
+    match object_of(form) {
+        Some(variable) => Some(Actual::Composite(variable.object, variable.parts)),
+        None => None,
+    }
+}
+
+/// An expression of a parameter's type, which is read: an object as a whole, where the type is composite.
+fn read(of: AdaType, form: Form) -> Option<Actual>
+    ensures { IsRead of form result }
+{
+    if of.is_scalar() {
+        Some(Actual::Expression(form.into_expr()))
+    } else {
+        composite(form)
     }
 }
 
@@ -59,13 +84,8 @@ fn composite(form: Form) -> Option<Actual>
 fn by_value(subtype: Subtype, value: Judged) -> Option<Actual>
     ensures { IsByValue subtype value result }
 {
-    if !value.kind.fits(subtype.of) {
-        return None;
-    }
-    if subtype.of.is_scalar() {
-        return Some(Actual::Expression(value.form.into_expr()));
-    }
-    composite(value.form)
+    let fits = value.kind.fits(subtype.of);
+    provided(fits, read(subtype.of, value.form))
 }
 
 /// An expression for a parameter of this subtype, which may be written: the name of an object
@@ -73,20 +93,24 @@ fn by_value(subtype: Subtype, value: Judged) -> Option<Actual>
 fn by_object(subtype: Subtype, form: Form) -> Option<Actual>
     ensures { IsByObject subtype form result }
 {
-    match form {
-        Form::Object(variable) => by_name(subtype, variable),
-        Form::Plain(_) | Form::Test(_) => None,
+    match object_of(form) {
+        Some(variable) => by_name(subtype, variable),
+        None => None,
     }
+}
+
+/// Whether an expression is just a name.
+fn is_name(spelling: Spelling) -> bool
+    ensures { result ≡ is_name spelling }
+{
+    matches!(spelling, Spelling::Name)
 }
 
 /// The same of an expression that has to be a name.
 fn passed_by_name(subtype: Subtype, value: Judged) -> Option<Actual>
     ensures { IsPassedByName subtype value result }
 {
-    match value.spelling {
-        Spelling::Name => by_object(subtype, value.form),
-        Spelling::Other => None,
-    }
+    provided(is_name(value.spelling), by_object(subtype, value.form))
 }
 
 /// An expression for a parameter of this subtype, as its mode wants it (RM 6.4.1).

@@ -11,6 +11,7 @@ ghost use Rattle.ada_phrases.specs.DenotedView.{denotes};
 ghost use Rattle.ada_phrases.specs.Applied.{only, where_single, IsCalled, IsElementOf, IsApplied, IsCallValue, IsBareCall, IsValueOf};
 
 use crate::actuals::actuals;
+use crate::handing::provided;
 use crate::names::{Denoted, as_value, as_variable};
 use crate::routines::{callee_by, parameters_of, result_of};
 use crate::scope::Scope;
@@ -25,8 +26,8 @@ fn single(values: Vec<Judged>) -> Option<Judged>
     ensures { (k : Tables) → option_map (judged_of k) result ≡ only (map (judged_of k) values.items) }
 {
     let mut values = values;
-    let last = values.pop()?;
-    if values.is_empty() { Some(last) } else { None }
+    let last = values.pop();
+    provided(values.is_empty(), last)
 }
 
 /// A call of a subprogram with these actuals (RM 6.4).
@@ -89,7 +90,10 @@ impl Denoted {
             Denoted::Routine(routine) => called(alloc, scope, routine, values),
             Denoted::Mark(_, subtype) => converted(alloc, subtype, single(values)),
             Denoted::Variable(variable) => element(scope.types, variable, single(values)),
-            _ => Ok(None),
+            other => {
+                drop((other, values));
+                Ok(None)
+            }
         }
     }
 }

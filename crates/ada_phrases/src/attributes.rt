@@ -137,7 +137,10 @@ impl Denoted {
                 let parts = types.array_of(variable.subtype.of);
                 object_attribute(variable, attribute_of_array(name, parts))
             }
-            _ => None,
+            other => {
+                drop(other);
+                None
+            }
         }
     }
 }

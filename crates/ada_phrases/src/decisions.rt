@@ -4,12 +4,15 @@ ghost use Rattle.std.specs.Prelude.{◌≡◌, [], not, nat_le, sum_by, option_m
 ghost use Rattle.ada_meaning.specs.Tree as tree;
 ghost use Rattle.ada_tree.specs.Objects.{capped};
 ghost use Rattle.ada_tree.specs.View.{label_of};
+ghost use Rattle.ada_rules.specs.Denoted.{test_of};
+ghost use Rattle.ada_judged.specs.JudgedView.{form_of};
 ghost use Rattle.ada_rules.specs.Environment.{State, decision_label, decided};
 ghost use Rattle.ada_rules.specs.Expressions.{entered, measured, most_conditions};
 ghost use Rattle.ada_phrases.specs.Scopes.{step_of};
-ghost use Rattle.ada_phrases.specs.Closing.{label_if, closing, closing_in, IsClosed};
+ghost use Rattle.ada_phrases.specs.Closing.{label_if, closing, closing_in, IsDecisionOf, IsClosed};
 ghost use Rattle.ada_phrases.specs.Answers.{counted};
 
+use crate::handing::paired;
 use crate::scope::Step;
 use ada_judged::{Form, Judged};
 use ada_tree::{Expr, Label, Test, TestKind};
@@ -108,6 +111,23 @@ impl Decisions {
     }
 }
 
+/// A decision that begins at `pos`, with its label: its test is that of this form, which begins at `at`.
+fn decision_of(
+    alloc: Global,
+    decisions: &mut Decisions,
+    label: Label,
+    pos: Pos,
+    at: Pos,
+    form: Form,
+) -> Result<Expr, AllocError>
+    ensures { IfOk result (IsDecisionOf decisions.old decisions.new label pos (test_of at (form_of form))) }
+{
+    let test = form.into_test(alloc, at)?;
+    let measured = decisions.measure(pos, &test);
+    let (test, ()) = paired(test, measured)?;
+    Expr::decision(alloc, label, test)
+}
+
 /// An expression that begins at this place, with the label of the decision that it is, if it is one. No
 /// decision is an object.
 pub fn closed(
@@ -123,14 +143,13 @@ pub fn closed(
     let Some(label) = label else {
         return Ok(value);
     };
-    let test = value.form.into_test(alloc, value.at)?;
-    decisions.measure(pos, &test)?;
-    let expr = Expr::decision(alloc, label, test)?;
+    let expr = decision_of(alloc, decisions, label, pos, value.at, value.form);
+    let (known, expr) = paired(value.known, expr)?;
     Ok(Judged {
         form: Form::Plain(expr),
         at: value.at,
         kind: value.kind,
-        known: value.known,
+        known,
         values: value.values,
         spelling: value.spelling,
     })

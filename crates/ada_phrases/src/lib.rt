@@ -15,6 +15,7 @@ mod applied;
 mod attributes;
 mod circuits;
 mod decisions;
+mod handing;
 mod names;
 mod phrases;
 mod routines;

@@ -15,9 +15,10 @@ ghost use Rattle.ada_phrases.specs.Steps.{operand_in, joined_in, applied_in, suf
 
 use crate::circuits::{Role, is_circuit, is_circuit_under, is_form};
 use crate::decisions::{Decisions, closed, closed_in};
+use crate::handing::paired;
 use crate::names::{Denoted, any_judged};
 use crate::scope::Scope;
-use crate::suffixes::{attributed, named, selected, typed};
+use crate::suffixes::{attributed, named, selected, typed, typed_found};
 use ada_entities::Refusal;
 use ada_judged::Judged;
 use ada_syntax::{
@@ -121,8 +122,8 @@ fn unary(
 {
     let label = decisions.enter(role.opens(is_circuit_under(operator, operand)), pos)?;
     let value = judged(alloc, scope, Role::under(operator), decisions, operand)?;
-    let found = value.unary(alloc, pos, operator)?;
-    let value = typed(scope.step, pos, any_judged(), found)?;
+    let found = value.unary(alloc, pos, operator);
+    let value = typed_found(scope.step, pos, any_judged(), found)?;
     Ok(closed_in(alloc, scope.step, decisions, label, pos, value)?)
 }
 
@@ -161,9 +162,10 @@ fn operated(
     ensures { ComesTo judged_of scope.now decisions.old decisions.new
         (λ k env s. answer_at pos (operand_in env pos (given (judged_of k left) s) right.now).outcome) result }
 {
-    let value = judged(alloc, scope, Role::Itself, decisions, &right.operand)?;
-    let found = left.binary(alloc, pos, right.operator, value)?;
-    typed(scope.step, pos, any_judged(), found)
+    let value = judged(alloc, scope, Role::Itself, decisions, &right.operand);
+    let (left, value) = paired(left, value)?;
+    let found = left.binary(alloc, pos, right.operator, value);
+    typed_found(scope.step, pos, any_judged(), found)
 }
 
 /// A relation, of which the first token stands at this place (RM 4.5.2).
@@ -182,9 +184,10 @@ fn relation(
         (λ k env s. (rules.judged env rules.itself s (source.relation pos left.now operator right.now)).answer) result }
 {
     let left = judged(alloc, scope, Role::Itself, decisions, left)?;
-    let right = judged(alloc, scope, Role::Itself, decisions, right)?;
-    let found = left.related(alloc, pos, operator, right)?;
-    typed(scope.step, pos, any_judged(), found)
+    let right = judged(alloc, scope, Role::Itself, decisions, right);
+    let (left, right) = paired(left, right)?;
+    let found = left.related(alloc, pos, operator, right);
+    typed_found(scope.step, pos, any_judged(), found)
 }
 
 /// Operands with a logical operator or a short-circuit control form between them, which groups to the
@@ -248,9 +251,10 @@ fn joined_with(
     ensures { ComesTo judged_of scope.now decisions.old decisions.new
         (λ k env s. answer_at pos (joined_in env pos operator (given (judged_of k left) s) right.now).outcome) result }
 {
-    let value = judged(alloc, scope, Role::Operand, decisions, right)?;
-    let found = left.joined(alloc, pos, operator, value)?;
-    typed(scope.step, pos, any_judged(), found)
+    let value = judged(alloc, scope, Role::Operand, decisions, right);
+    let (left, value) = paired(left, value)?;
+    let found = left.joined(alloc, pos, operator, value);
+    typed_found(scope.step, pos, any_judged(), found)
 }
 
 /// What a name denotes (RM 4.1).
@@ -310,9 +314,10 @@ fn applied(
         (λ k env s. answer_at pos (applied_in env pos
         (given (denotes k prefix) s) (exprs_of exprs.now)).outcome) result }
 {
-    let values = all_judged(alloc, scope, decisions, exprs)?;
-    let found = prefix.applied(alloc, scope, values)?;
-    typed(scope.step, pos, Denoted::Thing, found)
+    let values = all_judged(alloc, scope, decisions, exprs);
+    let (prefix, values) = paired(prefix, values)?;
+    let found = prefix.applied(alloc, scope, values);
+    typed_found(scope.step, pos, Denoted::Thing, found)
 }
 
 /// Expressions, each by itself, from the left.

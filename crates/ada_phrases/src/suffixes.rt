@@ -3,17 +3,18 @@
 ghost use Rattle.std.specs.Prelude.{◌≡◌};
 ghost use Rattle.ada_rules.specs.Entities.{key};
 ghost use Rattle.ada_phrases.specs.declared.names.Denoted.TheVariants as denoted;
-ghost use Rattle.ada_phrases.specs.Answers.{typed_answer};
+ghost use Rattle.ada_phrases.specs.Answers.{typed_answer, IsTypedFound};
 ghost use Rattle.ada_phrases.specs.Steps.{IsNamed, IsSelected, IsAttributed};
 
 use crate::attributes::is_attribute;
+use crate::handing::{allowed, paired};
 use crate::names::{Denoted, as_variable};
 use crate::scope::{Scope, Step};
 use ada_entities::{Entity, Refusal, key, refused};
 use ada_judged::Variable;
 use ada_syntax::Identifier;
 use cov_base::{Failure, Pos};
-use std::alloc::Global;
+use std::alloc::{AllocError, Global};
 
 /// What a rule on types gives of a construct that begins at this place. The step of names goes on with
 /// something in place of it.
@@ -28,6 +29,21 @@ pub fn typed<T: Drop>(
     match step {
         Step::Naming => Ok(anything),
         Step::Typing => found.ok_or(refused(pos)),
+    }
+}
+
+/// The same of a rule on types that takes memory.
+pub fn typed_found<T: Drop>(
+    step: Step,
+    pos: Pos,
+    anything: T,
+    found: Result<Option<T>, AllocError>,
+) -> Result<T, Failure<Refusal>>
+    ensures { IsTypedFound step pos anything found result }
+{
+    match found {
+        Ok(found) => typed(step, pos, anything, found),
+        Err(fault) => Err(fault.into()),
     }
 }
 
@@ -71,7 +87,10 @@ fn part(
         Denoted::Unit(unit) => named(alloc, pos, scope.part_of_unit(unit, name)),
         Denoted::TestIo => named(alloc, pos, scope.part_of_test_io(name)),
         Denoted::Variable(variable) => component(scope, pos, variable, name),
-        _ => typed(scope.step, pos, Denoted::Thing, None),
+        other => {
+            drop(other);
+            typed(scope.step, pos, Denoted::Thing, None)
+        }
     }
 }
 
@@ -86,8 +105,22 @@ pub fn selected(
 ) -> Result<Denoted, Failure<Refusal>>
     ensures { IsSelected scope.now pos prefix (key identifier.now) result }
 {
-    let name = key(alloc, identifier)?;
+    let (prefix, name) = paired(prefix, key(alloc, identifier))?;
     part(alloc, scope, pos, prefix, name.as_slice())
+}
+
+/// An attribute of what a name denotes, by its own name in lower case (RM 4.1.4).
+fn attribute_by(
+    scope: &Scope<'_>,
+    pos: Pos,
+    prefix: Denoted,
+    name: &[u8],
+) -> Result<Denoted, Failure<Refusal>>
+    ensures { IsAttributed scope.now pos prefix name.now result }
+{
+    let found = prefix.attribute(scope.types, name);
+    let answer = typed(scope.step, pos, Denoted::Thing, found);
+    allowed(is_attribute(name), pos, answer)
 }
 
 /// An attribute of what a name denotes, which begins at this place (RM 4.1.4).
@@ -101,10 +134,6 @@ pub fn attributed(
 ) -> Result<Denoted, Failure<Refusal>>
     ensures { IsAttributed scope.now pos prefix (key identifier.now) result }
 {
-    let name = key(alloc, identifier)?;
-    if !is_attribute(name.as_slice()) {
-        return Err(refused(pos));
-    }
-    let found = prefix.attribute(scope.types, name.as_slice());
-    typed(scope.step, pos, Denoted::Thing, found)
+    let (prefix, name) = paired(prefix, key(alloc, identifier))?;
+    attribute_by(scope, pos, prefix, name.as_slice())
 }

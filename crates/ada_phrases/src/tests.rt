@@ -12,6 +12,7 @@ ghost use Rattle.ada_phrases.specs.DecisionView.{decision_of, IsAnyDecision, IsD
 
 use crate::circuits::Role;
 use crate::decisions::Decisions;
+use crate::handing::paired;
 use crate::phrases::judged;
 use crate::scope::{Scope, Step};
 use ada_entities::{Refusal, refused};
@@ -44,7 +45,8 @@ fn boolean_decision(
     let Some(test) = value.tested(alloc)? else {
         return Err(refused(pos));
     };
-    decisions.measure(label.place, &test)?;
+    let measured = decisions.measure(label.place, &test);
+    let (test, ()) = paired(test, measured)?;
     Ok(Decision { label, test })
 }
 

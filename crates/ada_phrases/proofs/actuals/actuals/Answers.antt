@@ -1,7 +1,6 @@
-use Rattle.std.proofs.Common.{◌≡◌, ◌+◌, Some, [], ◌∷◌, drop, length, map, option_map, sym, ap, ◌∙◌, arith, rules}
+use Rattle.std.proofs.Common.{◌≡◌, ◌+◌, Some, ◌∷◌, drop, length, map, option_map, sym, ap, ◌∙◌, arith, rules}
 use Rattle.std.proofs.lemmas.List.{at_drop_more, at_drop_all}
 use Rattle.ada_tree.specs.View.{owner_of}
-use Rattle.ada_meaning.specs.Tree as tree
 use Rattle.ada_rules.specs.Denoted.{actuals_for}
 use Rattle.ada_phrases.specs.Actuals.{with_actuals, left_of, parameter_as}
 use Rattle.ada_phrases.proofs.Local.{mapped_more, with_none, empty_left}

@@ -1,5 +1,4 @@
-use Rattle.std.proofs.Common.{◌≡◌, ◌+◌, ◌≤◌, true, sum_by, sym, ap, ◌∙◌, subst, arith}
-use Rattle.std.proofs.lemmas.Grind.{common_steps}
+use Rattle.std.proofs.Common.{◌≡◌, ◌+◌, true, sum_by, sym, ap, ◌∙◌, subst, arith}
 use Rattle.ada_meaning.specs.Tree.{conditions_of}
 use Rattle.ada_tree.specs.Sizes.{test_size}
 use Rattle.ada_tree.specs.View.{is_filled, has_forms, neutral_of, test_at}

@@ -1,30 +1,32 @@
-use Rattle.std.proofs.Common.{◌≡◌, ⊎_elim, true, None, Ok, Err, Option, option_map, get_or, drop, map, sum_by, is_some, rules, arith, refl, sym, ap, ◌∙◌, subst, ◌+◌, ◌∷◌, []}
+use Rattle.std.specs.declared.alloc.Global.{Global}
+use Rattle.std.specs.declared.vec.Vec.{Vec}
+use Rattle.std.proofs.Common.{◌≡◌, ⊎_elim, true, Ok, Err, option_map, drop, map, sum_by, is_some, rules, arith, refl, sym, ap, ◌∙◌, subst, ◌+◌, ◌∷◌, []}
 use Rattle.std.proofs.lemmas.List.{map-append}
 use Rattle.std.proofs.lemmas.List.Sums.{get_or-le-sum_by}
 use Rattle.ada_syntax.specs.Tree as source
 use Rattle.ada_syntax.specs.Tree.{expr_size, name_size}
-use Rattle.ada_syntax.specs.TreeView.{exprs_of, expr_at, with_operands, joined, with_suffixes, is_filled, has_operators}
-use Rattle.ada_syntax.proofs.SizeLaws.{operand_size, suffix_size, name_size-with_suffixes, expr_size_positive}
+use Rattle.ada_syntax.specs.TreeView.{exprs_of, expr_at, with_operands, joined, is_filled, has_operators}
+use Rattle.ada_syntax.proofs.SizeLaws.{operand_size, suffix_size, name_size-with_suffixes}
 use Rattle.ada_tree.specs.View.{label_of}
 use Rattle.ada_rules.specs.Plan.{outcome_after, answer_at}
-use Rattle.ada_rules.specs.Environment.{given, Env, State}
+use Rattle.ada_rules.specs.Environment.{given}
 use Rattle.ada_rules.specs.Denoted as language
 use Rattle.ada_rules.specs.Denoted.{any_judged, a_thing, enclosed, numeral_of, standing_at, value_of, unary_of, binary_of, related, applied_to, neutral_of}
-use Rattle.ada_rules.specs.Expressions.{itself, operand, opens, entered, is_circuit, is_circuit_under, role_under, typed_as, judged, denoted, named, all_judged}
+use Rattle.ada_rules.specs.Expressions.{itself, operand, opens, entered, is_circuit, is_circuit_under, role_under, typed_as, judged, denoted, all_judged}
 use Rattle.ada_entities.specs.Answers.{Refuses, Answers}
-use Rattle.ada_entities.specs.EntityViews.{Tables, entity_of}
+use Rattle.ada_judged.specs.declared.judged.Judged.{Judged}
 use Rattle.ada_judged.specs.JudgedView.{judged_of}
+use Rattle.ada_phrases.specs.declared.names.Denoted.{Denoted}
 use Rattle.ada_phrases.specs.declared.names.Denoted.TheVariants as denoted_as
 use Rattle.ada_phrases.specs.Answers.{counted, along, before}
 use Rattle.ada_phrases.specs.Closing.{role_of, label_if, closing, closing_in, IsClosable}
 use Rattle.ada_phrases.specs.DenotedView.{denotes}
-use Rattle.ada_phrases.specs.Scopes.{StandsIn, step_of}
-use Rattle.ada_phrases.specs.Steps.{operand_in, joined_in, applied_in, suffix_in, finished}
-use Rattle.ada_phrases.proofs.Parts.{in_part, refused_as, answers_as, gives_typed, turn_passes, turn_refuses, all_turned}
+use Rattle.ada_phrases.specs.Steps.{operand_in, joined_in, applied_in, suffix_in, all_judged_of, finished}
+use Rattle.ada_phrases.proofs.Parts.{in_part, refused_as, answers_as, gives_typed, gives_found, ok_then, pair_first, pair_passes, pair_refuses, turn_passes, turn_refuses, all_turned}
 use Rattle.ada_phrases.proofs.Walks.{operands_along, operands_alone}
 use Rattle.ada_phrases.proofs.Closed.{NoObject, along_none, unary_none, circuit_none, closable, opens_circuit}
 use Rattle.ada_phrases.proofs.Turns as law
-use Rattle.ada_phrases.proofs.Ends.{along_refuses, name_along, expr_passes, expr_refused, exprs_end, none_before, filled_size, filled_joined}
+use Rattle.ada_phrases.proofs.Ends.{along_refuses, name_along, expr_passes, expr_refused, exprs_end, filled_size, filled_joined}
 use Rattle.ada_phrases.proofs.phrases.+phrases.Goals as goal
 
 pub value_of_name-returns-in_err-denoted : goal.value_of_name-returns-in_err-denoted
@@ -40,33 +42,54 @@ value_of_name-returns t c k env s h =
     (gives_typed (judged_of k) d.next env.step c.args.scope.now.step c.args.pos c.any_judged.result c.value.result any_judged (option_map (standing_at c.args.pos) (value_of d.value))
     c.typed.result h.step (c.any_judged.ensures k) (c.value.ensures k env h) c.typed.ensures)
 
-pub operated-returns-in_err-value : goal.operated-returns-in_err-value
-operated-returns-in_err-value t c k env s h =
-    let r = law.operand_refused env (counted c.args.decisions.now s) c.args.pos (judged_of k c.args.left) c.args.right.now c.in_err-value.field-0.0
-    (c.in_err-value.ensures k env s h) in
+pub operated-returns-in_err-left : goal.operated-returns-in_err-left
+operated-returns-in_err-left t c k env s h =
+    let s0 = counted c.args.decisions.now s in
+    let f = c.in_err-left.field-0.0 in
+    let r = law.operand_refused env s0 c.args.pos (judged_of k c.args.left) c.args.right.now f
+    (pair_refuses c.args.left (λ x. given (judged_of k x) (counted c.judged-value.new.decisions s)) (judged env itself s0 c.args.right.now.operand).answer c.judged-value.result f c.in_err-left.ensures
+    (c.judged-value.ensures k env s h)) in
     search (rules, r)
 
 pub operated-returns : goal.operated-returns
 operated-returns t c k env s h =
-    let y = given (judged_of k c.in_ok-value.value) (counted c.judged.new.decisions s) in
-    answers_as (λ x. given (judged_of k x) y.next) _ _ c.typed.result
-    (law.operand_passes env (counted c.args.decisions.now s) c.args.pos (judged_of k c.args.left) c.args.right.now y (c.in_ok-value.ensures k env s h))
-    (gives_typed (judged_of k) y.next env.step c.args.scope.now.step c.args.pos c.any_judged.result c.in_ok-found.found any_judged
-    (binary_of c.args.pos c.args.right.now.operator (judged_of k c.args.left) y.value) c.typed.result h.step (c.any_judged.ensures k) (c.in_ok-found.ensures k) c.typed.ensures)
+    let p = c.args.pos in
+    let s0 = counted c.args.decisions.now s in
+    let z : Judged × Judged = (c.in_ok-left.left, c.in_ok-left.value) in
+    let o = c.args.right.now in
+    let y = given (judged_of k z.1) (counted c.judged-value.new.decisions s) in
+    let passed = pair_passes c.args.left (λ x. given (judged_of k x) y.next) (judged env itself s0 o.operand).answer c.judged-value.result z c.in_ok-left.ensures (c.judged-value.ensures k env s h) in
+    answers_as (λ x. given (judged_of k x) y.next) _ _ c.typed_found.result
+    (ap (λ l. answer_at p (operand_in env p (given (judged_of k l) s0) o).outcome) (sym (pair_first c.args.left c.judged-value.result z c.in_ok-left.ensures))
+    ∙ law.operand_passes env s0 p (judged_of k z.0) o y passed)
+    (gives_found (judged_of k) y.next env.step c.args.scope.now.step p c.any_judged.result c.binary-found.result any_judged
+    (binary_of p o.operator (judged_of k z.0) y.value) c.typed_found.result h.step (c.any_judged.ensures k)
+    (ok_then _ _ c.binary-found.result (λ x f. f k) c.binary-found.ensures) c.typed_found.ensures)
 
-pub joined_with-returns-in_err-value : goal.joined_with-returns-in_err-value
-joined_with-returns-in_err-value t c k env s h =
-    let r = law.joined_refused env (counted c.args.decisions.now s) c.args.pos c.args.operator (judged_of k c.args.left) c.args.right.now c.in_err-value.field-0.0
-    (c.in_err-value.ensures k env s h) in
+pub joined_with-returns-in_err-left : goal.joined_with-returns-in_err-left
+joined_with-returns-in_err-left t c k env s h =
+    let s0 = counted c.args.decisions.now s in
+    let f = c.in_err-left.field-0.0 in
+    let r = law.joined_refused env s0 c.args.pos c.args.operator (judged_of k c.args.left) c.args.right.now f
+    (pair_refuses c.args.left (λ x. given (judged_of k x) (counted c.judged-value.new.decisions s)) (judged env operand s0 c.args.right.now).answer c.judged-value.result f c.in_err-left.ensures
+    (c.judged-value.ensures k env s h)) in
     search (rules, r)
 
 pub joined_with-returns : goal.joined_with-returns
 joined_with-returns t c k env s h =
-    let y = given (judged_of k c.in_ok-value.value) (counted c.judged.new.decisions s) in
-    answers_as (λ x. given (judged_of k x) y.next) _ _ c.typed.result
-    (law.joined_passes env (counted c.args.decisions.now s) c.args.pos c.args.operator (judged_of k c.args.left) c.args.right.now y (c.in_ok-value.ensures k env s h))
-    (gives_typed (judged_of k) y.next env.step c.args.scope.now.step c.args.pos c.any_judged.result c.in_ok-found.found any_judged
-    (language.joined c.args.pos c.args.operator (judged_of k c.args.left) y.value) c.typed.result h.step (c.any_judged.ensures k) (c.in_ok-found.ensures k) c.typed.ensures)
+    let p = c.args.pos in
+    let op = c.args.operator in
+    let e = c.args.right.now in
+    let s0 = counted c.args.decisions.now s in
+    let z : Judged × Judged = (c.in_ok-left.left, c.in_ok-left.value) in
+    let y = given (judged_of k z.1) (counted c.judged-value.new.decisions s) in
+    let passed = pair_passes c.args.left (λ x. given (judged_of k x) y.next) (judged env operand s0 e).answer c.judged-value.result z c.in_ok-left.ensures (c.judged-value.ensures k env s h) in
+    answers_as (λ x. given (judged_of k x) y.next) _ _ c.typed_found.result
+    (ap (λ l. answer_at p (joined_in env p op (given (judged_of k l) s0) e).outcome) (sym (pair_first c.args.left c.judged-value.result z c.in_ok-left.ensures))
+    ∙ law.joined_passes env s0 p op (judged_of k z.0) e y passed)
+    (gives_found (judged_of k) y.next env.step c.args.scope.now.step p c.any_judged.result c.joined-found.result any_judged
+    (language.joined p op (judged_of k z.0) y.value) c.typed_found.result h.step (c.any_judged.ensures k)
+    (ok_then _ _ c.joined-found.result (λ x f. f k) c.joined-found.ensures) c.typed_found.ensures)
 
 pub relation-returns-in_err-left : goal.relation-returns-in_err-left
 relation-returns-in_err-left t c k env s h =
@@ -74,37 +97,55 @@ relation-returns-in_err-left t c k env s h =
     (c.in_err-left.ensures k env s h) in
     search (rules, r)
 
-pub relation-returns-in_err-right : goal.relation-returns-in_err-right
-relation-returns-in_err-right t c k env s h =
+pub relation-returns-in_err-left-2 : goal.relation-returns-in_err-left-2
+relation-returns-in_err-left-2 t c k env s h =
     let x = given (judged_of k c.in_ok-left.left) (counted c.judged.new.decisions s) in
-    let r = law.right_refused env (counted c.args.decisions.now s) c.args.pos c.args.left.now c.args.operator c.args.right.now x c.in_err-right.field-0.0
-    (c.in_ok-left.ensures k env s h) (c.in_err-right.ensures k env s h) in
+    let f = c.in_err-left-2.field-0.0 in
+    let r = law.right_refused env (counted c.args.decisions.now s) c.args.pos c.args.left.now c.args.operator c.args.right.now x f (c.in_ok-left.ensures k env s h)
+    (pair_refuses c.in_ok-left.left (λ x. given (judged_of k x) (counted c.judged-right.new.decisions s)) (judged env itself x.next c.args.right.now).answer c.judged-right.result f c.in_err-left-2.ensures
+    (c.judged-right.ensures k env s h)) in
     search (rules, r)
 
 pub relation-returns : goal.relation-returns
 relation-returns t c k env s h =
-    let x = given (judged_of k c.in_ok-left.left) (counted c.judged.new.decisions s) in
-    let y = given (judged_of k c.in_ok-right.right) (counted c.judged-2.new.decisions s) in
-    answers_as (λ x. given (judged_of k x) y.next) _ _ c.typed.result
-    (law.relation_passes env (counted c.args.decisions.now s) c.args.pos c.args.left.now c.args.operator c.args.right.now x y (c.in_ok-left.ensures k env s h)
-    (c.in_ok-right.ensures k env s h))
-    (gives_typed (judged_of k) y.next env.step c.args.scope.now.step c.args.pos c.any_judged.result c.in_ok-found.found any_judged
-    (related c.args.pos c.args.operator x.value y.value) c.typed.result h.step (c.any_judged.ensures k) (c.in_ok-found.ensures k) c.typed.ensures)
+    let p = c.args.pos in
+    let z : Judged × Judged = (c.in_ok-left-2.left, c.in_ok-left-2.right) in
+    let first = c.in_ok-left.left in
+    let x = given (judged_of k first) (counted c.judged.new.decisions s) in
+    let y = given (judged_of k z.1) (counted c.judged-right.new.decisions s) in
+    let passed = pair_passes first (λ x. given (judged_of k x) y.next) (judged env itself x.next c.args.right.now).answer c.judged-right.result z c.in_ok-left-2.ensures (c.judged-right.ensures k env s h) in
+    answers_as (λ x. given (judged_of k x) y.next) _ _ c.typed_found.result
+    (law.relation_passes env (counted c.args.decisions.now s) p c.args.left.now c.args.operator c.args.right.now x y (c.in_ok-left.ensures k env s h) passed)
+    (gives_found (judged_of k) y.next env.step c.args.scope.now.step p c.any_judged.result c.related-found.result any_judged
+    (related p c.args.operator x.value y.value) c.typed_found.result h.step (c.any_judged.ensures k)
+    (ok_then _ _ c.related-found.result (λ o f. f k ∙ ap (λ l. related p c.args.operator (judged_of k l) y.value) (pair_first first c.judged-right.result z c.in_ok-left-2.ensures)) c.related-found.ensures)
+    c.typed_found.ensures)
 
-pub applied-returns-in_err-values : goal.applied-returns-in_err-values
-applied-returns-in_err-values t c k env s h =
-    let r = law.applied_refused env (counted c.args.decisions.now s) c.args.pos (denotes k c.args.prefix) (exprs_of c.args.exprs.now) c.in_err-values.field-0.0
-    (c.in_err-values.ensures c.args.pos k env s h) in
+pub applied-returns-in_err-prefix : goal.applied-returns-in_err-prefix
+applied-returns-in_err-prefix t c k env s h =
+    let s0 = counted c.args.decisions.now s in
+    let es = exprs_of c.args.exprs.now in
+    let f = c.in_err-prefix.field-0.0 in
+    let r = law.applied_refused env s0 c.args.pos (denotes k c.args.prefix) es f
+    (pair_refuses c.args.prefix (λ xs. given (all_judged_of k xs) (counted c.all_judged-values.new.decisions s)) (all_judged env s0 c.args.pos es).answer c.all_judged-values.result f c.in_err-prefix.ensures
+    (c.all_judged-values.ensures c.args.pos k env s h)) in
     search (rules, r)
 
 pub applied-returns : goal.applied-returns
 applied-returns t c k env s h =
-    let xs = given (map (judged_of k) c.in_ok-values.values.items) (counted c.all_judged.new.decisions s) in
-    answers_as (λ x. given (denotes k x) xs.next) _ _ c.typed.result
-    (law.applied_passes env (counted c.args.decisions.now s) c.args.pos (denotes k c.args.prefix) (exprs_of c.args.exprs.now) xs
-    (c.in_ok-values.ensures c.args.pos k env s h))
-    (gives_typed (denotes k) xs.next env.step c.args.scope.now.step c.args.pos denoted_as.Thing c.in_ok-found.found a_thing
-    (applied_to (denotes k c.args.prefix) xs.value) c.typed.result h.step refl (c.in_ok-found.ensures k env h) c.typed.ensures)
+    let p = c.args.pos in
+    let s0 = counted c.args.decisions.now s in
+    let es = exprs_of c.args.exprs.now in
+    let z : Denoted × Vec Judged Global = (c.in_ok-prefix.prefix, c.in_ok-prefix.values) in
+    let xs = given (all_judged_of k z.1) (counted c.all_judged-values.new.decisions s) in
+    let passed = pair_passes c.args.prefix (λ xs. given (all_judged_of k xs) (counted c.all_judged-values.new.decisions s)) (all_judged env s0 p es).answer c.all_judged-values.result z c.in_ok-prefix.ensures
+    (c.all_judged-values.ensures p k env s h) in
+    answers_as (λ x. given (denotes k x) xs.next) _ _ c.typed_found.result
+    (ap (λ d. answer_at p (applied_in env p (given (denotes k d) s0) es).outcome) (sym (pair_first c.args.prefix c.all_judged-values.result z c.in_ok-prefix.ensures))
+    ∙ law.applied_passes env s0 p (denotes k z.0) es xs passed)
+    (gives_found (denotes k) xs.next env.step c.args.scope.now.step p denoted_as.Thing c.applied-found.result a_thing
+    (applied_to (denotes k z.0) xs.value) c.typed_found.result h.step refl
+    (ok_then _ _ c.applied-found.result (λ x f. f k env h) c.applied-found.ensures) c.typed_found.ensures)
 
 pub suffixed-returns-in-Selected : goal.suffixed-returns-in-Selected
 suffixed-returns-in-Selected t c k env s h =
@@ -419,8 +460,8 @@ unary-returns-in_err-value-2 t c k env s h =
     (law.unary_is env s0 p r op e inner l (c.in_ok-label.ensures.entered s ∙ ap (λ b. entered b s0) b) (c.in_ok-label.ensures.label s ∙ ap (λ b. label_if b s0 p) b)
     ∙ ap (λ y. finished env.step l p (answer_at p (outcome_after y (λ x. typed_as env x.next (unary_of p op x.value))))) passed)
     (law.finished_refused env.step l p _ f
-    (gives_typed (judged_of k) g.next env.step c.args.scope.now.step p c.any_judged.result c.in_ok-found.found any_judged (unary_of p op g.value) (Err f)
-    h.step (c.any_judged.ensures k) (c.in_ok-found.ensures k) c.in_err-value-2.ensures)) in
+    (gives_found (judged_of k) g.next env.step c.args.scope.now.step p c.any_judged.result c.unary-found.result any_judged (unary_of p op g.value) (Err f)
+    h.step (c.any_judged.ensures k) (ok_then _ _ c.unary-found.result (λ x f. f k) c.unary-found.ensures) c.in_err-value-2.ensures)) in
     search (rules, x)
 
 pub unary-returns : goal.unary-returns
@@ -437,8 +478,8 @@ unary-returns t c k env s h =
     let b = c.opens.ensures ∙ ap (opens r) c.is_circuit_under.ensures in
     let j = c.in_ok-label.ensures.label s ∙ ap (λ b. label_if b s0 p) b in
     let passed = ap (λ ro. (judged env ro inner e).answer) (sym c.under.ensures) ∙ c.in_ok-value.ensures k env s h in
-    let found = gives_typed (judged_of k) g.next env.step c.args.scope.now.step p c.any_judged.result c.in_ok-found.found any_judged (unary_of p op g.value)
-    (Ok c.in_ok-value-2.value) h.step (c.any_judged.ensures k) (c.in_ok-found.ensures k) c.in_ok-value-2.ensures in
+    let found = gives_found (judged_of k) g.next env.step c.args.scope.now.step p c.any_judged.result c.unary-found.result any_judged (unary_of p op g.value)
+    (Ok c.in_ok-value-2.value) h.step (c.any_judged.ensures k) (ok_then _ _ c.unary-found.result (λ x f. f k) c.unary-found.ensures) c.in_ok-value-2.ensures in
     let all = ap (λ y. answer_at p (outcome_after y (λ x. typed_as env x.next (unary_of p op x.value)))) passed ∙ found in
     let may : IsClosable l v.value = subst (λ m. IsClosable m v.value) (sym j) (closable (opens r (is_circuit_under op e)) s0 p v.value
     (λ o. subst NoObject all (unary_none env p op e (judged env (role_under op) inner e).answer (opens_circuit r (is_circuit_under op e) o)))) in

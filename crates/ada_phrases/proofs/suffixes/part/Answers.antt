@@ -29,8 +29,8 @@ returns-in-Variable c k env s h =
     (ap (λ d. answer_at c.args.pos (selection env s (denotes k d) c.args.name.now).outcome) c.in-Variable.is)
     (c.component.ensures k env s h)
 
-pub returns : goal.returns
-returns c k env s h =
+pub returns-in_default : goal.returns-in_default
+returns-in_default c k env s h =
     answers_as (λ x. given (denotes k x) s) _ _ c.typed.result
     (other_selection k env s c.args.prefix c.args.name.now c.args.pos c.in_default.not-Unit c.in_default.not-TestIo c.in_default.not-Variable)
     (gives_typed (denotes k) s env.step c.args.scope.now.step c.args.pos denoted.Thing None a_thing None c.typed.result h.step refl refl c.typed.ensures)

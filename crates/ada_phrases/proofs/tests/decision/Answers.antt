@@ -1,5 +1,4 @@
-use Rattle.std.proofs.Common.{rules, sym, ap, ◌∙◌}
-use Rattle.ada_syntax.specs.Tree.{expr_pos}
+use Rattle.std.proofs.Common.{rules, ap, ◌∙◌}
 use Rattle.ada_tree.specs.View.{label_of}
 use Rattle.ada_rules.specs.Environment.{given, decision_label}
 use Rattle.ada_judged.specs.JudgedView.{judged_of}

@@ -35,6 +35,6 @@ returns-in-Variable c =
     ∙ (single_index v xs ∙ ap (λ d. applied_to (denotes k d) xs) (sym c.in-Variable.is))))
     c.element.ensures
 
-pub returns : goal.returns
-returns c k env h =
+pub returns-in_default : goal.returns-in_default
+returns-in_default c k env h =
     other_applied k c.args.self (map (judged_of k) c.args.values.items) c.in_default.not-Mark c.in_default.not-Variable c.in_default.not-Routine
