@@ -3,3 +3,4 @@ pub mod StaticView
 pub mod StaticSize
 pub mod JudgedView
 pub mod PartViews
+pub mod Both

@@ -8,6 +8,7 @@ ghost use Rattle.ada_entities.specs.EntityViews.{Tables};
 ghost use Rattle.ada_judged.specs.Views.{kind_of};
 ghost use Rattle.ada_judged.specs.JudgedView.{judged_of, operation_of_integers, relation_of_discrete};
 
+use crate::handing::both;
 use crate::judged::{Form, Judged, Spelling};
 use crate::kind::Kind;
 use crate::static_tree::StaticTree;
@@ -77,11 +78,9 @@ fn known_operation(
 ) -> Result<Option<StaticTree>, AllocError>
     ensures { IfOk result (λ o. o ≡ rules.known_of_both (operator_of operator) left right) }
 {
-    match (left, right) {
-        (Some(left), Some(right)) => {
-            Ok(Some(StaticTree::operation(alloc, operator, left, right)?))
-        }
-        _ => Ok(None),
+    match left.zip(right) {
+        Some((left, right)) => Ok(Some(StaticTree::operation(alloc, operator, left, right)?)),
+        None => Ok(None),
     }
 }
 
@@ -99,15 +98,17 @@ impl Judged {
             ≡ operation_of_integers pos (operator_of operator) (judged_of k self) (judged_of k right) (kind_of k.types kind)) }
     {
         if !kind.is_integral() {
+            drop((self, right));
             return Ok(None);
         }
-        let known = known_operation(alloc, operator, self.known, right.known)?;
+        let known = known_operation(alloc, operator, self.known, right.known);
         let expr = operation(
             alloc,
             operator,
             self.form.into_expr(),
             right.form.into_expr(),
-        )?;
+        );
+        let (known, expr) = both(known, expr)?;
         Ok(Some(Judged {
             form: Form::Plain(expr),
             at: pos,
@@ -131,7 +132,10 @@ impl Judged {
     {
         match self.kind.common(right.kind) {
             Some(kind) => self.operation(alloc, pos, operator_of(operator), right, kind),
-            None => Ok(None),
+            None => {
+                drop((self, right));
+                Ok(None)
+            }
         }
     }
 
@@ -148,14 +152,10 @@ impl Judged {
             ≡ relation_of_discrete pos (relation_of relation) (judged_of k self) (judged_of k right) (kind_of k.types kind)) }
     {
         if !kind.is_discrete() {
+            drop((self, right));
             return Ok(None);
         }
-        let expr = Expr::relation(
-            alloc,
-            relation,
-            self.form.into_expr(),
-            right.form.into_expr(),
-        )?;
+        let expr = Expr::relation(alloc, relation, self.into_expr(), right.into_expr())?;
         Ok(Some(Judged {
             form: Form::Plain(expr),
             at: pos,
@@ -179,7 +179,10 @@ impl Judged {
     {
         match self.kind.common(right.kind) {
             Some(kind) => self.relation(alloc, pos, relation_of(relation), right, kind),
-            None => Ok(None),
+            None => {
+                drop((self, right));
+                Ok(None)
+            }
         }
     }
 }

@@ -4,6 +4,7 @@
 #![tactic(auto)]
 
 mod binary;
+mod handing;
 mod judged;
 mod kind;
 mod logic;

@@ -7,6 +7,7 @@ ghost use Rattle.ada_rules.specs.Denoted as rules;
 ghost use Rattle.ada_entities.specs.EntityViews.{Tables};
 ghost use Rattle.ada_judged.specs.JudgedView.{form_of, judged_of};
 
+use crate::handing::both;
 use crate::judged::{Form, Judged, Spelling};
 use crate::kind::Kind;
 use crate::operators::negated;
@@ -104,6 +105,13 @@ fn short_circuit(
 }
 
 impl Judged {
+    /// The expression as a test.
+    fn into_test(self, alloc: Global) -> Result<Test, AllocError>
+        ensures { IfOk result (λ t. t ≡ rules.test_of self.at (form_of self.form)) }
+    {
+        self.form.into_test(alloc, self.at)
+    }
+
     /// A short-circuit control form and its two operands, which stand at this place.
     fn circuit(
         self,
@@ -115,8 +123,7 @@ impl Judged {
         ensures { IfOk result (λ x. (k : Tables) → judged_of k x
             ≡ rules.circuit_of pos (judged_of k self) (judged_of k right) (neutral_of form)) }
     {
-        let left = self.form.into_test(alloc, self.at)?;
-        let right = right.form.into_test(alloc, right.at)?;
+        let (left, right) = both(self.into_test(alloc), right.into_test(alloc))?;
         let test = short_circuit(alloc, form, left, right)?;
         Ok(Judged {
             form: Form::Test(test),
@@ -143,7 +150,10 @@ impl Judged {
         let are_boolean = self.kind.is_boolean() && right.kind.is_boolean();
         match (are_boolean, circuit_form(operator)) {
             (true, Some(form)) => Ok(Some(self.circuit(alloc, pos, form, right)?)),
-            _ => Ok(None),
+            _ => {
+                drop((self, right));
+                Ok(None)
+            }
         }
     }
 
@@ -152,8 +162,9 @@ impl Judged {
         ensures { IfOk result (λ o. (k : Tables) → o ≡ rules.tested (judged_of k self)) }
     {
         if !self.kind.is_boolean() {
+            drop(self);
             return Ok(None);
         }
-        Ok(Some(self.form.into_test(alloc, self.at)?))
+        Ok(Some(self.into_test(alloc)?))
     }
 }

@@ -8,6 +8,7 @@ ghost use Rattle.ada_entities.specs.EntityViews as entities;
 ghost use Rattle.ada_entities.specs.EntityViews.{Tables};
 ghost use Rattle.ada_judged.specs.JudgedView.{variable_of, form_of, judged_of, signed_integer, complement_of_boolean};
 
+use crate::handing::both;
 use crate::judged::{Form, Indexing, Judged, Spelling, Variable};
 use crate::kind::Kind;
 use crate::static_tree::StaticTree;
@@ -41,13 +42,23 @@ impl Form {
     {
         match self {
             Form::Plain(expr) => expr,
-            Form::Test(_) => Expr::literal(0),
+            Form::Test(test) => {
+                drop(test);
+                Expr::literal(0)
+            }
             Form::Object(variable) => Expr::part(variable.object, variable.parts),
         }
     }
 }
 
 impl Judged {
+    /// The expression of its form.
+    pub(crate) fn into_expr(self) -> Expr
+        ensures { result ≡ rules.expr_of_form (form_of self.form) }
+    {
+        self.form.into_expr()
+    }
+
     /// A numeral at this place: one of the base range of integers (RM 2.4, 3.5.4).
     pub fn numeral(pos: Pos, value: u32) -> Option<Judged>
         ensures { (k : Tables) → option_map (judged_of k) result ≡ rules.numeral_of pos value }
@@ -139,8 +150,9 @@ impl Judged {
     fn signed(self, alloc: Global, pos: Pos, sign: Sign) -> Result<Judged, AllocError>
         ensures { IfOk result (λ x. (k : Tables) → judged_of k x ≡ rules.signed pos (judged_of k self) (sign_of sign)) }
     {
-        let known = known_signed(alloc, sign, self.known)?;
-        let expr = Expr::signed(alloc, sign, self.form.into_expr())?;
+        let known = known_signed(alloc, sign, self.known);
+        let expr = Expr::signed(alloc, sign, self.form.into_expr());
+        let (known, expr) = both(known, expr)?;
         Ok(Judged {
             form: Form::Plain(expr),
             at: pos,
@@ -206,6 +218,7 @@ impl Judged {
         ensures { IfOk result (λ o. (k : Tables) → option_map (judged_of k) o ≡ signed_integer pos (sign_of sign) (judged_of k self)) }
     {
         if !self.kind.is_integral() {
+            drop(self);
             return Ok(None);
         }
         Ok(Some(self.signed(alloc, pos, sign)?))
@@ -216,6 +229,7 @@ impl Judged {
         ensures { IfOk result (λ o. (k : Tables) → option_map (judged_of k) o ≡ complement_of_boolean (judged_of k self)) }
     {
         if !self.kind.is_boolean() {
+            drop(self);
             return Ok(None);
         }
         Ok(Some(self.complement(alloc)?))

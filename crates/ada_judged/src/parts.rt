@@ -82,12 +82,14 @@ impl Variable {
             ≡ element_by (variable_of k self) (judged_of k index) (option_map (parts_of k.types) parts)) }
     {
         let Some((subtype, component)) = parts else {
+            drop((self, index));
             return Ok(None);
         };
         if !index.kind.fits(subtype.of) {
+            drop((self, index));
             return Ok(None);
         }
-        let selector = Selector::Element(subtype.range, index.form.into_expr());
+        let selector = Selector::Element(subtype.range, index.into_expr());
         Ok(Some(self.part(selector, component, Indexing::Indexed)?))
     }
 
@@ -108,9 +110,10 @@ impl Judged {
             ≡ conversion_to (subtype_of k.types subtype) (judged_of k self)) }
     {
         if !self.kind.converts(subtype.of) {
+            drop(self);
             return Ok(None);
         }
-        let expr = Expr::conversion(alloc, subtype.range, self.form.into_expr())?;
+        let expr = Expr::conversion(alloc, subtype.range, self.into_expr())?;
         Ok(Some(Judged {
             form: Form::Plain(expr),
             at: NOWHERE,
