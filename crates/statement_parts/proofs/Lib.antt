@@ -7,3 +7,4 @@ pub mod HandlerLaws
 pub mod CaseLaws
 pub mod TurnLaws
 pub mod ReturnLaws
+pub mod Handed

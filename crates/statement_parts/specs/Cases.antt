@@ -1,17 +1,20 @@
 -- Case statements behind their alternatives, as the checker makes them.
-use Rattle.std.specs.Prelude.{◌≡◌, List, map, Option, Result}
+use Rattle.std.specs.Prelude.{◌≡◌, List, map, Option, Some, None, if◌then◌else◌, Result}
+use Rattle.cov_base.specs.declared.position.Pos.{Pos}
 use Rattle.cov_base.specs.declared.failure.Failure.{Failure}
 use Rattle.ada_meaning.specs.Tree as tree
 use Rattle.ada_tree.specs.declared.label.Label.{Label}
 use Rattle.ada_tree.specs.declared.statement.Alternative.{Alternative}
 use Rattle.ada_tree.specs.View.{label_of, choice_of}
 use Rattle.ada_rules.specs.Plan.{Outcome, ruled, answer_at}
-use Rattle.ada_rules.specs.Environment.{typed_rule, State, Given, given, Env}
+use Rattle.ada_rules.specs.Statics.{Spans, covers}
+use Rattle.ada_rules.specs.Environment.{typed_rule, demanded, State, Given, given, Env}
 use Rattle.ada_rules.specs.Statements as rules
 use Rattle.ada_rules.specs.Statements.{one, case_of}
 use Rattle.ada_entities.specs.declared.fault.Refusal.{Refusal}
 use Rattle.ada_entities.specs.Answers.{Answers}
-use Rattle.ada_entities.specs.EntityViews.{Tables}
+use Rattle.ada_entities.specs.declared.entity.Values.{Values}
+use Rattle.ada_entities.specs.EntityViews.{Tables, values_of}
 use Rattle.ada_demands.specs.declared.statics.Statics.{Statics}
 use Rattle.ada_demands.specs.StaticsViews.{noted}
 use Rattle.ada_phrases.specs.Scopes.{step_of}
@@ -26,6 +29,20 @@ arm_in k a = record { choices = map choice_of a.choices; statements = map (in_tr
 
 abbrev pub arms_in : Tables → List Alternative → List rules.Arm
 arms_in k arms = map (arm_in k) arms
+
+-- that each value is named once, by alternatives that end with `others` where it is there
+abbrev pub covering : Env → Pos → Spans → List rules.Arm → State → Option State
+covering env p v arms s =
+    if rules.ends_with_others arms
+    then Some (demanded env p (covers v (rules.has_others (rules.choices_in arms)) (rules.choices_in arms)) s)
+    else None
+
+abbrev pub IsCovering : {A : Type 0} → Place → (old new : Statics) → Pos → Values → List Alternative
+    → Result A (Failure Refusal) → Type 0
+IsCovering place old new p v arms result =
+    (k : Tables) (env : Env) (s : State) → env.generic ≡ place.generic
+    → Answers (λ x. noted k new s)
+    (answer_at p (ruled (covering env p (values_of k v) (arms_in k arms) (noted k old s)))) result
 
 -- a case statement whose number was taken in this state
 abbrev pub case_there : Tables → Env → (before : State) → Label → Selector → List Alternative → State

@@ -6,3 +6,4 @@ pub mod Selectors
 pub mod Choices
 pub mod Cases
 pub mod Turns
+pub mod Pairs

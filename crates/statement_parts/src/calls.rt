@@ -90,7 +90,10 @@ fn call_of(
     match denoted {
         Denoted::Routine(name) => bare_call(alloc, symbols, label, name),
         Denoted::Call(name, actuals) => full_call(symbols, label, name, actuals),
-        _ => Ok(None),
+        other => {
+            drop(other);
+            Ok(None)
+        }
     }
 }
 

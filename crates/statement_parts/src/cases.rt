@@ -5,15 +5,16 @@ ghost use Rattle.ada_tree.specs.View.{choice_of};
 ghost use Rattle.ada_rules.specs.Statements as rules;
 ghost use Rattle.ada_entities.specs.EntityViews.{Tables};
 ghost use Rattle.ada_demands.specs.DemandViews.{is_present};
-ghost use Rattle.statement_parts.specs.Cases.{arms_in, IsCase, IsCaseOf};
+ghost use Rattle.statement_parts.specs.Cases.{arms_in, IsCovering, IsCase, IsCaseOf};
 
+use crate::handing::paired;
 use crate::selectors::Selector;
 use crate::typing::null_statement;
 use ada_demands::{Others, Statics, Test};
-use ada_entities::{Refusal, refused};
+use ada_entities::{Refusal, Values, refused};
 use ada_phrases::Step;
 use ada_tree::{Alternative, Choice, Label, Statement, StatementKind};
-use cov_base::{Failure, Seq};
+use cov_base::{Failure, Pos, Seq};
 use static_parts::Place;
 use std::alloc::{AllocError, Global};
 
@@ -59,6 +60,28 @@ fn choices_in(alloc: Global, alternatives: &[Alternative]) -> Result<Seq<Choice>
     Ok(Seq::from(choices))
 }
 
+/// Demands that the alternatives of a case statement, which begins at this place, name each value once.
+#[tactic(auto, using(crate::proofs::Ends::parts))]
+fn cover(
+    alloc: Global,
+    place: &Place<'_>,
+    statics: &mut Statics,
+    pos: Pos,
+    values: Values,
+    alternatives: &[Alternative],
+) -> Result<(), Failure<Refusal>>
+    ensures { IsCovering place.now statics.old statics.new pos values alternatives.now result }
+{
+    if !ends_with_others(alternatives) {
+        return Err(refused(pos));
+    }
+    let choices = choices_in(alloc, alternatives)?;
+    let others = others_among(choices.as_slice());
+    let test = Test::Covers(values, others, choices);
+    statics.demand(pos, place.generic, test)?;
+    Ok(())
+}
+
 /// A case statement with these alternatives, behind its label, in the step of types: each value is named
 /// once.
 #[tactic(auto, using(crate::proofs::Ends::parts))]
@@ -72,16 +95,11 @@ fn case_of(
 ) -> Result<Statement, Failure<Refusal>>
     ensures { IsCaseOf place.now statics.old statics.new label selector alternatives.items result }
 {
-    if !ends_with_others(alternatives.as_slice()) {
-        return Err(refused(label.place));
-    }
-    let choices = choices_in(alloc, alternatives.as_slice())?;
-    let others = others_among(choices.as_slice());
-    let test = Test::Covers(selector.values, others, choices);
-    statics.demand(label.place, place.generic, test)?;
-    Ok(Statement {
-        kind: StatementKind::Case(label, selector.expr, alternatives),
-    })
+    let arms = alternatives.as_slice();
+    let covered = cover(alloc, place, statics, label.place, selector.values, arms);
+    let kind = StatementKind::Case(label, selector.expr, alternatives);
+    let (kind, ()) = paired(kind, covered)?;
+    Ok(Statement { kind })
 }
 
 /// A case statement with these alternatives, behind its label. Refused at the rules' own place.
@@ -97,7 +115,10 @@ pub fn case_statement(
     ensures { IsCase place.now statics.old statics.new label selector alternatives.items result }
 {
     match place.site.step {
-        Step::Naming => Ok(null_statement(label)),
+        Step::Naming => {
+            drop((selector, alternatives));
+            Ok(null_statement(label))
+        }
         Step::Typing => case_of(alloc, place, statics, label, selector, alternatives),
     }
 }

@@ -63,6 +63,7 @@ fn caught_by_name(
 {
     let denoted = site.denoted(alloc, decisions, name)?;
     let found = named(exception_of(&denoted));
+    drop(denoted);
     typed(site.step, name.pos(), ExceptionChoice::Others, found)
 }
 

@@ -61,5 +61,6 @@ pub fn raise(
 {
     let denoted = site.denoted(alloc, decisions, name)?;
     let found = raised(label, exception_of(&denoted));
+    drop(denoted);
     typed(site.step, label.place, null_statement(label), found)
 }

@@ -12,6 +12,7 @@ mod caught;
 mod choices;
 mod exceptions;
 mod frames;
+mod handing;
 mod returns;
 mod selectors;
 mod targets;

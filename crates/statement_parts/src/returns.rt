@@ -51,8 +51,12 @@ pub fn return_nothing(
 fn value_returned(label: Label, given: Option<Subtype>, kind: Kind, form: Form) -> Option<Statement>
     ensures { (k : Tables) → option_map (in_tree k) result ≡ returned_by k label given kind form }
 {
-    let subtype = given?;
+    let Some(subtype) = given else {
+        drop(form);
+        return None;
+    };
     if !kind.fits(subtype.of) {
+        drop(form);
         return None;
     }
     Some(Statement {

@@ -9,6 +9,7 @@ ghost use Rattle.ada_judged.specs.JudgedView.{judged_of};
 ghost use Rattle.symbol_table.specs.Sites.{ComesTo};
 ghost use Rattle.statement_parts.specs.Selectors.{selector_in};
 
+use crate::handing::paired;
 use crate::typing::typed;
 use ada_demands::TypeValues;
 use ada_entities::{AdaType, Refusal, ScalarType, Subtype, Values};
@@ -58,14 +59,13 @@ fn selector_of(value: Judged) -> Result<Option<Selector>, AllocError>
 {
     let of = value.kind.settled();
     let AdaType::Scalar(scalar) = of else {
+        drop(value);
         return Ok(None);
     };
-    let values = values_or(value.values, scalar)?;
-    Ok(Some(Selector {
-        expr: value.form.into_expr(),
-        of,
-        values,
-    }))
+    let values = values_or(value.values, scalar);
+    drop(value.known);
+    let (expr, values) = paired(value.form.into_expr(), values)?;
+    Ok(Some(Selector { expr, of, values }))
 }
 
 /// The selector of a case statement. Refused at the rules' own place.

@@ -45,7 +45,10 @@ fn assignable(variable: Variable) -> Option<Variable>
 {
     match variable.access {
         Access::Variable => Some(variable),
-        Access::Constant => None,
+        Access::Constant => {
+            drop(variable);
+            None
+        }
     }
 }
 
@@ -55,7 +58,10 @@ fn writable(denoted: Denoted) -> Option<Variable>
 {
     match denoted {
         Denoted::Variable(variable) => assignable(variable),
-        _ => None,
+        other => {
+            drop(other);
+            None
+        }
     }
 }
 

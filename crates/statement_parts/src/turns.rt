@@ -10,6 +10,7 @@ ghost use Rattle.ada_demands.specs.SpanViews.{listed, Begins};
 ghost use Rattle.symbol_table.specs.Changes.{UnlessMemory};
 ghost use Rattle.statement_parts.specs.Turns.{turns_in, AreValuesBetween, AreTurnsBetween, IsTurned, Lengthens};
 
+use crate::handing::paired;
 use crate::typing::typed;
 use ada_demands::{ListedSpans, SpanTable, TypeValues};
 use ada_entities::{Access, AdaType, DeclaredObject, Entity, Refusal, ScalarType, Subtype, Values};
@@ -61,13 +62,13 @@ fn values_between(
     ensures continues { OnOk result (Lengthens (listed spans.old) (listed spans.new)) }
 {
     let otherwise = TypeValues::of(of)?;
-    match (first, last) {
-        (Some(first), Some(last)) => spans.add(ListedSpans {
+    match first.zip(last) {
+        Some((first, last)) => spans.add(ListedSpans {
             first,
             last,
             otherwise,
         }),
-        _ => Ok(otherwise.values()),
+        None => Ok(otherwise.values()),
     }
 }
 
@@ -81,16 +82,20 @@ fn turns_between(
     ensures continues { OnOk result (Lengthens (listed spans.old) (listed spans.new)) }
 {
     let Some(kind) = low.kind.common(high.kind) else {
+        drop((low, high));
         return Ok(None);
     };
     let of = kind.settled();
     let AdaType::Scalar(scalar) = of else {
+        drop((low, high));
         return Ok(None);
     };
-    let values = values_between(spans, low.known, high.known, scalar)?;
+    let values = values_between(spans, low.known, high.known, scalar);
+    let over = LoopRange::Bounds(low.form.into_expr(), high.form.into_expr());
+    let (over, values) = paired(over, values)?;
     let range = Subtype::integer().range;
     Ok(Some(Turns {
-        over: LoopRange::Bounds(low.form.into_expr(), high.form.into_expr()),
+        over,
         subtype: Subtype { of, range },
         values,
     }))
@@ -110,7 +115,8 @@ fn turned_between(
     ensures continues { UnlessMemory (Lengthens (listed spans.old) (listed spans.new)) result }
 {
     let low = site.judged(alloc, Role::Itself, decisions, &bounds.low)?;
-    let high = site.judged(alloc, Role::Itself, decisions, &bounds.high)?;
+    let high = site.judged(alloc, Role::Itself, decisions, &bounds.high);
+    let (low, high) = paired(low, high)?;
     let found = turns_between(spans, low, high)?;
     typed(site.step, bounds.low.pos(), Turns::any(), found)
 }
