@@ -155,6 +155,7 @@ fn where_allowed(is_allowed: bool, kind: StatementKind) -> Option<Statement>
     if is_allowed {
         Some(Statement { kind })
     } else {
+        drop(kind);
         None
     }
 }
