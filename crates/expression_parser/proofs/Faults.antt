@@ -50,7 +50,3 @@ module _ (x : Extent) (ts : Tokens) where
   pub suffix_identifier_fault : (us : Tokens) (f : Fault) → TakesIdentifier us (failed f) → ((rest : Tokens) → expect symbol.Identifier us ≡ Stuck rest → (n : Name) → More (at.suffix_turns x) ts n (Stuck rest)) → NextSuffix x ts (failed f)
   suffix_identifier_fault us (Syntax rest) p h = h rest.now p
   suffix_identifier_fault us Memory p h = tt
-
-  pub suffix_closed : (needed : Extent) (f : Fault) → IsOpen x needed ts (failed f) → (opens x needed ≡ false → (n : Name) → More (at.suffix_turns x) ts n (Stuck ts)) → NextSuffix x ts (failed f)
-  suffix_closed needed (Syntax rest) p h = subst (λ us. (n : Name) → More (at.suffix_turns x) ts n (Stuck us)) (sym p.1) (h p.0)
-  suffix_closed needed Memory p h = absurd p

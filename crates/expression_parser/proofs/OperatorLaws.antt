@@ -1,4 +1,6 @@
 -- What a look for an operator says of the reading there.
+use Rattle.std.specs.Prelude.{Result, Ok, Err}
+use Rattle.std.specs.Borrow.{Bor}
 use Rattle.std.proofs.Common.{◌≡◌, ℕ, suc, true, false, [], ◌∷◌, length, Option, Some, None, refl, sym, ap, ◌∙◌, subst, arith}
 use Rattle.std.proofs.lemmas.Bool.{false≢true}
 use Rattle.ada_lexer.specs.declared.token.Token.{Token}
@@ -11,15 +13,14 @@ use Rattle.expression_parser.specs.declared.extent.Extent.{Extent}
 use Rattle.expression_parser.specs.declared.extent.Extent.TheVariants.{Decisions, ShortCircuit}
 use Rattle.expression_parser.specs.Symbols.{symbol_of, Is, same, first_word, second_word_of}
 use Rattle.expression_parser.specs.Extents.{opens}
-use Rattle.expression_parser.specs.Reading.{Tokens, Reader, Got, Stuck, Refuse, Leave, Take, Look, goes_on, turned, on_token, provided, expect}
+use Rattle.expression_parser.specs.Reading.{Tokens, Reader, Got, Stuck, Refuse, Leave, Take, Look, goes_on, turned, on_token, provided, accept, expect}
 use Rattle.expression_parser.specs.ExpressionReading as read
 use Rattle.expression_parser.specs.Depth as at
 use Rattle.expression_parser.specs.declared.fault.Fault.{Fault}
 use Rattle.expression_parser.specs.declared.fault.Fault.TheVariants.{Syntax, Memory}
-use Rattle.expression_parser.specs.Shows.{Skipped, IsOpen, after}
-use Rattle.expression_parser.specs.Operators.{Joint, HalfJoint, paired, joining, extent_of, Chains, FindsChain}
-use Rattle.expression_parser.proofs.Comes.{got_bind, on_symbol}
-use Rattle.expression_parser.proofs.Faults.{failed}
+use Rattle.expression_parser.specs.Shows.{Skipped, after}
+use Rattle.expression_parser.specs.Operators.{Finds, FindsOperator, Joint, HalfJoint, paired, joining, extent_of, Chains}
+use Rattle.expression_parser.proofs.Comes.{got_bind, got_expect, on_symbol}
 use Rattle.expression_parser.proofs.NameCode.{Next, after_some, after_none}
 
 module _ (x : Extent) where
@@ -206,9 +207,26 @@ module _ (x : Extent) where
       (λ i n s. absurd (false≢true (sym s ∙ o))) (λ vs i n s. and_pair_closed t us vs i o n s) (λ i n s. absurd (false≢true (sym s ∙ o))) (λ vs i n s. or_pair_closed t us vs i o n s)
       (λ i s. absurd (false≢true (sym s ∙ o))) p h e
 
--- a look for the operator of a chain that meets a closed part of the grammar
-pub chain_closed : (x needed : Extent) (ts us : Tokens) (f : Fault) → IsOpen x needed us (failed f) → (opens x needed ≡ false → (a : Expr) (m : ℕ) → at.at_logical_rest x a m ts ≡ Stuck us) → FindsChain x ts (failed f)
-chain_closed x needed ts us (Syntax rest) p h = λ a m. h p.0 a m ∙ ap Stuck (sym p.1)
-chain_closed x needed ts us Memory p h = tt
+-- what the first token says of the operator that stands next
+pub found_operator : {A : Type 0} (of : Symbol → Option A) (x needed : Extent) (ts : Tokens) (t : Token) (us : Tokens) (o : Option A) (r : Result (Option (A × Bor Tokens)) Fault) → ts ≡ t ∷ us → o ≡ of (symbol_of t.lexeme)
+    → Finds o x needed ts us r → FindsOperator of x needed ts r
+found_operator of x needed ts t us None (Ok None) e is f = rw e (sym is)
+found_operator of x needed ts t us None (Ok (Some p)) e is f = absurd f
+found_operator of x needed ts t us None (Err g) e is f = absurd f
+found_operator of x needed ts t us (Some op) (Ok None) e is f = absurd f
+found_operator of x needed ts t us (Some op) (Ok (Some p)) e is f = record { t = t; here = e ∙ ap (λ vs. t ∷ vs) (sym f.1); is = sym is ∙ ap Some (sym f.0); opened = f.2 }
+found_operator of x needed ts t us (Some op) (Err (Syntax rest)) e is f = record { t = t; us = us; op = op; here = e; is = sym is; closed = f.0; place = f.1 }
+found_operator of x needed ts t us (Some op) (Err Memory) e is f = absurd f
+
+-- a word that stands next, and one that does not
+taken : (s : Symbol) (ts us : Tokens) → Next s ts us → Skipped s ts us
+taken s ts us n = record { t = n.t; here = ap (expect s) n.here ∙ got_expect s n.t us n.is; shorter = omega (arith, ap length n.here) }
+
+pub word_taken : (s : Symbol) (ts us : Tokens) → after s ts ≡ Some us → Skipped s ts us
+word_taken s ts us e = taken s ts us (after_some s ts us e)
+
+pub no_word : (s : Symbol) (ts : Tokens) → after s ts ≡ None → expect s ts ≡ Stuck ts
+no_word s [] e = refl
+no_word s (t ∷ vs) e = ap (λ b. turned (accept b t) t vs) (after_none s t vs e).is_not
 
 pub ruleset joints = (joint_alone, joint_pair, half_joint)

@@ -3,6 +3,7 @@ use Rattle.std.specs.Prelude.{◌≡◌, Option, Some, None, Result, Ok, Err, �
 use Rattle.std.specs.Borrow.{Bor}
 use Rattle.std.specs.declared.vec.Vec.{Vec}
 use Rattle.std.specs.declared.alloc.Global.{Global}
+use Rattle.std.specs.declared.alloc.AllocError.{AllocError}
 use Rattle.ada_syntax.specs.Tree.{Expr, expr_pos}
 use Rattle.ada_syntax.specs.TreeView.{with_operands, joined}
 use Rattle.ada_syntax.specs.declared.expr.LogicalOperator.{LogicalOperator}
@@ -46,3 +47,25 @@ Applies (Ok v) (Err (Syntax rest)) = expect symbol.RightParenthesis v.1.now ≡ 
 Applies (Ok v) (Err Memory) = ⊤
 Applies (Err p) (Ok x) = ⊥
 Applies (Err p) (Err q) = q ≡ p
+
+-- an expression that was made, with these tokens behind it, where memory was there
+abbrev pub Makes : Result Expr AllocError → Tokens → Result (Expr × Bor Tokens) Fault → Type 0
+Makes (Ok e) us (Ok x) = (x.0 ≡ e) × (x.1.now ≡ us)
+Makes (Ok e) us (Err f) = ⊥
+Makes (Err refused) us (Ok x) = ⊥
+Makes (Err refused) us (Err f) = f ≡ Memory
+
+-- both parts, with the same tokens behind them, or the second part's fault
+abbrev pub Both : {A B : Type 0} → A → Result (B × Bor Tokens) Fault → Result ((A × B) × Bor Tokens) Fault → Type 0
+Both a (Ok y) (Ok z) = (z.0 ≡ (a, y.0)) × (z.1.now ≡ y.1.now)
+Both a (Ok y) (Err g) = ⊥
+Both a (Err f) (Ok z) = ⊥
+Both a (Err f) (Err g) = g ≡ f
+
+-- a part before a closing parenthesis, which is taken
+abbrev pub Closes : {A : Type 0} → Result (A × Bor Tokens) Fault → Result (A × Bor Tokens) Fault → Type 0
+Closes (Ok x) (Ok y) = (y.0 ≡ x.0) × Skipped symbol.RightParenthesis x.1.now y.1.now
+Closes (Ok x) (Err (Syntax rest)) = expect symbol.RightParenthesis x.1.now ≡ Stuck rest.now
+Closes (Ok x) (Err Memory) = ⊤
+Closes (Err f) (Ok y) = ⊥
+Closes (Err f) (Err g) = g ≡ f

@@ -40,6 +40,16 @@ pub record IsClosed {A : Type 0} (of : Symbol → Option A) (x needed : Extent) 
   pub closed : opens x needed ≡ false
   pub place : rest ≡ ts
 
+-- an operator that was looked at, before these tokens, if the first one of `ts` is one: it comes with an extent
+abbrev pub Finds : {A : Type 0} → Option A → Extent → Extent → Tokens → Tokens → Result (Option (A × Bor Tokens)) Fault → Type 0
+Finds None x needed ts us (Ok None) = ⊤
+Finds None x needed ts us (Ok (Some p)) = ⊥
+Finds None x needed ts us (Err f) = ⊥
+Finds (Some op) x needed ts us (Ok None) = ⊥
+Finds (Some op) x needed ts us (Ok (Some p)) = (p.0 ≡ op) × (p.1.now ≡ us) × (opens x needed ≡ true)
+Finds (Some op) x needed ts us (Err (Syntax rest)) = (opens x needed ≡ false) × (rest.now ≡ ts)
+Finds (Some op) x needed ts us (Err Memory) = ⊥
+
 -- the answer of a look for an operator, which comes with an extent
 abbrev pub FindsOperator : {A : Type 0} → (Symbol → Option A) → Extent → Extent → Tokens → Result (Option (A × Bor Tokens)) Fault → Type 0
 FindsOperator of x needed ts (Ok None) = next_operator of ts ≡ None

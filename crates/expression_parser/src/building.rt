@@ -2,7 +2,7 @@
 //! as it is, and its fault is handed on (Ada RM 2012, 4.1, 4.4).
 
 ghost use Rattle.ada_syntax.specs.Tree as tree;
-ghost use Rattle.expression_parser.specs.Building.{operated, chained, Builds, Encloses, Applies};
+ghost use Rattle.expression_parser.specs.Building.{operated, chained, Builds, Encloses, Applies, Makes, Both, Closes};
 
 use crate::fault::{Fault, Parsed};
 use crate::parser::word;
@@ -10,7 +10,32 @@ use crate::symbol::Symbol;
 use ada_lexer::Token;
 use ada_syntax::{Expr, LogicalOperator, Name, Operand, RelationalOperator, Suffix, UnaryOperator};
 use cov_base::Pos;
-use std::alloc::Global;
+use std::alloc::{AllocError, Global};
+
+/// An expression that was made, before these tokens.
+fn made<'a>(expr: Result<Expr, AllocError>, rest: &'a [Token]) -> Parsed<'a, Expr>
+    ensures { Makes expr rest.now result }
+{
+    Ok((expr?, rest))
+}
+
+/// A part that was read, and the answer of the part behind it. What was read is taken over, so that
+/// its reader drops it nowhere.
+fn both<'a, A: Drop, B: Drop>(first: A, second: Parsed<'a, B>) -> Parsed<'a, (A, B)>
+    ensures { Both first second.entry result }
+{
+    let (second, rest) = second?;
+    Ok(((first, second), rest))
+}
+
+/// A part, and the closing parenthesis behind it, which is taken too.
+fn closed<'a, T: Drop>(part: Parsed<'a, T>) -> Parsed<'a, T>
+    ensures { Closes part.entry result }
+{
+    let (part, tokens) = part?;
+    let rest = word(Symbol::RightParenthesis, tokens)?;
+    Ok((part, rest))
+}
 
 /// A name as an expression.
 pub fn named<'a>(pos: Pos, name: Parsed<'a, Name>) -> Parsed<'a, Expr>
@@ -24,10 +49,8 @@ pub fn named<'a>(pos: Pos, name: Parsed<'a, Name>) -> Parsed<'a, Expr>
 pub fn parenthesized<'a>(alloc: Global, pos: Pos, inner: Parsed<'a, Expr>) -> Parsed<'a, Expr>
     ensures { Encloses (λ e. tree.parenthesized pos e) inner.entry result }
 {
-    let (inner, rest) = inner?;
-    let rest = word(Symbol::RightParenthesis, rest)?;
-    let expr = Expr::parenthesized(alloc, pos, inner)?;
-    Ok((expr, rest))
+    let (inner, rest) = closed(inner)?;
+    made(Expr::parenthesized(alloc, pos, inner), rest)
 }
 
 /// An operator and its operand.
@@ -40,26 +63,23 @@ pub fn unary<'a>(
     ensures { Builds (λ e. tree.unary pos operator e) operand.entry result }
 {
     let (operand, rest) = operand?;
-    let expr = Expr::unary(alloc, pos, operator, operand)?;
-    Ok((expr, rest))
+    made(Expr::unary(alloc, pos, operator, operand), rest)
 }
 
 /// A factor, and those behind it.
 pub fn product<'a>(alloc: Global, first: Expr, others: Parsed<'a, Vec<Operand>>) -> Parsed<'a, Expr>
     ensures { Builds (operated first) others.entry result }
 {
-    let (others, rest) = others?;
-    let expr = Expr::product(alloc, first, others)?;
-    Ok((expr, rest))
+    let ((first, others), rest) = both(first, others)?;
+    made(Expr::product(alloc, first, others), rest)
 }
 
 /// A term, and those behind it.
 pub fn sum<'a>(alloc: Global, first: Expr, others: Parsed<'a, Vec<Operand>>) -> Parsed<'a, Expr>
     ensures { Builds (operated first) others.entry result }
 {
-    let (others, rest) = others?;
-    let expr = Expr::sum(alloc, first, others)?;
-    Ok((expr, rest))
+    let ((first, others), rest) = both(first, others)?;
+    made(Expr::sum(alloc, first, others), rest)
 }
 
 /// Two sides of a relational operator.
@@ -71,9 +91,8 @@ pub fn relation<'a>(
 ) -> Parsed<'a, Expr>
     ensures { Builds (λ e. tree.relation (tree.expr_pos left) left operator e) right.entry result }
 {
-    let (right, rest) = right?;
-    let expr = Expr::relation(alloc, left, operator, right)?;
-    Ok((expr, rest))
+    let ((left, right), rest) = both(left, right)?;
+    made(Expr::relation(alloc, left, operator, right), rest)
 }
 
 /// A relation, and those that an operator joins to it.
@@ -85,9 +104,8 @@ pub fn chain<'a>(
 ) -> Parsed<'a, Expr>
     ensures { Builds (chained operator first) others.entry result }
 {
-    let (others, rest) = others?;
-    let expr = Expr::logical(alloc, operator, first, others)?;
-    Ok((expr, rest))
+    let ((first, others), rest) = both(first, others)?;
+    made(Expr::logical(alloc, operator, first, others), rest)
 }
 
 /// Actuals in parentheses, of which the second one is still to be taken.
@@ -96,7 +114,6 @@ pub fn applied<'a>(
 ) -> Result<Option<(Suffix, &'a [Token])>, Fault<'a>>
     ensures { Applies actuals.entry result }
 {
-    let (actuals, rest) = actuals?;
-    let rest = word(Symbol::RightParenthesis, rest)?;
+    let (actuals, rest) = closed(actuals)?;
     Ok(Some((Suffix::Applied(actuals), rest)))
 }

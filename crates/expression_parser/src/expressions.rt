@@ -40,11 +40,15 @@ impl Parser {
         match symbol_in(token.lexeme) {
             Symbol::Numeral => Ok((Expr::numeral(token.pos, value_in(token.lexeme)), rest)),
             Symbol::Identifier => {
-                self.needs(Extent::Objects, tokens)?;
+                if !self.extent.opens(Extent::Objects) {
+                    return Err(Fault::Syntax(tokens));
+                }
                 named(token.pos, self.name(tokens))
             }
             Symbol::LeftParenthesis => {
-                self.needs(Extent::Objects, tokens)?;
+                if !self.extent.opens(Extent::Objects) {
+                    return Err(Fault::Syntax(tokens));
+                }
                 parenthesized(self.alloc, token.pos, self.expr(rest))
             }
             _ => Err(Fault::Syntax(tokens)),
@@ -63,12 +67,16 @@ impl Parser {
         };
         match symbol_in(token.lexeme) {
             Symbol::Abs => {
-                self.needs(Extent::Objects, tokens)?;
+                if !self.extent.opens(Extent::Objects) {
+                    return Err(Fault::Syntax(tokens));
+                }
                 let operand = self.primary(rest);
                 unary(self.alloc, token.pos, UnaryOperator::Abs, operand)
             }
             Symbol::Not => {
-                self.needs(Extent::Decisions, tokens)?;
+                if !self.extent.opens(Extent::Decisions) {
+                    return Err(Fault::Syntax(tokens));
+                }
                 let operand = self.primary(rest);
                 unary(self.alloc, token.pos, UnaryOperator::Not, operand)
             }
@@ -117,7 +125,9 @@ impl Parser {
         let Some(operator) = sign_in(symbol_in(token.lexeme)) else {
             return self.term(tokens);
         };
-        self.needs(Extent::Objects, tokens)?;
+        if !self.extent.opens(Extent::Objects) {
+            return Err(Fault::Syntax(tokens));
+        }
         unary(self.alloc, token.pos, operator, self.term(rest))
     }
 

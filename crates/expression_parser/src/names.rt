@@ -50,7 +50,9 @@ impl Parser {
     ) -> Result<Option<(Suffix, &'a [Token])>, Fault<'a>>
         ensures { (t : Read) → Is symbol.Tick t → tokens.now ≡ t ∷ rest.now → NextSuffix self.extent tokens.now result }
     {
-        self.needs(Extent::Objects, tokens)?;
+        if !self.extent.opens(Extent::Objects) {
+            return Err(Fault::Syntax(tokens));
+        }
         let (attribute, rest) = self.identifier(rest)?;
         Ok(Some((Suffix::Attribute(attribute), rest)))
     }

@@ -11,7 +11,7 @@ ghost use Rattle.expression_parser.specs.Symbols.{
   second_word_of,
 };
 ghost use Rattle.expression_parser.specs.Shows.{after};
-ghost use Rattle.expression_parser.specs.Operators.{FindsOperator, FindsJoint, FindsChain, behind_operator, extent_of, joining, paired};
+ghost use Rattle.expression_parser.specs.Operators.{Finds, FindsOperator, FindsJoint, FindsChain, behind_operator, extent_of, joining, paired};
 
 use crate::extent::Extent;
 use crate::fault::Fault;
@@ -141,6 +141,27 @@ fn extent_of(operator: LogicalOperator) -> Extent
 }
 
 impl Parser {
+    /// The operator that the first of these tokens is, if it is one, and the tokens behind it. It comes
+    /// with `needed`.
+    fn found<'a, A: Copy>(
+        self,
+        operator: Option<A>,
+        needed: Extent,
+        tokens: &'a [Token],
+        rest: &'a [Token],
+    ) -> Result<Option<(A, &'a [Token])>, Fault<'a>>
+        ensures { Finds operator self.extent needed tokens.now rest.now result }
+    {
+        let Some(operator) = operator else {
+            return Ok(None);
+        };
+        if self.extent.opens(needed) {
+            Ok(Some((operator, rest)))
+        } else {
+            Err(Fault::Syntax(tokens))
+        }
+    }
+
     /// The multiplying operator that stands next, and the tokens behind it.
     pub fn multiplying<'a>(
         self,
@@ -151,11 +172,8 @@ impl Parser {
         let Some((token, rest)) = tokens.split_first() else {
             return Ok(None);
         };
-        let Some(operator) = multiplying_in(symbol_in(token.lexeme)) else {
-            return Ok(None);
-        };
-        self.needs(Extent::Objects, tokens)?;
-        Ok(Some((operator, rest)))
+        let operator = multiplying_in(symbol_in(token.lexeme));
+        self.found(operator, Extent::Objects, tokens, rest)
     }
 
     /// The adding operator that stands next, and the tokens behind it.
@@ -168,11 +186,8 @@ impl Parser {
         let Some((token, rest)) = tokens.split_first() else {
             return Ok(None);
         };
-        let Some(operator) = adding_in(symbol_in(token.lexeme)) else {
-            return Ok(None);
-        };
-        self.needs(Extent::Objects, tokens)?;
-        Ok(Some((operator, rest)))
+        let operator = adding_in(symbol_in(token.lexeme));
+        self.found(operator, Extent::Objects, tokens, rest)
     }
 
     /// The relational operator that stands next, and the tokens behind it.
@@ -185,11 +200,8 @@ impl Parser {
         let Some((token, rest)) = tokens.split_first() else {
             return Ok(None);
         };
-        let Some(operator) = relational_in(symbol_in(token.lexeme)) else {
-            return Ok(None);
-        };
-        self.needs(Extent::Decisions, tokens)?;
-        Ok(Some((operator, rest)))
+        let operator = relational_in(symbol_in(token.lexeme));
+        self.found(operator, Extent::Decisions, tokens, rest)
     }
 
     /// The operator that joins a second relation to a first one, and the tokens behind it.
@@ -205,8 +217,12 @@ impl Parser {
         let Some((operator, after)) = joining(symbol_in(token.lexeme), rest) else {
             return Ok(None);
         };
-        self.needs(Extent::Decisions, tokens)?;
-        self.needs(extent_of(operator), rest)?;
+        if !self.extent.opens(Extent::Decisions) {
+            return Err(Fault::Syntax(tokens));
+        }
+        if !self.extent.opens(extent_of(operator)) {
+            return Err(Fault::Syntax(rest));
+        }
         Ok(Some((operator, after)))
     }
 

@@ -23,13 +23,9 @@ pub struct Parser {
 pub fn word<'a>(wanted: Symbol, tokens: &'a [Token]) -> Result<&'a [Token], Fault<'a>>
     ensures { TakesWord wanted tokens.now result }
 {
-    let Some((token, rest)) = tokens.split_first() else {
-        return Err(Fault::Syntax(tokens));
-    };
-    if symbol_in(token.lexeme) == wanted {
-        Ok(rest)
-    } else {
-        Err(Fault::Syntax(tokens))
+    match behind(wanted, tokens) {
+        Some(rest) => Ok(rest),
+        None => Err(Fault::Syntax(tokens)),
     }
 }
 
@@ -51,7 +47,9 @@ pub fn word_at<'a>(wanted: Symbol, tokens: &'a [Token]) -> Parsed<'a, Pos>
 pub fn behind<'a>(wanted: Symbol, tokens: &'a [Token]) -> Option<&'a [Token]>
     ensures { option_copied result ≡ after wanted tokens.now }
 {
-    let (token, rest) = tokens.split_first()?;
+    let Some((token, rest)) = tokens.split_first() else {
+        return None;
+    };
     if symbol_in(token.lexeme) == wanted {
         Some(rest)
     } else {

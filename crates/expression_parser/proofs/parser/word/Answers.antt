@@ -1,5 +1,9 @@
-use Rattle.std.proofs.Common.{rules}
+use Rattle.std.proofs.Common.{sym}
+use Rattle.expression_parser.proofs.OperatorLaws.{word_taken, no_word}
 use Rattle.expression_parser.proofs.parser.word.Goals as goal
 
-pub returns-then-eq : goal.returns-then-eq
-returns-then-eq c = record { t = c.in-Some.token.now; here = search rules; shorter = search rules }
+pub returns-in-Some : goal.returns-in-Some
+returns-in-Some c = word_taken c.args.wanted c.args.tokens.now c.in-Some.rest.now (sym c.in-Some.ensures)
+
+pub returns-in-None : goal.returns-in-None
+returns-in-None c = no_word c.args.wanted c.args.tokens.now (sym c.in-None.ensures)

@@ -5,7 +5,7 @@ use Rattle.ada_syntax.specs.declared.expr.Operand.{Operand}
 use Rattle.ada_syntax.specs.declared.expr.UnaryOperator.TheVariants as unary_operator
 use Rattle.ada_syntax.proofs.Places.{with_suffixes-push}
 use Rattle.std.proofs.lemmas.Result.{err_from_is_err_and}
-use Rattle.expression_parser.specs.declared.extent.Extent.TheVariants.{Objects, Decisions}
+use Rattle.expression_parser.specs.declared.extent.Extent.TheVariants.{Objects}
 use Rattle.expression_parser.specs.Building.{operated, chained}
 use Rattle.expression_parser.specs.Symbols.{sign_of, multiplying, adding}
 use Rattle.expression_parser.specs.Reading.{Got, Stuck}
@@ -15,72 +15,72 @@ use Rattle.expression_parser.specs.declared.symbol.Symbol.TheVariants as symbol
 use Rattle.expression_parser.proofs.Wholes.{built, made, enclosed, built_below, made_below, enclosed_below, applied_next}
 use Rattle.expression_parser.proofs.NameCode.{after_some, exprs_step, exprs_step_fail, exprs_end, exprs_rules, name_rules, suffix_rules}
 use Rattle.expression_parser.proofs.ExpressionCode.{primary_name_closed, primary_inner_closed, factor_abs_closed, factor_not_closed, signed_closed, primary_name, primary_name_fail, primary_inner, primary_open, primary_inner_fail, factor_abs, factor_abs_fail, factor_not, factor_not_fail, signed_sign, signed_fail, term_begin, term_fail, product_push, product_end, product_fail, product_closed, simple_begin, simple_fail, sum_push, sum_end, sum_fail, sum_closed, relation_two, relation_second_fail, chain_begin, chain_fail, chain_push, chain_step_fail, chain_half, chain_end, expr_chain, expr_rules, factor_rules, primary_rules, signed_rules, relation_rules}
-use Rattle.expression_parser.proofs.Faults.{handed_on, closed_handed_on, shown_as, operator_shown_as, joint_shown_as}
+use Rattle.expression_parser.proofs.Faults.{handed_on, shown_as, operator_shown_as, joint_shown_as}
 use Rattle.expression_parser.proofs.parser.Parser.+expression.Goals as goal
 
 -- names, parentheses and operators before an operand
-pub primary-returns-in_ok-needs-in-Identifier-clause-reads : goal.primary-returns-in_ok-needs-in-Identifier-clause-reads
-primary-returns-in_ok-needs-in-Identifier-clause-reads t c =
+pub primary-returns-else-not-opens-clause-reads : goal.primary-returns-else-not-opens-clause-reads
+primary-returns-else-not-opens-clause-reads t c =
     let x = c.args.self.extent in
     let ts = c.args.tokens.now in
     let u = c.in-Some.token.now in
     let us = c.in-Some.rest.now in
     let is = sym c.symbol_in.ensures ∙ c.in-Identifier.is in
     made (λ n. named u.pos n) (Reads (at.at_name x) ts) (Reads (at.at_primary x) ts) c.name.result c.named.result c.name.ensures.reads c.named.ensures
-    (λ n rest r. rw c.in-Some.ensures.cases.0 (primary_name x u us rest n is c.in_ok-needs-in-Identifier.ensures (rw c.in-Some.ensures.cases.0 at r)))
-    (λ rest r. rw c.in-Some.ensures.cases.0 (primary_name_fail x u us rest is c.in_ok-needs-in-Identifier.ensures (rw c.in-Some.ensures.cases.0 at r)))
+    (λ n rest r. rw c.in-Some.ensures.cases.0 (primary_name x u us rest n is (sym c.opens.ensures ∙ c.if-not-opens.false) (rw c.in-Some.ensures.cases.0 at r)))
+    (λ rest r. rw c.in-Some.ensures.cases.0 (primary_name_fail x u us rest is (sym c.opens.ensures ∙ c.if-not-opens.false) (rw c.in-Some.ensures.cases.0 at r)))
 
-pub primary-returns-in_ok-needs-in-Identifier-clause-shorter : goal.primary-returns-in_ok-needs-in-Identifier-clause-shorter
-primary-returns-in_ok-needs-in-Identifier-clause-shorter t c =
+pub primary-returns-else-not-opens-clause-shorter : goal.primary-returns-else-not-opens-clause-shorter
+primary-returns-else-not-opens-clause-shorter t c =
     let n = length c.args.tokens.now in
     made_below (λ n. named c.in-Some.token.now.pos n) n n (omega arith) c.name.result c.named.result c.name.ensures.shorter c.named.ensures
 
-pub primary-returns-in_ok-needs-in-LeftParenthesis-clause-reads : goal.primary-returns-in_ok-needs-in-LeftParenthesis-clause-reads
-primary-returns-in_ok-needs-in-LeftParenthesis-clause-reads t c =
+pub primary-returns-else-not-opens-2-clause-reads : goal.primary-returns-else-not-opens-2-clause-reads
+primary-returns-else-not-opens-2-clause-reads t c =
     let x = c.args.self.extent in
     let ts = c.args.tokens.now in
     let u = c.in-Some.token.now in
     let us = c.in-Some.rest.now in
     let is = sym c.symbol_in.ensures ∙ c.in-LeftParenthesis.is in
     enclosed (λ e. parenthesized u.pos e) (Reads (at.at_expr x) us) (Reads (at.at_primary x) ts) c.expr.result c.parenthesized.result c.expr.ensures.reads c.parenthesized.ensures
-    (λ e vs rest r k. rw c.in-Some.ensures.cases.0 (primary_inner x u us vs rest e is c.in_ok-needs-in-LeftParenthesis.ensures r k))
-    (λ e vs rest r k. rw c.in-Some.ensures.cases.0 (primary_open x u us vs rest e is c.in_ok-needs-in-LeftParenthesis.ensures r k))
-    (λ rest r. rw c.in-Some.ensures.cases.0 (primary_inner_fail x u us rest is c.in_ok-needs-in-LeftParenthesis.ensures r))
+    (λ e vs rest r k. rw c.in-Some.ensures.cases.0 (primary_inner x u us vs rest e is (sym c.opens-in-LeftParenthesis.ensures ∙ c.if-not-opens-2.false) r k))
+    (λ e vs rest r k. rw c.in-Some.ensures.cases.0 (primary_open x u us vs rest e is (sym c.opens-in-LeftParenthesis.ensures ∙ c.if-not-opens-2.false) r k))
+    (λ rest r. rw c.in-Some.ensures.cases.0 (primary_inner_fail x u us rest is (sym c.opens-in-LeftParenthesis.ensures ∙ c.if-not-opens-2.false) r))
 
-pub primary-returns-in_ok-needs-in-LeftParenthesis-clause-shorter : goal.primary-returns-in_ok-needs-in-LeftParenthesis-clause-shorter
-primary-returns-in_ok-needs-in-LeftParenthesis-clause-shorter t c =
+pub primary-returns-else-not-opens-2-clause-shorter : goal.primary-returns-else-not-opens-2-clause-shorter
+primary-returns-else-not-opens-2-clause-shorter t c =
     enclosed_below (λ e. parenthesized c.in-Some.token.now.pos e) (length c.in-Some.rest.now) (length c.args.tokens.now) (omega (arith, ap length c.in-Some.ensures.cases.0))
     c.expr.result c.parenthesized.result c.expr.ensures.shorter c.parenthesized.ensures
 
-pub factor-returns-in_ok-needs-in-Abs-clause-reads : goal.factor-returns-in_ok-needs-in-Abs-clause-reads
-factor-returns-in_ok-needs-in-Abs-clause-reads t c =
+pub factor-returns-else-not-opens-clause-reads : goal.factor-returns-else-not-opens-clause-reads
+factor-returns-else-not-opens-clause-reads t c =
     let x = c.args.self.extent in
     let ts = c.args.tokens.now in
     let u = c.in-Some.token.now in
     let us = c.in-Some.rest.now in
     let is = sym c.symbol_in.ensures ∙ c.in-Abs.is in
     made (λ e. unary u.pos unary_operator.Abs e) (Reads (at.at_primary x) us) (Reads (at.at_factor x) ts) c.primary-operand.result c.unary.result c.primary-operand.ensures.reads c.unary.ensures
-    (λ e rest r. rw c.in-Some.ensures.cases.0 (factor_abs x u us rest e is c.in_ok-needs-in-Abs.ensures r))
-    (λ rest r. rw c.in-Some.ensures.cases.0 (factor_abs_fail x u us rest is c.in_ok-needs-in-Abs.ensures r))
+    (λ e rest r. rw c.in-Some.ensures.cases.0 (factor_abs x u us rest e is (sym c.opens.ensures ∙ c.if-not-opens.false) r))
+    (λ rest r. rw c.in-Some.ensures.cases.0 (factor_abs_fail x u us rest is (sym c.opens.ensures ∙ c.if-not-opens.false) r))
 
-pub factor-returns-in_ok-needs-in-Abs-clause-shorter : goal.factor-returns-in_ok-needs-in-Abs-clause-shorter
-factor-returns-in_ok-needs-in-Abs-clause-shorter t c =
+pub factor-returns-else-not-opens-clause-shorter : goal.factor-returns-else-not-opens-clause-shorter
+factor-returns-else-not-opens-clause-shorter t c =
     made_below (λ e. unary c.in-Some.token.now.pos unary_operator.Abs e) (length c.in-Some.rest.now) (length c.args.tokens.now) (omega (arith, ap length c.in-Some.ensures.cases.0))
     c.primary-operand.result c.unary.result c.primary-operand.ensures.shorter c.unary.ensures
 
-pub factor-returns-in_ok-needs-in-Not-clause-reads : goal.factor-returns-in_ok-needs-in-Not-clause-reads
-factor-returns-in_ok-needs-in-Not-clause-reads t c =
+pub factor-returns-else-not-opens-2-clause-reads : goal.factor-returns-else-not-opens-2-clause-reads
+factor-returns-else-not-opens-2-clause-reads t c =
     let x = c.args.self.extent in
     let ts = c.args.tokens.now in
     let u = c.in-Some.token.now in
     let us = c.in-Some.rest.now in
     let is = sym c.symbol_in.ensures ∙ c.in-Not.is in
     made (λ e. unary u.pos unary_operator.Not e) (Reads (at.at_primary x) us) (Reads (at.at_factor x) ts) c.primary-operand-in-Not.result c.unary-in-Not.result c.primary-operand-in-Not.ensures.reads c.unary-in-Not.ensures
-    (λ e rest r. rw c.in-Some.ensures.cases.0 (factor_not x u us rest e is c.in_ok-needs-in-Not.ensures r))
-    (λ rest r. rw c.in-Some.ensures.cases.0 (factor_not_fail x u us rest is c.in_ok-needs-in-Not.ensures r))
+    (λ e rest r. rw c.in-Some.ensures.cases.0 (factor_not x u us rest e is (sym c.opens-in-Not.ensures ∙ c.if-not-opens-2.false) r))
+    (λ rest r. rw c.in-Some.ensures.cases.0 (factor_not_fail x u us rest is (sym c.opens-in-Not.ensures ∙ c.if-not-opens-2.false) r))
 
-pub factor-returns-in_ok-needs-in-Not-clause-shorter : goal.factor-returns-in_ok-needs-in-Not-clause-shorter
-factor-returns-in_ok-needs-in-Not-clause-shorter t c =
+pub factor-returns-else-not-opens-2-clause-shorter : goal.factor-returns-else-not-opens-2-clause-shorter
+factor-returns-else-not-opens-2-clause-shorter t c =
     made_below (λ e. unary c.in-Some.token.now.pos unary_operator.Not e) (length c.in-Some.rest.now) (length c.args.tokens.now) (omega (arith, ap length c.in-Some.ensures.cases.0))
     c.primary-operand-in-Not.result c.unary-in-Not.result c.primary-operand-in-Not.ensures.shorter c.unary-in-Not.ensures
 
@@ -93,8 +93,8 @@ signed-returns-clause-reads t c =
     let op = c.in-Some-sign_in.operator in
     let is = ap (λ s. sign_of s) (sym c.symbol_in.ensures) ∙ sym c.in-Some-sign_in.ensures in
     made (λ e. unary u.pos op e) (Reads (at.at_term x) us) (Reads (at.at_signed x) ts) c.term-2.result c.unary.result c.term-2.ensures.reads c.unary.ensures
-    (λ e rest r. rw c.in-Some.ensures.cases.0 (signed_sign x u us rest op e is c.in_ok-needs.ensures r))
-    (λ rest r. rw c.in-Some.ensures.cases.0 (signed_fail x u us rest op is c.in_ok-needs.ensures r))
+    (λ e rest r. rw c.in-Some.ensures.cases.0 (signed_sign x u us rest op e is (sym c.opens.ensures ∙ c.if-not-opens.false) r))
+    (λ rest r. rw c.in-Some.ensures.cases.0 (signed_fail x u us rest op is (sym c.opens.ensures ∙ c.if-not-opens.false) r))
 
 pub signed-returns-clause-shorter : goal.signed-returns-clause-shorter
 signed-returns-clause-shorter t c =
@@ -102,40 +102,25 @@ signed-returns-clause-shorter t c =
     c.term-2.result c.unary.result c.term-2.ensures.shorter c.unary.ensures
 
 -- what is closed
-pub primary-returns-in_err-needs-in-Identifier-clause-reads : goal.primary-returns-in_err-needs-in-Identifier-clause-reads
-primary-returns-in_err-needs-in-Identifier-clause-reads t c =
-    let x = c.args.self.extent in
-    let p = err_from_is_err_and c.from_residual.result c.from_residual.ensures.1 in
-    rw (p.1, p.2) (closed_handed_on (Reads (at.at_primary x) c.args.tokens.now) x Objects c.args.tokens.now c.in_err-needs-in-Identifier.field-0.0 c.in_err-needs-in-Identifier.ensures
-    (λ o. rw c.in-Some.ensures.cases.0 (primary_name_closed x c.in-Some.token.now c.in-Some.rest.now (sym c.symbol_in.ensures ∙ c.in-Identifier.is) o)))
+pub primary-returns-then-not-opens-clause-reads : goal.primary-returns-then-not-opens-clause-reads
+primary-returns-then-not-opens-clause-reads t c =
+    rw c.in-Some.ensures.cases.0 (primary_name_closed c.args.self.extent c.in-Some.token.now c.in-Some.rest.now (sym c.symbol_in.ensures ∙ c.in-Identifier.is) (sym c.opens.ensures ∙ c.if-not-opens.true))
 
-pub primary-returns-in_err-needs-in-LeftParenthesis-clause-reads : goal.primary-returns-in_err-needs-in-LeftParenthesis-clause-reads
-primary-returns-in_err-needs-in-LeftParenthesis-clause-reads t c =
-    let x = c.args.self.extent in
-    let p = err_from_is_err_and c.from_residual-in_err-needs-in-LeftParenthesis.result c.from_residual-in_err-needs-in-LeftParenthesis.ensures.1 in
-    rw (p.1, p.2) (closed_handed_on (Reads (at.at_primary x) c.args.tokens.now) x Objects c.args.tokens.now c.in_err-needs-in-LeftParenthesis.field-0.0 c.in_err-needs-in-LeftParenthesis.ensures
-    (λ o. rw c.in-Some.ensures.cases.0 (primary_inner_closed x c.in-Some.token.now c.in-Some.rest.now (sym c.symbol_in.ensures ∙ c.in-LeftParenthesis.is) o)))
+pub primary-returns-then-not-opens-2-clause-reads : goal.primary-returns-then-not-opens-2-clause-reads
+primary-returns-then-not-opens-2-clause-reads t c =
+    rw c.in-Some.ensures.cases.0 (primary_inner_closed c.args.self.extent c.in-Some.token.now c.in-Some.rest.now (sym c.symbol_in.ensures ∙ c.in-LeftParenthesis.is) (sym c.opens-in-LeftParenthesis.ensures ∙ c.if-not-opens-2.true))
 
-pub factor-returns-in_err-needs-in-Abs-clause-reads : goal.factor-returns-in_err-needs-in-Abs-clause-reads
-factor-returns-in_err-needs-in-Abs-clause-reads t c =
-    let x = c.args.self.extent in
-    let p = err_from_is_err_and c.from_residual.result c.from_residual.ensures.1 in
-    rw (p.1, p.2) (closed_handed_on (Reads (at.at_factor x) c.args.tokens.now) x Objects c.args.tokens.now c.in_err-needs-in-Abs.field-0.0 c.in_err-needs-in-Abs.ensures
-    (λ o. rw c.in-Some.ensures.cases.0 (factor_abs_closed x c.in-Some.token.now c.in-Some.rest.now (sym c.symbol_in.ensures ∙ c.in-Abs.is) o)))
+pub factor-returns-then-not-opens-clause-reads : goal.factor-returns-then-not-opens-clause-reads
+factor-returns-then-not-opens-clause-reads t c =
+    rw c.in-Some.ensures.cases.0 (factor_abs_closed c.args.self.extent c.in-Some.token.now c.in-Some.rest.now (sym c.symbol_in.ensures ∙ c.in-Abs.is) (sym c.opens.ensures ∙ c.if-not-opens.true))
 
-pub factor-returns-in_err-needs-in-Not-clause-reads : goal.factor-returns-in_err-needs-in-Not-clause-reads
-factor-returns-in_err-needs-in-Not-clause-reads t c =
-    let x = c.args.self.extent in
-    let p = err_from_is_err_and c.from_residual-in_err-needs-in-Not.result c.from_residual-in_err-needs-in-Not.ensures.1 in
-    rw (p.1, p.2) (closed_handed_on (Reads (at.at_factor x) c.args.tokens.now) x Decisions c.args.tokens.now c.in_err-needs-in-Not.field-0.0 c.in_err-needs-in-Not.ensures
-    (λ o. rw c.in-Some.ensures.cases.0 (factor_not_closed x c.in-Some.token.now c.in-Some.rest.now (sym c.symbol_in.ensures ∙ c.in-Not.is) o)))
+pub factor-returns-then-not-opens-2-clause-reads : goal.factor-returns-then-not-opens-2-clause-reads
+factor-returns-then-not-opens-2-clause-reads t c =
+    rw c.in-Some.ensures.cases.0 (factor_not_closed c.args.self.extent c.in-Some.token.now c.in-Some.rest.now (sym c.symbol_in.ensures ∙ c.in-Not.is) (sym c.opens-in-Not.ensures ∙ c.if-not-opens-2.true))
 
-pub signed-returns-in_err-needs-clause-reads : goal.signed-returns-in_err-needs-clause-reads
-signed-returns-in_err-needs-clause-reads t c =
-    let x = c.args.self.extent in
-    let p = err_from_is_err_and c.from_residual.result c.from_residual.ensures.1 in
-    rw (p.1, p.2) (closed_handed_on (Reads (at.at_signed x) c.args.tokens.now) x Objects c.args.tokens.now c.in_err-needs.field-0.0 c.in_err-needs.ensures
-    (λ o. rw c.in-Some.ensures.cases.0 (signed_closed x c.in-Some.token.now c.in-Some.rest.now c.in-Some-sign_in.operator (ap (λ s. sign_of s) (sym c.symbol_in.ensures) ∙ sym c.in-Some-sign_in.ensures) o)))
+pub signed-returns-then-not-opens-clause-reads : goal.signed-returns-then-not-opens-clause-reads
+signed-returns-then-not-opens-clause-reads t c =
+    rw c.in-Some.ensures.cases.0 (signed_closed c.args.self.extent c.in-Some.token.now c.in-Some.rest.now c.in-Some-sign_in.operator (ap (λ s. sign_of s) (sym c.symbol_in.ensures) ∙ sym c.in-Some-sign_in.ensures) (sym c.opens.ensures ∙ c.if-not-opens.true))
 
 -- operands of one level
 pub term-returns-clause-reads : goal.term-returns-clause-reads
