@@ -155,3 +155,18 @@ now_goes r k ts us a (Err Memory) h l g = tt
 -- what was read in another form
 pub same_got : {A : Type 0} (a b : A) (us : Tokens) → b ≡ a → Reads (λ m. got a) us (Got b us)
 same_got a b us e = record { by = λ m n. ap (λ z. Got z us) (sym e) }
+
+-- a whole that stands before given words
+module _ {A : Type 0} (a : A) (ts : Bor Tokens) where
+  word_leads : (s : Symbol) (r : Result (A × Bor Tokens) Fault) → Closes s (read_so a ts) r → Leads {B = A} (λ z. z) (closed s (given a)) ts.now r
+  word_leads s r c = closes (λ z. z) (given a) s ts.now (read_so a ts) r (given_leads A a ts) c
+
+  pub before_word : (s : Symbol) (r : Result (A × Bor Tokens) Fault) → Closes s (read_so a ts) r → Shows (Reads (λ m. skip s (got a)) ts.now) r
+  before_word s r c = leads_got (λ z. z) (closed s (given a)) ts.now r (word_leads s r c)
+
+  module _ (s t : Symbol) (p r : Result (A × Bor Tokens) Fault) where
+    pub before_words : Closes s (read_so a ts) p → Closes t p r → Shows (Reads (λ m. skip s (skip t (got a))) ts.now) r
+    before_words c d = leads_got (λ z. z) (closed t (closed s (given a))) ts.now r (closes (λ z. z) (closed s (given a)) t ts.now p r (word_leads s p c) d)
+
+    pub words_below : Closes s (read_so a ts) p → Closes t p r → Below ts.now r
+    words_below c d = closed_below t ts.now p r (within_below ts.now p (closed_below s ts.now (read_so a ts) p (omega arith) c)) d

@@ -19,12 +19,12 @@ use Rattle.expression_parser.specs.declared.extent.Extent.TheVariants.{Objects, 
 use Rattle.expression_parser.specs.Symbols.{symbol_of, Is, same}
 use Rattle.expression_parser.specs.Extents.{opens}
 use Rattle.expression_parser.specs.Reading.{Tokens, Reading, Reader, Got, Stuck, Refuse, Leave, Take, Look, got, goes_on, ◌>>=◌, turned, provided, expect, skip}
-use Rattle.expression_parser.specs.Shows.{Shows, ShowsAs, TakesIdentifier, after, Reads, More, Skipped, next_is}
+use Rattle.expression_parser.specs.Shows.{Shows, ShowsAs, TakesIdentifier, after, Reads, More, next_is}
 use Rattle.declaration_parser.specs.Identifiers.{identifiers_by}
 use Rattle.declaration_parser.specs.SubtypeReading.{initial_by, indication_by, definition_by}
 use Rattle.declaration_parser.specs.Declarations.{declared}
 use Rattle.declaration_parser.specs.DeclarationReading as read
-use Rattle.expression_parser.proofs.Comes.{got_bind, got_then, on_symbol}
+use Rattle.expression_parser.proofs.Comes.{got_then, on_symbol}
 use Rattle.expression_parser.proofs.Loops.{more_end, more_leave, more_look, more_look_stuck}
 use Rattle.std.specs.Prelude.{Result}
 use Rattle.std.specs.Borrow.{Bor}
@@ -117,13 +117,9 @@ module _ (x : Extent) where
       → Reads (read.named_rest_at x is) (t ∷ us) (Stuck rest)
   exception_closed is t us rest i o e = record { by = λ m h. exception_on false is m t us i o ∙ ap Stuck (sym e) }
 
-  pub exception_read : (is : List Identifier) (t : Token) (us rest : Tokens) → Is symbol.Exception t → opens x Exceptions ≡ true → Skipped symbol.Semicolon us rest
-      → Reads (read.named_rest_at x is) (t ∷ us) (Got (declares.Exception is) rest)
-  exception_read is t us rest i o k = record { by = λ m h. exception_on true is m t us i o ∙ got_bind (λ _. got (declares.Exception is)) k.here refl }
-
-  pub exception_fails : (is : List Identifier) (t : Token) (us rest : Tokens) → Is symbol.Exception t → opens x Exceptions ≡ true → expect symbol.Semicolon us ≡ Stuck rest
-      → Reads (read.named_rest_at x is) (t ∷ us) (Stuck rest)
-  exception_fails is t us rest i o e = record { by = λ m h. exception_on true is m t us i o ∙ ap (goes_on (λ _. got (declares.Exception is))) e }
+  pub exception_read : (is : List Identifier) (t : Token) (us : Tokens) (q : Reading DeclarationKind) → Is symbol.Exception t → opens x Exceptions ≡ true → Reads (λ m. skip symbol.Semicolon (got (declares.Exception is))) us q
+      → Reads (read.named_rest_at x is) (t ∷ us) q
+  exception_read is t us q i o h = record { by = λ m n. exception_on true is m t us i o ∙ h.by m (omega arith) }
 
   pub constant_read : (is : List Identifier) (t : Token) (us : Tokens) (q : Reading DeclarationKind) → Is symbol.Constant t → Reads (read.object_at x is constancy.Constant) us q
       → Reads (read.named_rest_at x is) (t ∷ us) q
@@ -281,7 +277,7 @@ module _ (x : Extent) where
 
 pub ruleset initial_part_rules = (initial_part_none, initial_part_read, initial_part_fails)
 
-pub ruleset named_rest_rules = (named_rest_none, exception_closed, exception_read, exception_fails, constant_read, variable_read)
+pub ruleset named_rest_rules = (named_rest_none, exception_closed, exception_read, constant_read, variable_read)
 
 pub ruleset kind_rules = (kind_none, kind_type_closed, kind_type, kind_subtype_closed, kind_subtype, kind_named_closed, kind_named, kind_pragma, kind_pragma_fails, kind_other)
 

@@ -28,10 +28,10 @@ use Rattle.expression_parser.proofs.NameCode.{after_some, after_none}
 use Rattle.std.specs.Prelude.{Result}
 use Rattle.std.specs.Borrow.{Bor}
 use Rattle.expression_parser.specs.declared.fault.Fault.{Fault}
-use Rattle.expression_parser.specs.declared.fault.Fault.TheVariants.{Syntax, Memory}
 use Rattle.expression_parser.proofs.Faults.{failed}
 use Rattle.declaration_parser.specs.Closing.{Closes}
-use Rattle.declaration_parser.proofs.Closings.{read_so, Below, within_below, Leads, leads, closes, stops, goes, named_leads, given_leads, now_goes, read_then, name_then, closed, given}
+use Rattle.declaration_parser.proofs.Closings.{read_so, Below, within_below, closed_below, Leads, leads, leads_got, closes, stops, goes, named_leads, given_leads, now_goes, read_then, name_then, closed, given, shows_as_well, before_words, words_below}
+use Rattle.declaration_parser.proofs.Pairs.{as_well}
 use Rattle.declaration_parser.proofs.ExpressionParts.{gated_open, gated_closed}
 use Rattle.declaration_parser.proofs.Steps.{got_reads, turn_taken}
 
@@ -57,21 +57,13 @@ integer_end i = skip symbol.Box (skip symbol.Semicolon (got (formal.IntegerType 
 abbrev discrete_end : Identifier → Reader FormalKind
 discrete_end i = skip symbol.Box (skip symbol.RightParenthesis (skip symbol.Semicolon (got (formal.DiscreteType i))))
 
-integer_leads : (i : Identifier) (us : Bor Tokens) (p r : Result (Identifier × Bor Tokens) Fault) → Closes symbol.Box (read_so i us) p → Closes symbol.Semicolon p r
-    → Leads {B = FormalKind} (λ z. z) (closed symbol.Semicolon (closed symbol.Box (given i))) us.now r
-integer_leads i us p r b c = closes (λ z. z) (closed symbol.Box (given i)) symbol.Semicolon us.now p r (closes (λ z. z) (given i) symbol.Box us.now (read_so i us) p (given_leads FormalKind i us) b) c
-
 in_range : (i : Identifier) (ts us : Tokens) (q : Reading FormalKind) → after symbol.Range ts ≡ Some us → Reads (λ m. integer_end i) us q → Reads (λ m. read.formal_type_rest i) ts q
 in_range i ts us q a h = turn_taken Refuse (λ m. read.formal_type_turn i) symbol.Range ts us (λ m. integer_end i) q a (λ m t. refl) h
 
-pub type_range : (i : Identifier) (ts : Tokens) (us : Bor Tokens) (p : Result (Identifier × Bor Tokens) Fault) (j : Identifier) (vs : Bor Tokens) → after symbol.Range ts ≡ Some us.now
-    → Closes symbol.Box (read_so i us) p → Closes symbol.Semicolon p (read_so j vs) → Reads (λ m. read.formal_type_rest i) ts (Got (formal.IntegerType j) vs.now)
-type_range i ts us p j vs a b c = in_range i ts us.now (Got (formal.IntegerType j) vs.now) a ((integer_leads i us p (read_so j vs) b c).0 (λ m z. got (formal.IntegerType z)) (Got (formal.IntegerType j) vs.now) (got_reads (formal.IntegerType j) vs.now))
-
-pub type_range_fails : (i : Identifier) (ts : Tokens) (us : Bor Tokens) (p : Result (Identifier × Bor Tokens) Fault) (f : Fault) → after symbol.Range ts ≡ Some us.now
-    → Closes symbol.Box (read_so i us) p → Closes symbol.Semicolon p (failed f) → Shows (Reads (λ m. read.formal_type_rest i) ts) (failed f)
-type_range_fails i ts us p (Syntax rest) a b c = in_range i ts us.now (Stuck rest.now) a (integer_leads i us p (failed (Syntax rest)) b c (λ m z. got (formal.IntegerType z)))
-type_range_fails i ts us p Memory a b c = tt
+pub type_range : (i : Identifier) (ts : Tokens) (us : Bor Tokens) (p r : Result (FormalKind × Bor Tokens) Fault) → after symbol.Range ts ≡ Some us.now
+    → Closes symbol.Box (read_so (formal.IntegerType i) us) p → Closes symbol.Semicolon p r → Shows (Reads (λ m. read.formal_type_rest i) ts) r
+type_range i ts us p r a b c =
+    as_well (Reads (λ m. integer_end i) us.now) (Reads (λ m. read.formal_type_rest i) ts) r (before_words (formal.IntegerType i) us symbol.Box symbol.Semicolon p r b c) (λ q f. in_range i ts us.now q a f)
 
 -- where no range stands next, the parenthesis has to
 in_parentheses : (i : Identifier) (s : Symbol) (t : Token) (us : Tokens) → same s symbol.Range ≡ false
@@ -84,29 +76,29 @@ discrete_next : (i : Identifier) (ts : Tokens) → after symbol.Range ts ≡ Non
 discrete_next i [] a = refl
 discrete_next i (t ∷ us) a = in_parentheses i (symbol_of t.lexeme) t us (after_none symbol.Range t us a).is_not
 
-module _ (i : Identifier) (ts : Bor Tokens) (p1 p2 p3 : Result (Identifier × Bor Tokens) Fault) where
-  discrete_leads : (r : Result (Identifier × Bor Tokens) Fault) → Closes symbol.LeftParenthesis (read_so i ts) p1 → Closes symbol.Box p1 p2 → Closes symbol.RightParenthesis p2 p3 → Closes symbol.Semicolon p3 r
-      → Leads {B = FormalKind} (λ z. z) (closed symbol.Semicolon (closed symbol.RightParenthesis (closed symbol.Box (closed symbol.LeftParenthesis (given i))))) ts.now r
-  discrete_leads r a b c d =
-      closes (λ z. z) (closed symbol.RightParenthesis (closed symbol.Box (closed symbol.LeftParenthesis (given i)))) symbol.Semicolon ts.now p3 r
-      (closes (λ z. z) (closed symbol.Box (closed symbol.LeftParenthesis (given i))) symbol.RightParenthesis ts.now p2 p3
-      (closes (λ z. z) (closed symbol.LeftParenthesis (given i)) symbol.Box ts.now p1 p2
-      (closes (λ z. z) (given i) symbol.LeftParenthesis ts.now (read_so i ts) p1 (given_leads FormalKind i ts) a) b) c) d
+module _ (i : Identifier) (ts : Bor Tokens) (p1 p2 p3 r : Result (FormalKind × Bor Tokens) Fault) where
+  abbrev discrete : FormalKind
+  discrete = formal.DiscreteType i
 
-  pub type_discrete : (j : Identifier) (us : Bor Tokens) → after symbol.Range ts.now ≡ None → Closes symbol.LeftParenthesis (read_so i ts) p1 → Closes symbol.Box p1 p2
-      → Closes symbol.RightParenthesis p2 p3 → Closes symbol.Semicolon p3 (read_so j us)
-      → Reads (λ m. read.formal_type_rest i) ts.now (Got (formal.DiscreteType j) us.now)
-  type_discrete j us n a b c d =
-      let h = (discrete_leads (read_so j us) a b c d).0 (λ m z. got (formal.DiscreteType z)) (Got (formal.DiscreteType j) us.now) (got_reads (formal.DiscreteType j) us.now) in
-      record { by = λ m l. discrete_next i ts.now n ∙ h.by m l }
+  discrete_leads : Closes symbol.LeftParenthesis (read_so discrete ts) p1 → Closes symbol.Box p1 p2 → Closes symbol.RightParenthesis p2 p3 → Closes symbol.Semicolon p3 r
+      → Leads {B = FormalKind} (λ z. z) (closed symbol.Semicolon (closed symbol.RightParenthesis (closed symbol.Box (closed symbol.LeftParenthesis (given discrete))))) ts.now r
+  discrete_leads a b c d =
+      closes (λ z. z) (closed symbol.RightParenthesis (closed symbol.Box (closed symbol.LeftParenthesis (given discrete)))) symbol.Semicolon ts.now p3 r
+      (closes (λ z. z) (closed symbol.Box (closed symbol.LeftParenthesis (given discrete))) symbol.RightParenthesis ts.now p2 p3
+      (closes (λ z. z) (closed symbol.LeftParenthesis (given discrete)) symbol.Box ts.now p1 p2
+      (closes (λ z. z) (given discrete) symbol.LeftParenthesis ts.now (read_so discrete ts) p1 (given_leads FormalKind discrete ts) a) b) c) d
 
-  pub type_discrete_fails : (f : Fault) → after symbol.Range ts.now ≡ None → Closes symbol.LeftParenthesis (read_so i ts) p1 → Closes symbol.Box p1 p2
-      → Closes symbol.RightParenthesis p2 p3 → Closes symbol.Semicolon p3 (failed f)
-      → Shows (Reads (λ m. read.formal_type_rest i) ts.now) (failed f)
-  type_discrete_fails (Syntax rest) n a b c d =
-      let h = discrete_leads (failed (Syntax rest)) a b c d (λ m z. got (formal.DiscreteType z)) in
-      record { by = λ m l. discrete_next i ts.now n ∙ h.by m l }
-  type_discrete_fails Memory n a b c d = tt
+  pub type_discrete : after symbol.Range ts.now ≡ None → Closes symbol.LeftParenthesis (read_so discrete ts) p1 → Closes symbol.Box p1 p2
+      → Closes symbol.RightParenthesis p2 p3 → Closes symbol.Semicolon p3 r
+      → Shows (Reads (λ m. read.formal_type_rest i) ts.now) r
+  type_discrete n a b c d =
+      shows_as_well (λ m. skip symbol.LeftParenthesis (discrete_end i)) (λ m. read.formal_type_rest i) ts.now r (λ m. discrete_next i ts.now n)
+      (leads_got (λ z. z) (closed symbol.Semicolon (closed symbol.RightParenthesis (closed symbol.Box (closed symbol.LeftParenthesis (given discrete))))) ts.now r (discrete_leads a b c d))
+
+  pub discrete_below : Closes symbol.LeftParenthesis (read_so discrete ts) p1 → Closes symbol.Box p1 p2 → Closes symbol.RightParenthesis p2 p3 → Closes symbol.Semicolon p3 r → Below ts.now r
+  discrete_below a b c d =
+      closed_below symbol.Semicolon ts.now p3 r (within_below ts.now p3 (closed_below symbol.RightParenthesis ts.now p2 p3 (within_below ts.now p2
+      (words_below discrete ts symbol.LeftParenthesis symbol.Box p1 p2 a b)) c)) d
 
 pub type_fails_first : (ts : Tokens) (p0 : Result (Identifier × Bor Tokens) Fault) (f : Fault)
     → TakesIdentifier ts p0 → Closes symbol.Is p0 (failed f)

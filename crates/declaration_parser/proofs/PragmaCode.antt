@@ -2,7 +2,7 @@
 use Rattle.std.proofs.Common.{◌≡◌, ℕ, Bool, true, false, List, [], ◌∷◌, Some, None, refl, ap, ◌∙◌, arith}
 use Rattle.ada_lexer.specs.declared.token.Token.{Token}
 use Rattle.ada_syntax.specs.declared.declaration.Pragma.{Pragma}
-use Rattle.ada_syntax.specs.declared.declaration.Pragma.TheVariants.{ExemptOn, ExemptOff}
+use Rattle.ada_syntax.specs.declared.declaration.Pragma.TheVariants.{ExemptOn}
 use Rattle.expression_parser.specs.declared.symbol.Symbol.{Symbol}
 use Rattle.expression_parser.specs.declared.symbol.Symbol.TheVariants as symbol
 use Rattle.expression_parser.specs.declared.extent.Extent.{Extent}
@@ -45,18 +45,6 @@ on_read ts u0 p1 p11 v1 u1 h1 h2 h3 h4 =
     word_goes symbol.Comma (λ m. (expect symbol.Text >>= λ z1. skip symbol.RightParenthesis (skip symbol.Semicolon (got (ExemptOn z1.text))))) ts u0 (read_so (ExemptOn v1) u1) h1 (
     goes (λ z. z) (closed symbol.Semicolon (closed symbol.RightParenthesis text_then)) (λ m z1. got (ExemptOn z1)) u0 v1 u1 (read_so (ExemptOn v1) u1) (closes (λ z. z) (closed symbol.RightParenthesis text_then) symbol.Semicolon u0 p11 (read_so v1 u1) (closes (λ z. z) text_then symbol.RightParenthesis u0 p1 p11 (text_leads (Pragma) u0 p1 h2) h3) h4) (
     got_reads (ExemptOn v1) u1.now))
-
-pub off_read : (ts us rest : Tokens) → Skipped symbol.RightParenthesis ts us → Skipped symbol.Semicolon us rest → Reads (λ m. read.off_by) ts (Got (ExemptOff) rest)
-off_read ts us rest h1 h2 =
-    skip_reads symbol.RightParenthesis (λ m. skip symbol.Semicolon (got (ExemptOff))) ts us (Got (ExemptOff) rest) h1
-    (skip_reads symbol.Semicolon (λ m. got (ExemptOff)) us rest (Got (ExemptOff) rest) h2 (got_reads (ExemptOff) rest))
-
-pub off_fails_first : (ts rest : Tokens) → expect symbol.RightParenthesis ts ≡ Stuck rest → Reads (λ m. read.off_by) ts (Stuck rest)
-off_fails_first ts rest h1 = skip_stuck symbol.RightParenthesis (λ m. skip symbol.Semicolon (got (ExemptOff))) ts rest h1
-
-pub off_fails_second : (ts us rest : Tokens) → Skipped symbol.RightParenthesis ts us → expect symbol.Semicolon us ≡ Stuck rest → Reads (λ m. read.off_by) ts (Stuck rest)
-off_fails_second ts us rest h1 h2 =
-    skip_reads symbol.RightParenthesis (λ m. skip symbol.Semicolon (got (ExemptOff))) ts us (Stuck rest) h1 (skip_stuck symbol.Semicolon (λ m. got (ExemptOff)) us rest h2)
 
 pub exemption_none : Reads (λ m. read.exemption_by) [] (Stuck [])
 exemption_none = record { by = λ m h. refl }
@@ -130,8 +118,6 @@ module _ (x : Extent) where
 
   pub pragma_read : (ts us : Tokens) (q : Reading Pragma) → after symbol.Pragma ts ≡ Some us → opens x Whole ≡ true → Reads (read.annotation_by x) us q → Reads (read.pragma_by x) ts q
   pragma_read ts us q a o h = turn_taken Refuse (read.pragma_turn x) symbol.Pragma ts us (read.annotation_by x) q a (λ m t. pragma_on true m t o) h
-
-pub ruleset off_rules = (off_read, off_fails_first, off_fails_second)
 
 pub ruleset exemption_rules = (exemption_none, exemption_other, exemption_on, exemption_off, exemption_neither)
 

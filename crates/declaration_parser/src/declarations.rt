@@ -12,7 +12,7 @@ use crate::words::{closed_by, identifiers};
 use ada_lexer::Token;
 use ada_syntax::{Constancy, Declaration, DeclarationKind, Identifier, Initial, SubtypeIndication};
 use cov_base::Seq;
-use expression_parser::{Extent, Fault, Parsed, Parser, Symbol, behind, symbol_in, word};
+use expression_parser::{Extent, Fault, Parsed, Parser, Symbol, behind, symbol_in};
 
 /// `[:= init]`
 #[tactic(auto, using(crate::proofs::DeclarationCode::initial_part_rules))]
@@ -71,9 +71,11 @@ fn named_rest<'a>(
     };
     match symbol_in(token.lexeme) {
         Symbol::Exception => {
-            parser.needs(Extent::Exceptions, tokens)?;
-            let rest = word(Symbol::Semicolon, rest)?;
-            Ok((DeclarationKind::Exception(Seq::from(names)), rest))
+            if !parser.extent.opens(Extent::Exceptions) {
+                return Err(Fault::Syntax(tokens));
+            }
+            let kind = DeclarationKind::Exception(Seq::from(names));
+            closed_by(Symbol::Semicolon, Ok((kind, rest)))
         }
         Symbol::Constant => object(parser, names, Constancy::Constant, rest),
         _ => object(parser, names, Constancy::Variable, tokens),
@@ -121,15 +123,21 @@ fn kind<'a>(parser: Parser, tokens: &'a [Token]) -> Parsed<'a, DeclarationKind>
     };
     match symbol_in(token.lexeme) {
         Symbol::Type => {
-            parser.needs(Extent::Types, tokens)?;
+            if !parser.extent.opens(Extent::Types) {
+                return Err(Fault::Syntax(tokens));
+            }
             type_declaration(parser, rest)
         }
         Symbol::Subtype => {
-            parser.needs(Extent::Types, tokens)?;
+            if !parser.extent.opens(Extent::Types) {
+                return Err(Fault::Syntax(tokens));
+            }
             subtype_declaration(parser, rest)
         }
         Symbol::Identifier => {
-            parser.needs(Extent::Objects, tokens)?;
+            if !parser.extent.opens(Extent::Objects) {
+                return Err(Fault::Syntax(tokens));
+            }
             named(parser, tokens)
         }
         Symbol::Pragma => {

@@ -29,15 +29,16 @@ fn formal_type_rest<'a>(name: Identifier, tokens: &'a [Token]) -> Parsed<'a, For
     ensures shorter { IfOk result (λ x. length x.1.now < length tokens.now) }
 {
     if let Some(rest) = behind(Symbol::Range, tokens) {
-        let name = closed_by(Symbol::Box, Ok((name, rest)));
-        let (name, rest) = closed_by(Symbol::Semicolon, name)?;
-        return Ok((FormalKind::IntegerType(name), rest));
+        let kind = closed_by(Symbol::Box, Ok((FormalKind::IntegerType(name), rest)));
+        return closed_by(Symbol::Semicolon, kind);
     }
-    let name = closed_by(Symbol::LeftParenthesis, Ok((name, tokens)));
-    let name = closed_by(Symbol::Box, name);
-    let name = closed_by(Symbol::RightParenthesis, name);
-    let (name, rest) = closed_by(Symbol::Semicolon, name)?;
-    Ok((FormalKind::DiscreteType(name), rest))
+    let kind = closed_by(
+        Symbol::LeftParenthesis,
+        Ok((FormalKind::DiscreteType(name), tokens)),
+    );
+    let kind = closed_by(Symbol::Box, kind);
+    let kind = closed_by(Symbol::RightParenthesis, kind);
+    closed_by(Symbol::Semicolon, kind)
 }
 
 /// `id IS ( <> ) ; | id IS RANGE <> ;` behind `TYPE`
@@ -92,7 +93,9 @@ fn formal_kind<'a>(parser: Parser, tokens: &'a [Token]) -> Parsed<'a, FormalKind
     ensures reads { Shows (Reads (read.formal_kind_by parser.extent) tokens.now) result }
     ensures shorter { IfOk result (λ x. length x.1.now < length tokens.now) }
 {
-    parser.needs(Extent::Generics, tokens)?;
+    if !parser.extent.opens(Extent::Generics) {
+        return Err(Fault::Syntax(tokens));
+    }
     formal_form(parser, tokens)
 }
 

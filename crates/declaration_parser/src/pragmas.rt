@@ -37,14 +37,12 @@ fn exempt_on<'a>(parser: Parser, tokens: &'a [Token]) -> Parsed<'a, Pragma>
 }
 
 /// `) ;` behind `Exempt_Off`
-#[tactic(auto, using(crate::proofs::PragmaCode::off_rules))]
 fn exempt_off<'a>(tokens: &'a [Token]) -> Parsed<'a, Pragma>
     ensures reads { Shows (Reads (λ m. read.off_by) tokens.now) result }
     ensures shorter { IfOk result (λ x. length x.1.now < length tokens.now) }
 {
-    let rest = word(Symbol::RightParenthesis, tokens)?;
-    let rest = word(Symbol::Semicolon, rest)?;
-    Ok((Pragma::ExemptOff, rest))
+    let exemption = closed_by(Symbol::RightParenthesis, Ok((Pragma::ExemptOff, tokens)));
+    closed_by(Symbol::Semicolon, exemption)
 }
 
 /// `Exempt_On , string ) ; | Exempt_Off ) ;`
@@ -91,6 +89,8 @@ pub fn exemption_pragma<'a>(parser: Parser, tokens: &'a [Token]) -> Parsed<'a, P
     let Some(rest) = behind(Symbol::Pragma, tokens) else {
         return Err(Fault::Syntax(tokens));
     };
-    parser.needs(Extent::Whole, tokens)?;
+    if !parser.extent.opens(Extent::Whole) {
+        return Err(Fault::Syntax(tokens));
+    }
     annotation(parser, rest)
 }

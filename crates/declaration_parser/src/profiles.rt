@@ -67,7 +67,9 @@ fn profile<'a>(parser: Parser, tokens: &'a [Token]) -> Parsed<'a, Vec<Parameter>
     let Some(after) = behind(Symbol::LeftParenthesis, tokens) else {
         return Ok((Vec::new(parser.alloc), tokens));
     };
-    parser.needs(Extent::Subprograms, tokens)?;
+    if !parser.extent.opens(Extent::Subprograms) {
+        return Err(Fault::Syntax(tokens));
+    }
     closed_by(Symbol::RightParenthesis, parameters(parser, after))
 }
 
@@ -118,7 +120,9 @@ pub fn specification<'a>(parser: Parser, tokens: &'a [Token]) -> Parsed<'a, Spec
     match symbol_in(token.lexeme) {
         Symbol::Procedure => procedure(parser, token.pos, rest),
         Symbol::Function => {
-            parser.needs(Extent::Subprograms, tokens)?;
+            if !parser.extent.opens(Extent::Subprograms) {
+                return Err(Fault::Syntax(tokens));
+            }
             function(parser, token.pos, rest)
         }
         _ => Err(Fault::Syntax(tokens)),

@@ -41,7 +41,9 @@ pub fn range<'a>(parser: Parser, tokens: &'a [Token]) -> Parsed<'a, DiscreteRang
     ensures reads { Shows (Reads (read.range_by parser.extent) tokens.now) result }
     ensures shorter { IfOk result (λ x. length x.1.now < length tokens.now) }
 {
-    parser.needs(Extent::Types, tokens)?;
+    if !parser.extent.opens(Extent::Types) {
+        return Err(Fault::Syntax(tokens));
+    }
     let (first, rest) = parser.simple(tokens)?;
     let Some(after) = behind(Symbol::DoubleDot, rest) else {
         return mark(first, rest);
@@ -59,7 +61,9 @@ fn constraint<'a>(parser: Parser, tokens: &'a [Token]) -> Parsed<'a, Option<Boun
     let Some(after) = behind(Symbol::Range, tokens) else {
         return Ok((None, tokens));
     };
-    parser.needs(Extent::Types, tokens)?;
+    if !parser.extent.opens(Extent::Types) {
+        return Err(Fault::Syntax(tokens));
+    }
     let (bounds, rest) = bounds(parser, after)?;
     Ok((Some(bounds), rest))
 }
@@ -180,6 +184,8 @@ pub fn definition<'a>(parser: Parser, tokens: &'a [Token]) -> Parsed<'a, TypeDef
     ensures reads { Shows (Reads (read.definition_by parser.extent) tokens.now) result }
     ensures shorter { IfOk result (λ x. length x.1.now < length tokens.now) }
 {
-    parser.needs(Extent::Types, tokens)?;
+    if !parser.extent.opens(Extent::Types) {
+        return Err(Fault::Syntax(tokens));
+    }
     definition_form(parser, tokens)
 }

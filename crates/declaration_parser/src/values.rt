@@ -19,11 +19,15 @@ fn aggregate<'a>(parser: Parser, tokens: &'a [Token]) -> Option<(Pos, &'a [Token
     if !parser.extent.opens(Extent::Types) {
         return None;
     }
-    let (token, rest) = tokens.split_first()?;
+    let Some((token, rest)) = tokens.split_first() else {
+        return None;
+    };
     if symbol_in(token.lexeme) != Symbol::LeftParenthesis {
         return None;
     }
-    let rest = behind(Symbol::Others, rest)?;
+    let Some(rest) = behind(Symbol::Others, rest) else {
+        return None;
+    };
     Some((token.pos, rest))
 }
 

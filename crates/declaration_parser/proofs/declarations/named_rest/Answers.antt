@@ -1,14 +1,14 @@
 use Rattle.ada_syntax.specs.declared.declaration.Constancy.TheVariants as constancy
 use Rattle.expression_parser.specs.declared.symbol.Symbol.TheVariants as symbol
 use Rattle.declaration_parser.specs.DeclarationReading as read
-use Rattle.expression_parser.specs.declared.extent.Extent.TheVariants.{Exceptions}
-use Rattle.expression_parser.proofs.Faults.{closed_handed_on, word_handed_on}
-use Rattle.std.proofs.lemmas.Result.{err_from_is_err_and}
+use Rattle.ada_syntax.specs.declared.declaration.DeclarationKind.TheVariants as declares
+use Rattle.expression_parser.specs.Reading.{got, skip}
+use Rattle.declaration_parser.specs.Closing.{Closes}
 use Rattle.declaration_parser.proofs.Pairs.{as_well}
-use Rattle.declaration_parser.proofs.Closings.{below_behind}
+use Rattle.declaration_parser.proofs.Closings.{read_so, below_behind, closed_below, before_word}
 use Rattle.expression_parser.specs.Shows.{Reads}
-use Rattle.std.proofs.Common.{ap, length, sym, ◌∙◌, ◌∷◌, refl, arith}
-use Rattle.declaration_parser.proofs.DeclarationCode.{named_rest_rules, constant_read, exception_closed, exception_fails}
+use Rattle.std.proofs.Common.{ap, length, sym, ◌∙◌, ◌∷◌, refl, subst, arith}
+use Rattle.declaration_parser.proofs.DeclarationCode.{named_rest_rules, constant_read, exception_closed, exception_read}
 use Rattle.declaration_parser.proofs.declarations.named_rest.Goals as goal
 
 pub returns-in-Constant-clause-reads : goal.returns-in-Constant-clause-reads
@@ -33,36 +33,23 @@ returns-in_default-clause-shorter c = grind (arith, named_rest_rules)
 pub returns-in_default-symbol_in : goal.returns-in_default-symbol_in
 returns-in_default-symbol_in c = grind (arith, named_rest_rules)
 
-pub returns-in_err-needs-in-Exception-clause-reads : goal.returns-in_err-needs-in-Exception-clause-reads
-returns-in_err-needs-in-Exception-clause-reads c =
+pub returns-then-not-opens-clause-reads : goal.returns-then-not-opens-clause-reads
+returns-then-not-opens-clause-reads c =
+    let u = c.in-Some.token.now in
+    let us = c.in-Some.rest.now in
+    rw c.in-Some.ensures.cases.0 (exception_closed c.args.parser.extent c.args.names.items u us (u ∷ us) (sym c.symbol_in.ensures ∙ c.in-Exception.is) (sym c.opens.ensures ∙ c.if-not-opens.true) refl)
+
+pub returns-else-not-opens-clause-reads : goal.returns-else-not-opens-clause-reads
+returns-else-not-opens-clause-reads c =
     let x = c.args.parser.extent in
     let ts = c.args.tokens.now in
     let u = c.in-Some.token.now in
-    let us = c.in-Some.rest.now in
+    let us = c.in-Some.rest in
     let names = c.args.names.items in
-    let is = sym c.symbol_in.ensures ∙ c.in-Exception.is in
-    let p = err_from_is_err_and c.from_residual.result c.from_residual.ensures.1 in
-    rw (p.1, p.2) (closed_handed_on (Reads (read.named_rest_at x names) ts) x Exceptions ts c.in_err-needs-in-Exception.field-0.0 c.in_err-needs-in-Exception.ensures (λ o. rw c.in-Some.ensures.cases.0 (exception_closed x names u us (u ∷ us) is o refl)))
+    let closes = subst (λ z. Closes symbol.Semicolon (read_so (declares.Exception z) us) c.closed_by.result) c.from.ensures c.closed_by.ensures in
+    as_well (Reads (λ m. skip symbol.Semicolon (got (declares.Exception names))) us.now) (Reads (read.named_rest_at x names) ts) c.closed_by.result (before_word (declares.Exception names) us symbol.Semicolon c.closed_by.result closes)
+    (λ q f. rw c.in-Some.ensures.cases.0 (exception_read x names u us.now q (sym c.symbol_in.ensures ∙ c.in-Exception.is) (sym c.opens.ensures ∙ c.if-not-opens.false) f))
 
-pub returns-in_err-needs-in-Exception-clause-shorter : goal.returns-in_err-needs-in-Exception-clause-shorter
-returns-in_err-needs-in-Exception-clause-shorter c = rw ((err_from_is_err_and c.from_residual.result c.from_residual.ensures.1).1) tt
-
-pub returns-in_err-rest-in-Exception-clause-reads : goal.returns-in_err-rest-in-Exception-clause-reads
-returns-in_err-rest-in-Exception-clause-reads c =
-    let x = c.args.parser.extent in
-    let ts = c.args.tokens.now in
-    let u = c.in-Some.token.now in
-    let us = c.in-Some.rest.now in
-    let names = c.args.names.items in
-    let is = sym c.symbol_in.ensures ∙ c.in-Exception.is in
-    let p = err_from_is_err_and c.from_residual-in_err-rest-in-Exception.result c.from_residual-in_err-rest-in-Exception.ensures.1 in
-    rw (p.1, p.2) (word_handed_on (Reads (read.named_rest_at x names) ts) symbol.Semicolon us c.in_err-rest-in-Exception.field-0.0 c.in_err-rest-in-Exception.ensures (λ rest e. rw c.in-Some.ensures.cases.0 (exception_fails x names u us rest is c.in_ok-needs-in-Exception.ensures e)))
-
-pub returns-in_err-rest-in-Exception-clause-shorter : goal.returns-in_err-rest-in-Exception-clause-shorter
-returns-in_err-rest-in-Exception-clause-shorter c = rw ((err_from_is_err_and c.from_residual-in_err-rest-in-Exception.result c.from_residual-in_err-rest-in-Exception.ensures.1).1) tt
-
-pub returns-in_ok-rest-in-Exception-clause-reads : goal.returns-in_ok-rest-in-Exception-clause-reads
-returns-in_ok-rest-in-Exception-clause-reads c = grind (arith, named_rest_rules)
-
-pub returns-in_ok-rest-in-Exception-clause-shorter : goal.returns-in_ok-rest-in-Exception-clause-shorter
-returns-in_ok-rest-in-Exception-clause-shorter c = omega (arith, ap length c.in-Some.ensures.cases.0, c.in_ok-rest-in-Exception.ensures.shorter)
+pub returns-else-not-opens-clause-shorter : goal.returns-else-not-opens-clause-shorter
+returns-else-not-opens-clause-shorter c =
+    closed_below symbol.Semicolon c.args.tokens.now (read_so (declares.Exception c.from.result) c.in-Some.rest) c.closed_by.result (omega (arith, ap length c.in-Some.ensures.cases.0)) c.closed_by.ensures

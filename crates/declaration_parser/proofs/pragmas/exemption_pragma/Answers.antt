@@ -11,5 +11,5 @@ returns-clause-shorter c = grind (arith, pragma_rules)
 pub returns-in_default-clause-reads : goal.returns-in_default-clause-reads
 returns-in_default-clause-reads c = grind (arith, pragma_rules)
 
-pub returns-in_err-needs-clause-reads : goal.returns-in_err-needs-clause-reads
-returns-in_err-needs-clause-reads c = grind (arith, pragma_rules)
+pub returns-then-not-opens-clause-reads : goal.returns-then-not-opens-clause-reads
+returns-then-not-opens-clause-reads c = grind (arith, pragma_rules)

@@ -1,7 +1,4 @@
 use Rattle.declaration_parser.specs.DeclarationReading as read
-use Rattle.expression_parser.specs.declared.extent.Extent.TheVariants.{Subprograms}
-use Rattle.expression_parser.proofs.Faults.{closed_handed_on}
-use Rattle.std.proofs.lemmas.Result.{err_from_is_err_and}
 use Rattle.declaration_parser.proofs.Pairs.{as_well}
 use Rattle.declaration_parser.proofs.Closings.{below_behind}
 use Rattle.expression_parser.specs.Shows.{Reads}
@@ -27,24 +24,20 @@ returns-in_default-clause-reads c = grind (arith, specification_rules)
 pub returns-in_default-symbol_in : goal.returns-in_default-symbol_in
 returns-in_default-symbol_in c = grind (arith, specification_rules)
 
-pub returns-in_err-needs-in-Function-clause-reads : goal.returns-in_err-needs-in-Function-clause-reads
-returns-in_err-needs-in-Function-clause-reads c =
+pub returns-then-not-opens-clause-reads : goal.returns-then-not-opens-clause-reads
+returns-then-not-opens-clause-reads c =
+    let u = c.in-Some.token.now in
+    let us = c.in-Some.rest.now in
+    rw c.in-Some.ensures.cases.0 (specification_closed c.args.parser.extent u us (u ∷ us) (sym c.symbol_in.ensures ∙ c.in-Function.is) (sym c.opens.ensures ∙ c.if-not-opens.true) refl)
+
+pub returns-else-not-opens-clause-reads : goal.returns-else-not-opens-clause-reads
+returns-else-not-opens-clause-reads c =
     let x = c.args.parser.extent in
     let ts = c.args.tokens.now in
     let u = c.in-Some.token.now in
     let us = c.in-Some.rest.now in
     let is = sym c.symbol_in.ensures ∙ c.in-Function.is in
-    let p = err_from_is_err_and c.from_residual.result c.from_residual.ensures.1 in
-    rw (p.1, p.2) (closed_handed_on (Reads (read.specification_by x) ts) x Subprograms ts c.in_err-needs-in-Function.field-0.0 c.in_err-needs-in-Function.ensures (λ o. rw c.in-Some.ensures.cases.0 (specification_closed x u us (u ∷ us) is o refl)))
+    as_well (Reads (read.function_at x u.pos) us) (Reads (read.specification_by x) ts) c.function.result c.function.ensures.reads (λ q f. rw c.in-Some.ensures.cases.0 (specification_function x u us q is (sym c.opens.ensures ∙ c.if-not-opens.false) f))
 
-pub returns-in_ok-needs-in-Function-clause-reads : goal.returns-in_ok-needs-in-Function-clause-reads
-returns-in_ok-needs-in-Function-clause-reads c =
-    let x = c.args.parser.extent in
-    let ts = c.args.tokens.now in
-    let u = c.in-Some.token.now in
-    let us = c.in-Some.rest.now in
-    let is = sym c.symbol_in.ensures ∙ c.in-Function.is in
-    as_well (Reads (read.function_at x u.pos) us) (Reads (read.specification_by x) ts) c.function.result c.function.ensures.reads (λ q f. rw c.in-Some.ensures.cases.0 (specification_function x u us q is c.in_ok-needs-in-Function.ensures f))
-
-pub returns-in_ok-needs-in-Function-clause-shorter : goal.returns-in_ok-needs-in-Function-clause-shorter
-returns-in_ok-needs-in-Function-clause-shorter c = below_behind c.args.tokens.now c.in-Some.rest.now c.function.result (omega (arith, ap length c.in-Some.ensures.cases.0)) c.function.ensures.shorter
+pub returns-else-not-opens-clause-shorter : goal.returns-else-not-opens-clause-shorter
+returns-else-not-opens-clause-shorter c = below_behind c.args.tokens.now c.in-Some.rest.now c.function.result (omega (arith, ap length c.in-Some.ensures.cases.0)) c.function.ensures.shorter

@@ -14,5 +14,5 @@ returns-in_default-clause-reads c = grind (arith, constraint_rules)
 pub returns-in_err-bounds-clause-reads : goal.returns-in_err-bounds-clause-reads
 returns-in_err-bounds-clause-reads c = grind (arith, constraint_rules)
 
-pub returns-in_err-needs-clause-reads : goal.returns-in_err-needs-clause-reads
-returns-in_err-needs-clause-reads c = grind (arith, constraint_rules)
+pub returns-then-not-opens-clause-reads : goal.returns-then-not-opens-clause-reads
+returns-then-not-opens-clause-reads c = grind (arith, constraint_rules)

@@ -5,11 +5,11 @@ use Rattle.declaration_parser.proofs.values.aggregate.Goals as goal
 pub returns : goal.returns
 returns c = grind (arith, aggregate_rules)
 
-pub returns-in_err-rest : goal.returns-in_err-rest
-returns-in_err-rest c = grind (arith, aggregate_rules)
+pub returns-in_default-behind : goal.returns-in_default-behind
+returns-in_default-behind c = grind (arith, aggregate_rules)
 
-pub returns-in_err-token : goal.returns-in_err-token
-returns-in_err-token c = grind (arith, aggregate_rules)
+pub returns-in_default : goal.returns-in_default
+returns-in_default c = grind (arith, aggregate_rules)
 
 pub returns-then-ne : goal.returns-then-ne
 returns-then-ne c = grind (arith, aggregate_rules)
