@@ -80,3 +80,10 @@ pub shown_so : {A C : Type 0} (view : C → A) (P Q : Reading A → Type 0) (r :
 shown_so view P Q (Ok x) h g = g (Got (view x.0) x.1.now) h
 shown_so view P Q (Err (Syntax rest)) h g = g (Stuck rest.now) h
 shown_so view P Q (Err Memory) h g = tt
+
+-- a whole that stands before a word
+pub word_after : {A C : Type 0} (view : C → A) (Q : Reading A → Type 0) (s : Symbol) (a : C) (us : Bor Tokens) (r : Result (C × Bor Tokens) Fault) → Closes s (read_so a us) r
+    → ((rest : Tokens) → Skipped s us.now rest → Q (Got (view a) rest)) → ((rest : Tokens) → expect s us.now ≡ Stuck rest → Q (Stuck rest)) → ShowsAs view Q r
+word_after view Q s a us (Ok y) k g h = subst (λ z. Q (Got (view z) y.1.now)) (sym k.0) (g y.1.now k.1)
+word_after view Q s a us (Err (Syntax rest)) k g h = h rest.now k
+word_after view Q s a us (Err Memory) k g h = tt

@@ -234,8 +234,6 @@ module _ (x : Extent) where
 
 pub ruleset direction_rules = (backward, forward)
 
-pub ruleset null_rules = (null_read, null_open)
-
 pub ruleset choice_rules = (no_choice, other_choice, choice_fail, choice_value, choice_range, choice_range_fail)
 
 pub ruleset choices_rules = (choices_begin, choices_fail, choices_step, choices_step_fail, choices_end)

@@ -1,19 +1,23 @@
 -- How readers go on, when what they met is known; over any readers.
 use Rattle.std.proofs.Common.{◌≡◌, ℕ, zero, suc, ◌<◌, ◌≤◌, [], ◌∷◌, length, Some, None, refl, ap, sym, ◌∙◌, subst, arith}
+use Rattle.std.specs.Prelude.{Result, Ok, Err}
+use Rattle.std.specs.Borrow.{Bor}
 use denote.Enum.Bare.{true_same}
 use Rattle.ada_lexer.specs.declared.token.Token.{Token}
 use Rattle.ada_syntax.specs.StatementTree.{Statement}
+use Rattle.expression_parser.specs.declared.fault.Fault.{Fault}
+use Rattle.expression_parser.specs.declared.fault.Fault.TheVariants.{Syntax, Memory}
 use Rattle.expression_parser.specs.declared.symbol.Symbol.{Symbol}
 use Rattle.expression_parser.specs.declared.symbol.Symbol.TheVariants as symbol
 use Rattle.expression_parser.specs.contracts.symbol.Symbol.{the_type}
 use Rattle.expression_parser.specs.Symbols.{symbol_of}
 use Rattle.expression_parser.specs.Reading.{Tokens, Reading, Reader, Got, Stuck, Turn, Refuse, Leave, Take, Look, got, goes_on, ◌>>=◌, turned, on_token, expect, skip}
-use Rattle.expression_parser.specs.Shows.{Reads, More, Skipped, after}
+use Rattle.expression_parser.specs.Shows.{Reads, More, Skipped, TakesWord, after}
 use Rattle.expression_parser.proofs.Comes.{got_bind, got_then}
 use Rattle.expression_parser.proofs.Loops.{more_end, more_leave, more_take, more_take_stuck}
 use Rattle.expression_parser.proofs.NameCode.{after_some, after_none}
 use Rattle.ada_parser.specs.Lists.{listed, listed_turn, closing, ending}
-use Rattle.ada_parser.specs.Endings.{Closed, NotClosed, Ended, NotEnded}
+use Rattle.ada_parser.specs.Endings.{Closed, NotClosed, Ended, NotEnded, TakesClosing, TakesEnd}
 
 pub both : {A B : Type 0} {r : ℕ → Reader A} {a : A} {ts us : Tokens} {q : Reading B} (k : ℕ → A → Reader B) → Reads r ts (Got a us) → length us ≤ length ts → Reads (λ m. k m a) us q → Reads (λ m. r m >>= k m) ts q
 both k r l f = record { by = λ m h. got_bind (k m) (r.by m h) (f.by m (omega arith)) }
@@ -90,6 +94,11 @@ module _ (s : Symbol) where
   pub open_end : (ts us vs rest : Tokens) → Skipped symbol.End ts us → Skipped s us vs → expect symbol.Semicolon vs ≡ Stuck rest → NotClosed s ts rest
   open_end ts us vs rest a b e = record { by = λ x. got_bind (λ _. skip s (skip symbol.Semicolon (got x))) a.here (got_bind (λ _. skip symbol.Semicolon (got x)) b.here (ap (goes_on (λ _. got x)) e)) }
 
+  pub last_closes : (ts us vs : Tokens) (r : Result (Bor Tokens) Fault) → Skipped symbol.End ts us → Skipped s us vs → TakesWord symbol.Semicolon vs r → TakesClosing s ts r
+  last_closes ts us vs (Ok w) a b h = closes ts us vs w.now a b h
+  last_closes ts us vs (Err (Syntax rest)) a b h = open_end ts us vs rest.now a b h
+  last_closes ts us vs (Err Memory) a b h = tt
+
 pub ends : (ts us rest : Tokens) → Skipped symbol.End ts us → Skipped symbol.Semicolon us rest → Ended ts rest
 ends ts us rest a b = record { by = λ x. got_bind (λ _. skip symbol.Semicolon (got x)) a.here (got_bind (λ _. got x) b.here refl); shorter = omega (arith, a.shorter, b.shorter) }
 
@@ -98,6 +107,11 @@ no_end_word ts rest e = record { by = λ x. ap (goes_on (λ _. skip symbol.Semic
 
 pub no_semicolon : (ts us rest : Tokens) → Skipped symbol.End ts us → expect symbol.Semicolon us ≡ Stuck rest → NotEnded ts rest
 no_semicolon ts us rest a e = record { by = λ x. got_bind (λ _. skip symbol.Semicolon (got x)) a.here (ap (goes_on (λ _. got x)) e) }
+
+pub last_ends : (ts us : Tokens) (r : Result (Bor Tokens) Fault) → Skipped symbol.End ts us → TakesWord symbol.Semicolon us r → TakesEnd ts r
+last_ends ts us (Ok w) a h = ends ts us w.now a h
+last_ends ts us (Err (Syntax rest)) a h = no_semicolon ts us rest.now a h
+last_ends ts us (Err Memory) a h = tt
 
 pub closing_then : {s : Symbol} {ts rest : Tokens} (a : Statement) → Closed s ts rest → Reads (λ m. closing s a) ts (Got a rest)
 closing_then a c = record { by = λ m h. c.by a }
@@ -111,6 +125,6 @@ ending_then a c = record { by = λ m h. c.by a }
 pub no_ending : {ts rest : Tokens} (a : Statement) → NotEnded ts rest → Reads (λ m. ending a) ts (Stuck rest)
 no_ending a c = record { by = λ m h. c.by a }
 
-pub ruleset closing_rules = (closes, no_end, other_end, open_end)
+pub ruleset closing_rules = (no_end, other_end, last_closes)
 
-pub ruleset end_rules = (ends, no_end_word, no_semicolon)
+pub ruleset end_rules = (no_end_word, last_ends)

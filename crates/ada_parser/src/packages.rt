@@ -13,7 +13,7 @@ use ada_syntax::{
 };
 use cov_base::Seq;
 use declaration_parser::{closed_by, formals};
-use expression_parser::{Extent, Parsed, Parser, Symbol, behind};
+use expression_parser::{Extent, Fault, Parsed, Parser, Symbol, behind};
 
 /// `[( expr {, expr} )]`
 fn actuals<'a>(parser: Parser, tokens: &'a [Token]) -> Parsed<'a, Vec<Expr>>
@@ -75,7 +75,9 @@ fn package_or_instance<'a>(
     let Some(after) = behind(Symbol::New, tokens) else {
         return package_rest(parser, None, name, tokens);
     };
-    parser.needs(Extent::Generics, tokens)?;
+    if !parser.extent.opens(Extent::Generics) {
+        return Err(Fault::Syntax(tokens));
+    }
     instance(parser, name, after)
 }
 

@@ -11,7 +11,7 @@ use ada_lexer::Token;
 use ada_syntax::{Direction, Expr, Initial, Name, Statement, StatementKind};
 use cov_base::Pos;
 use declaration_parser::{closed_by, exemption_pragma, initial, paired};
-use expression_parser::{Extent, Fault, Parsed, Parser, Symbol, behind, symbol_in, word};
+use expression_parser::{Extent, Fault, Parsed, Parser, Symbol, behind, symbol_in};
 
 /// `:= init ; | ;` behind a name: what is assigned to it, if it is no call. Assignments come with
 /// [`Extent::Objects`].
@@ -20,12 +20,13 @@ fn name_rest<'a>(parser: Parser, tokens: &'a [Token]) -> Parsed<'a, Option<Initi
     ensures shorter { IfOk result (λ x. length x.1.now < length tokens.now) }
 {
     if let Some(after) = behind(Symbol::Becomes, tokens) {
-        parser.needs(Extent::Objects, tokens)?;
+        if !parser.extent.opens(Extent::Objects) {
+            return Err(Fault::Syntax(tokens));
+        }
         let (value, rest) = closed_by(Symbol::Semicolon, initial(parser, after))?;
         return Ok((Some(value), rest));
     }
-    let rest = word(Symbol::Semicolon, tokens)?;
-    Ok((None, rest))
+    closed_by(Symbol::Semicolon, Ok((None, tokens)))
 }
 
 /// `name := init ; | name ;`
@@ -48,14 +49,12 @@ fn named<'a>(parser: Parser, pos: Pos, tokens: &'a [Token]) -> Parsed<'a, Statem
 }
 
 /// `NULL ;`, behind `NULL`
-#[tactic(auto, using(crate::proofs::SimpleCode::null_rules))]
 fn null<'a>(pos: Pos, tokens: &'a [Token]) -> Parsed<'a, Statement>
     ensures reads { Shows (Reads (at.at_null pos) tokens.now) result }
     ensures shorter { IfOk result (λ x. length x.1.now < length tokens.now) }
 {
-    let rest = word(Symbol::Semicolon, tokens)?;
     let kind = StatementKind::Null;
-    Ok((Statement { pos, kind }, rest))
+    closed_by(Symbol::Semicolon, Ok((Statement { pos, kind }, tokens)))
 }
 
 /// A pragma.
@@ -104,7 +103,9 @@ fn result_value<'a>(parser: Parser, tokens: &'a [Token]) -> Parsed<'a, Option<Ex
     if symbol_in(token.lexeme) == Symbol::Semicolon {
         return Ok((None, tokens));
     }
-    parser.needs(Extent::Subprograms, tokens)?;
+    if !parser.extent.opens(Extent::Subprograms) {
+        return Err(Fault::Syntax(tokens));
+    }
     let (value, rest) = parser.expr(tokens)?;
     Ok((Some(value), rest))
 }
@@ -161,12 +162,16 @@ pub fn simple<'a>(parser: Parser, tokens: &'a [Token]) -> Parsed<'a, Statement>
         Symbol::Identifier => named(parser, pos, tokens),
         Symbol::Pragma => exemption(parser, pos, tokens),
         Symbol::Exit => {
-            parser.needs(Extent::Decisions, tokens)?;
+            if !parser.extent.opens(Extent::Decisions) {
+                return Err(Fault::Syntax(tokens));
+            }
             exit(parser, pos, rest)
         }
         Symbol::Return => returns(parser, pos, rest),
         Symbol::Raise => {
-            parser.needs(Extent::Exceptions, tokens)?;
+            if !parser.extent.opens(Extent::Exceptions) {
+                return Err(Fault::Syntax(tokens));
+            }
             raise(parser, pos, rest)
         }
         _ => Err(Fault::Syntax(tokens)),

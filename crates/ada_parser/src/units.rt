@@ -26,11 +26,15 @@ fn item<'a>(parser: Parser, tokens: &'a [Token]) -> Parsed<'a, LibraryItem>
     };
     match symbol_in(token.lexeme) {
         Symbol::Generic => {
-            parser.needs(Extent::Generics, tokens)?;
+            if !parser.extent.opens(Extent::Generics) {
+                return Err(Fault::Syntax(tokens));
+            }
             generic(parser, rest)
         }
         Symbol::Package => {
-            parser.needs(Extent::Subprograms, tokens)?;
+            if !parser.extent.opens(Extent::Subprograms) {
+                return Err(Fault::Syntax(tokens));
+            }
             package(parser, rest)
         }
         _ => {
@@ -88,7 +92,9 @@ pub fn file<'a>(parser: Parser, tokens: &'a [Token]) -> Result<Vec<Unit>, Fault<
     let mut units = Vec::new(parser.alloc);
     units.push(first)?;
     'rest: while !rest.is_empty() {
-        parser.needs(Extent::Subprograms, rest)?;
+        if !parser.extent.opens(Extent::Subprograms) {
+            return Err(Fault::Syntax(rest));
+        }
         let (unit, next) = unit(parser, rest)?;
         units.push(unit)?;
         rest = next;

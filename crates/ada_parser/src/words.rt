@@ -13,8 +13,7 @@ pub fn closing<'a>(wanted: Symbol, tokens: &'a [Token]) -> Result<&'a [Token], F
 {
     let rest = word(Symbol::End, tokens)?;
     let rest = word(wanted, rest)?;
-    let rest = word(Symbol::Semicolon, rest)?;
-    Ok(rest)
+    word(Symbol::Semicolon, rest)
 }
 
 /// `END ;`
@@ -23,6 +22,5 @@ pub fn end<'a>(tokens: &'a [Token]) -> Result<&'a [Token], Fault<'a>>
     ensures { TakesEnd tokens.now result }
 {
     let rest = word(Symbol::End, tokens)?;
-    let rest = word(Symbol::Semicolon, rest)?;
-    Ok(rest)
+    word(Symbol::Semicolon, rest)
 }

@@ -1,13 +1,10 @@
-use Rattle.std.proofs.Common.{None, ap, length, sym, arith}
-use Rattle.std.proofs.lemmas.Result.{err_from_is_err_and}
+use Rattle.std.proofs.Common.{None, ap, length, sym, ◌∙◌, arith}
 use Rattle.expression_parser.specs.declared.symbol.Symbol.TheVariants as symbol
-use Rattle.expression_parser.specs.declared.extent.Extent.TheVariants.{Generics}
 use Rattle.expression_parser.specs.Shows.{Reads}
 use Rattle.expression_parser.proofs.NameCode.{after_some}
 use Rattle.declaration_parser.proofs.Closings.{below_behind}
 use Rattle.ada_parser.specs.UnitDepth as at
 use Rattle.ada_parser.proofs.Parts.{shown_so}
-use Rattle.ada_parser.proofs.FrontCode.{closed_on}
 use Rattle.ada_parser.proofs.PackageCode.{is_package, is_instance, instance_closed}
 use Rattle.ada_parser.proofs.packages.package_or_instance.Goals as goal
 
@@ -20,22 +17,15 @@ returns-in_default-clause-reads c =
 pub returns-in_default-clause-shorter : goal.returns-in_default-clause-shorter
 returns-in_default-clause-shorter c = c.package_rest.ensures.shorter
 
-pub returns-in_err-needs-clause-reads : goal.returns-in_err-needs-clause-reads
-returns-in_err-needs-clause-reads c =
-    let x = c.args.parser.extent in
-    let ts = c.args.tokens.now in
-    let p = err_from_is_err_and c.from_residual.result c.from_residual.ensures.1 in
-    rw (p.1, p.2) (closed_on (Reads (at.at_package_or_instance x c.args.name) ts) x Generics ts c.in_err-needs.field-0.0 c.in_err-needs.ensures (λ o. instance_closed x c.args.name ts c.in-Some.after.now (sym c.in-Some.ensures) o))
-
-pub returns-in_err-needs-clause-shorter : goal.returns-in_err-needs-clause-shorter
-returns-in_err-needs-clause-shorter c = rw ((err_from_is_err_and c.from_residual.result c.from_residual.ensures.1).1) tt
+pub returns-then-not-opens-clause-reads : goal.returns-then-not-opens-clause-reads
+returns-then-not-opens-clause-reads c = instance_closed c.args.parser.extent c.args.name c.args.tokens.now c.in-Some.after.now (sym c.in-Some.ensures) (sym c.opens.ensures ∙ c.if-not-opens.true)
 
 pub returns-clause-reads : goal.returns-clause-reads
 returns-clause-reads c =
     let x = c.args.parser.extent in
     let ts = c.args.tokens.now in
     let us = c.in-Some.after.now in
-    shown_so (λ z. z) (Reads (at.at_instance x c.args.name) us) (Reads (at.at_package_or_instance x c.args.name) ts) c.instance.result c.instance.ensures.reads (λ q. is_instance x c.args.name ts us q (sym c.in-Some.ensures) c.in_ok-needs.ensures)
+    shown_so (λ z. z) (Reads (at.at_instance x c.args.name) us) (Reads (at.at_package_or_instance x c.args.name) ts) c.instance.result c.instance.ensures.reads (λ q. is_instance x c.args.name ts us q (sym c.in-Some.ensures) (sym c.opens.ensures ∙ c.if-not-opens.false))
 
 pub returns-clause-shorter : goal.returns-clause-shorter
 returns-clause-shorter c =

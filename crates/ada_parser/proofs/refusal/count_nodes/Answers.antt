@@ -1,4 +1,4 @@
-use Rattle.std.proofs.Common.{◌≡◌, ap, ◌∙◌, sum_by}
+use Rattle.std.proofs.Common.{ap, ◌∙◌, sum_by}
 use Rattle.ada_syntax.specs.Nodes.{capped, unit_nodes}
 use Rattle.ada_parser.proofs.refusal.count_nodes.Goals as goal
 

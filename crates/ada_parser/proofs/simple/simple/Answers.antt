@@ -1,11 +1,8 @@
 use Rattle.std.proofs.Common.{ap, length, sym, ◌∙◌, arith}
-use Rattle.std.proofs.lemmas.Result.{err_from_is_err_and}
-use Rattle.expression_parser.specs.declared.extent.Extent.TheVariants.{Decisions, Exceptions}
 use Rattle.expression_parser.specs.Shows.{Reads}
 use Rattle.declaration_parser.proofs.Closings.{below_behind}
 use Rattle.ada_parser.specs.SimpleReading.{at_simple}
 use Rattle.ada_parser.specs.StatementDepth as at
-use Rattle.ada_parser.proofs.FrontCode.{closed_on}
 use Rattle.ada_parser.proofs.Parts.{shown_so}
 use Rattle.ada_parser.proofs.SimpleStatementCode.{a_null, a_name, a_pragma, an_exit, exit_closed, a_return, a_raise, raise_closed, simple_rules}
 use Rattle.ada_parser.proofs.simple.simple.Goals as goal
@@ -58,49 +55,37 @@ returns-in-Return-clause-reads c =
 pub returns-in-Return-clause-shorter : goal.returns-in-Return-clause-shorter
 returns-in-Return-clause-shorter c = below_behind c.args.tokens.now c.in-Some.rest.now c.returns.result (omega (arith, ap length c.in-Some.ensures.cases.0)) c.returns.ensures.shorter
 
-pub returns-in_err-needs-in-Exit-clause-reads : goal.returns-in_err-needs-in-Exit-clause-reads
-returns-in_err-needs-in-Exit-clause-reads c =
+pub returns-then-not-opens-clause-reads : goal.returns-then-not-opens-clause-reads
+returns-then-not-opens-clause-reads c =
+    rw c.in-Some.ensures.cases.0 (exit_closed c.args.parser.extent c.in-Some.token.now c.in-Some.rest.now (sym c.symbol_in.ensures ∙ c.in-Exit.is) (sym c.opens.ensures ∙ c.if-not-opens.true))
+
+pub returns-else-not-opens-clause-reads : goal.returns-else-not-opens-clause-reads
+returns-else-not-opens-clause-reads c =
     let x = c.args.parser.extent in
     let ts = c.args.tokens.now in
     let u = c.in-Some.token.now in
     let us = c.in-Some.rest.now in
     let is = sym c.symbol_in.ensures ∙ c.in-Exit.is in
-    let p = err_from_is_err_and c.from_residual.result c.from_residual.ensures.1 in
-    rw (p.1, p.2) (closed_on (Reads (at_simple x) ts) x Decisions ts c.in_err-needs-in-Exit.field-0.0 c.in_err-needs-in-Exit.ensures (λ o. rw c.in-Some.ensures.cases.0 (exit_closed x u us is o)))
+    shown_so (λ z. z) (Reads (at.at_exit x u.pos) us) (Reads (at_simple x) ts) c.exit.result c.exit.ensures.reads (λ q f. rw c.in-Some.ensures.cases.0 (an_exit x u us q is (sym c.opens.ensures ∙ c.if-not-opens.false) f))
 
-pub returns-in_ok-needs-in-Exit-clause-reads : goal.returns-in_ok-needs-in-Exit-clause-reads
-returns-in_ok-needs-in-Exit-clause-reads c =
-    let x = c.args.parser.extent in
-    let ts = c.args.tokens.now in
-    let u = c.in-Some.token.now in
-    let us = c.in-Some.rest.now in
-    let is = sym c.symbol_in.ensures ∙ c.in-Exit.is in
-    shown_so (λ z. z) (Reads (at.at_exit x u.pos) us) (Reads (at_simple x) ts) c.exit.result c.exit.ensures.reads (λ q f. rw c.in-Some.ensures.cases.0 (an_exit x u us q is c.in_ok-needs-in-Exit.ensures f))
+pub returns-else-not-opens-clause-shorter : goal.returns-else-not-opens-clause-shorter
+returns-else-not-opens-clause-shorter c = below_behind c.args.tokens.now c.in-Some.rest.now c.exit.result (omega (arith, ap length c.in-Some.ensures.cases.0)) c.exit.ensures.shorter
 
-pub returns-in_ok-needs-in-Exit-clause-shorter : goal.returns-in_ok-needs-in-Exit-clause-shorter
-returns-in_ok-needs-in-Exit-clause-shorter c = below_behind c.args.tokens.now c.in-Some.rest.now c.exit.result (omega (arith, ap length c.in-Some.ensures.cases.0)) c.exit.ensures.shorter
+pub returns-then-not-opens-2-clause-reads : goal.returns-then-not-opens-2-clause-reads
+returns-then-not-opens-2-clause-reads c =
+    rw c.in-Some.ensures.cases.0 (raise_closed c.args.parser.extent c.in-Some.token.now c.in-Some.rest.now (sym c.symbol_in.ensures ∙ c.in-Raise.is) (sym c.opens-in-Raise.ensures ∙ c.if-not-opens-2.true))
 
-pub returns-in_err-needs-in-Raise-clause-reads : goal.returns-in_err-needs-in-Raise-clause-reads
-returns-in_err-needs-in-Raise-clause-reads c =
+pub returns-else-not-opens-2-clause-reads : goal.returns-else-not-opens-2-clause-reads
+returns-else-not-opens-2-clause-reads c =
     let x = c.args.parser.extent in
     let ts = c.args.tokens.now in
     let u = c.in-Some.token.now in
     let us = c.in-Some.rest.now in
     let is = sym c.symbol_in.ensures ∙ c.in-Raise.is in
-    let p = err_from_is_err_and c.from_residual-in_err-needs-in-Raise.result c.from_residual-in_err-needs-in-Raise.ensures.1 in
-    rw (p.1, p.2) (closed_on (Reads (at_simple x) ts) x Exceptions ts c.in_err-needs-in-Raise.field-0.0 c.in_err-needs-in-Raise.ensures (λ o. rw c.in-Some.ensures.cases.0 (raise_closed x u us is o)))
+    shown_so (λ z. z) (Reads (at.at_raise x u.pos) us) (Reads (at_simple x) ts) c.raise.result c.raise.ensures.reads (λ q f. rw c.in-Some.ensures.cases.0 (a_raise x u us q is (sym c.opens-in-Raise.ensures ∙ c.if-not-opens-2.false) f))
 
-pub returns-in_ok-needs-in-Raise-clause-reads : goal.returns-in_ok-needs-in-Raise-clause-reads
-returns-in_ok-needs-in-Raise-clause-reads c =
-    let x = c.args.parser.extent in
-    let ts = c.args.tokens.now in
-    let u = c.in-Some.token.now in
-    let us = c.in-Some.rest.now in
-    let is = sym c.symbol_in.ensures ∙ c.in-Raise.is in
-    shown_so (λ z. z) (Reads (at.at_raise x u.pos) us) (Reads (at_simple x) ts) c.raise.result c.raise.ensures.reads (λ q f. rw c.in-Some.ensures.cases.0 (a_raise x u us q is c.in_ok-needs-in-Raise.ensures f))
-
-pub returns-in_ok-needs-in-Raise-clause-shorter : goal.returns-in_ok-needs-in-Raise-clause-shorter
-returns-in_ok-needs-in-Raise-clause-shorter c = below_behind c.args.tokens.now c.in-Some.rest.now c.raise.result (omega (arith, ap length c.in-Some.ensures.cases.0)) c.raise.ensures.shorter
+pub returns-else-not-opens-2-clause-shorter : goal.returns-else-not-opens-2-clause-shorter
+returns-else-not-opens-2-clause-shorter c = below_behind c.args.tokens.now c.in-Some.rest.now c.raise.result (omega (arith, ap length c.in-Some.ensures.cases.0)) c.raise.ensures.shorter
 
 pub returns-in_default-symbol_in : goal.returns-in_default-symbol_in
 returns-in_default-symbol_in c = grind (arith, simple_rules)

@@ -1,4 +1,4 @@
-use Rattle.std.proofs.Common.{◌≡◌, List, [], length, subst, arith}
+use Rattle.std.proofs.Common.{◌≡◌, List, [], length, sym, ◌∙◌, subst, arith}
 use Rattle.std.proofs.lemmas.Bool.Decides.{nat_tests}
 use Rattle.ada_syntax.specs.declared.unit.Unit.{Unit as LibraryUnit}
 use Rattle.ada_parser.specs.UnitReading as read
@@ -13,7 +13,7 @@ rest-preserved c =
     record {
       reads = λ q f.
           c.rest.invariant.reads q
-          (file_step x c.rest.rest.now c.in_ok-unit.next.now c.rest.units.items c.in_ok-unit.unit c.in_ok-needs.ensures c.in_ok-unit.ensures.reads c.in_ok-unit.ensures.shorter q
+          (file_step x c.rest.rest.now c.in_ok-unit.next.now c.rest.units.items c.in_ok-unit.unit (sym c.opens.ensures ∙ c.if-not-opens.false) c.in_ok-unit.ensures.reads c.in_ok-unit.ensures.shorter q
           (subst (λ (z : List LibraryUnit). More (read.units_turn x) c.in_ok-unit.next.now z q) c.in_ok-push-2.ensures.items f));
       shorter = omega (arith, c.rest.invariant.shorter, c.in_ok-unit.ensures.shorter);
     }
@@ -26,8 +26,8 @@ returns c =
 pub rest-init : goal.rest-init
 rest-init c = grind (arith, file_rules)
 
-pub returns-in_err-needs : goal.returns-in_err-needs
-returns-in_err-needs c = grind (arith, file_rules)
+pub returns-then-not-opens : goal.returns-then-not-opens
+returns-then-not-opens c = grind (arith, file_rules)
 
 pub returns-in_err-unit : goal.returns-in_err-unit
 returns-in_err-unit c = grind (arith, file_rules)
