@@ -1,6 +1,7 @@
 //! How many calls have failed.
 
-ghost use Rattle.std.specs.Prelude.{◌≡◌, ◌+◌, ◌-◌, ◌^◌, ◌≤◌, min};
+ghost use Rattle.std.specs.Prelude.{◌≡◌, ◌≢◌, ◌+◌, ◌-◌, ◌^◌, ◌≤◌, min, [], OnOk, OnErr, IsErrOf};
+ghost use Rattle.cov_io.specs.Outside.{Rose};
 
 use crate::files::FileFault;
 
@@ -21,6 +22,33 @@ impl FaultCounts {
     {
         self.reads = self.reads.saturating_add(1);
         FileFault::Failed
+    }
+
+    /// Answers how a read ended. One that did not give its bytes leaves none, and one that failed is counted.
+    pub fn end_read(
+        &mut self,
+        outcome: Result<(), FileFault>,
+        into: &mut Vec<u8>,
+    ) -> Result<(), FileFault>
+        ensures same { result ≡ outcome }
+        ensures ok { OnOk result (into.new.items ≡ into.old.items) }
+        ensures err { OnErr result (into.new.items ≡ []) }
+        ensures failed { IsErrOf result FileFault.Failed → Rose self.old.reads self.new.reads }
+        ensures stays { result ≢ Err FileFault.Failed → self.new.reads ≡ self.old.reads }
+        ensures later { self.old.reads ≤ self.new.reads }
+        ensures writes { self.new.writes ≡ self.old.writes }
+    {
+        match outcome {
+            Ok(()) => Ok(()),
+            Err(FileFault::Failed) => {
+                into.clear();
+                Err(self.fail_read())
+            }
+            Err(FileFault::NoMemory) => {
+                into.clear();
+                Err(FileFault::NoMemory)
+            }
+        }
     }
 
     /// Counts a write that failed, and answers its fault.

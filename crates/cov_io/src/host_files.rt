@@ -47,17 +47,7 @@ impl<R: rt::Files + Drop> Files for HostFiles<R> {
             Ok(mut file) => read_to_end(&mut file, into),
             Err(_) => Err(FileFault::Failed),
         };
-        match outcome {
-            Ok(()) => Ok(()),
-            Err(FileFault::Failed) => {
-                into.clear();
-                Err(self.faults.fail_read())
-            }
-            Err(FileFault::NoMemory) => {
-                into.clear();
-                Err(FileFault::NoMemory)
-            }
-        }
+        self.faults.end_read(outcome, into)
     }
 
     fn read_part(
@@ -72,17 +62,7 @@ impl<R: rt::Files + Drop> Files for HostFiles<R> {
             Ok(mut file) => read_once(&mut file, from, most, into),
             Err(_) => Err(FileFault::Failed),
         };
-        match outcome {
-            Ok(()) => Ok(()),
-            Err(FileFault::Failed) => {
-                into.clear();
-                Err(self.faults.fail_read())
-            }
-            Err(FileFault::NoMemory) => {
-                into.clear();
-                Err(FileFault::NoMemory)
-            }
-        }
+        self.faults.end_read(outcome, into)
     }
 
     fn write(&mut self, name: &str, bytes: &[u8]) -> Result<(), FileFault> {

@@ -1,0 +1,5 @@
+use Rattle.std.proofs.Common.{rules}
+use Rattle.cov_io.proofs.host_files.HostFilesFiles.read_part.Goals as goal
+
+pub returns : goal.returns
+returns g c = search rules
