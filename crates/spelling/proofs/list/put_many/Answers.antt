@@ -1,8 +1,8 @@
 use Rattle.std.proofs.lemmas.Grind.{common_steps}
 use Rattle.std.proofs.Common.{◌++◌, ◌∷◌, ◌∙◌, [], All, arith, take, sym, ap, subst}
 use Rattle.std.specs.List.{flat_map}
-use Rattle.std.proofs.lemmas.List.{take_more, flat_map_more}
-use Rattle.std.proofs.lemmas.List.Elements.{All-push}
+use Rattle.std.proofs.lemmas.List.{take_all, take_more, flat_map_more}
+use Rattle.std.proofs.lemmas.List.Elements.{All-push, recursion_from_All}
 use Rattle.spelling.proofs.list.put_many.Goals as goal
 
 -- the values so far, and one more
@@ -21,3 +21,8 @@ loop-value-preserved g c =
 
 pub returns-clause-spelled : goal.returns-clause-spelled
 returns-clause-spelled c = grind (arith, common_steps) steps 2000000
+
+pub returns-clause-fits : goal.returns-clause-fits
+returns-clause-fits g c =
+    let all = take_all c.loop-value.value-index c.args.values.now c.loop-value-test.false in
+    recursion_from_All g.T.Formatted.format.Fits c.args.values.now (subst (All g.T.Formatted.format.Fits) all c.loop-value.invariant.fits)
