@@ -44,6 +44,25 @@ pos_after-pos-requires-in-Some-Token-clause-column c =
     let fits : n ≤ length c.loop-rest.rest.now = rw c.in-Some-Token.field-0-is at c.in-Some-Token.ensures.within in
     rw c.split_at-in-Some-Token.ensures.front_len (col_fits c.args.file c.args.source.now c.loop-rest.from n c.loop-rest.pos at.place (IsAt-within at n fits) c.requires)
 
+pub overflow_cast-from-in-Some-Token : goal.overflow_cast-from-in-Some-Token
+overflow_cast-from-in-Some-Token c =
+    let n = c.in-Some-Token.length in
+    let fits : n ≤ length c.loop-rest.rest.now = rw c.in-Some-Token.field-0-is at c.in-Some-Token.ensures.within in
+    omega (arith, IsAt-within c.loop-rest.invariant n fits, c.requires)
+
+pub overflow_add-from-in-Some-Token : goal.overflow_add-from-in-Some-Token
+overflow_add-from-in-Some-Token c =
+    let n = c.in-Some-Token.length in
+    let fits : n ≤ length c.loop-rest.rest.now = rw c.in-Some-Token.field-0-is at c.in-Some-Token.ensures.within in
+    omega (arith, IsAt-within c.loop-rest.invariant n fits, c.requires)
+
+pub loop-rest-smaller : goal.loop-rest-smaller
+loop-rest-smaller c =
+    let n = c.in-Some-Token.length in
+    let some : 0 < n = rw c.in-Some-Token.field-0-is at c.in-Some-Token.ensures.some in
+    let fits : n ≤ length c.loop-rest.rest.now = rw c.in-Some-Token.field-0-is at c.in-Some-Token.ensures.within in
+    omega (arith, some, fits, c.split_at-in-Some-Token.ensures.back_len)
+
 pub loop-rest-preserved : goal.loop-rest-preserved
 loop-rest-preserved c =
     let n = c.in-Some-Token.length in
