@@ -1,3 +1,5 @@
+use Rattle.std.proofs.Common.{arith}
+use Rattle.std.proofs.lemmas.Grind.{common_steps}
 use Rattle.std.proofs.lemmas.Result.{err_from_is_err_and}
 use Rattle.spelling.specs.Format.{read_many}
 use Rattle.spelling.proofs.Loop.{goes_on, ends, is_done}
@@ -18,3 +20,6 @@ pub returns : goal.returns
 returns g c =
     let read = g.T.Stored.format.read in
     is_done read c.loop.values.items c.args.count c.loop.counter c.loop.rest.now (read_many read c.args.count c.args.bytes.now) c.loop-test.false c.loop.invariant
+
+pub loop-init : goal.loop-init
+loop-init g c = grind (arith, common_steps)

@@ -6,3 +6,12 @@ use Rattle.object_format.proofs.layout.parts.put_parts.Goals as goal
 pub returns-clause-appends : goal.returns-clause-appends
 unfolding parts to_cover
 returns-clause-appends c = grind (arith, common_steps)
+
+pub put_list-requires-2 : goal.put_list-requires-2
+put_list-requires-2 c = grind (arith, common_steps)
+
+pub write-requires-2 : goal.write-requires-2
+write-requires-2 c = grind (arith, common_steps)
+
+pub put_list-requires : goal.put_list-requires
+put_list-requires c = grind (arith, common_steps)
