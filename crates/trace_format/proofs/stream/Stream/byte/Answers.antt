@@ -16,3 +16,6 @@ returns-clause-takes g c = λ bytes taken told stands small.
     let f = c.in_ok-fetch.ensures.fetches bytes taken told stands small in
     let e : slice_get c.fetch.new.self.part.items c.fetch.new.self.at ≡ Some c.index-byte.result.now = slice_get_read c.fetch.new.self.part.items _ c.fetch.new.self.at _ refl (omega (arith, c.if-self-len.false, c.len.ensures)) (search rules) in
     (sym (next_byte c.fetch.new.self bytes taken _ f.0 e), byte_taken c.fetch.new.self _ bytes taken _ f.0 e refl refl refl refl)
+
+pub returns-in_err-fetch : goal.returns-in_err-fetch
+returns-in_err-fetch g = search rules

@@ -1,3 +1,4 @@
+use Rattle.std.proofs.lemmas.Grind.{common_steps}
 use Rattle.std.proofs.Common.{◌≡◌, ℕ, ◌+◌, ◌<◌, length, sym, ap, subst, ◌∙◌, arith, rules}
 use Rattle.std.proofs.lemmas.List.{length-set}
 use Rattle.trace_format.specs.Stream.{StandsAt, count_of}
@@ -26,3 +27,27 @@ loop-place-preserved g c =
       (search rules),
       (search rules),
     )
+
+pub returns-in_default-clause-failed : goal.returns-in_default-clause-failed
+returns-in_default-clause-failed g c = grind (arith, common_steps)
+
+pub returns-in_default-clause-stays : goal.returns-in_default-clause-stays
+returns-in_default-clause-stays g c = grind (arith, common_steps)
+
+pub returns-in_default-clause-same : goal.returns-in_default-clause-same
+returns-in_default-clause-same g c = grind (arith, common_steps)
+
+pub returns-in_default-clause-len : goal.returns-in_default-clause-len
+returns-in_default-clause-len g c = grind (arith, common_steps)
+
+pub bounds-into-place : goal.bounds-into-place
+bounds-into-place g c = grind (arith, common_steps)
+
+pub loop-place-init : goal.loop-place-init
+loop-place-init g c = grind (arith, common_steps)
+
+pub returns-then-take_ahead : goal.returns-then-take_ahead
+returns-then-take_ahead g c = record { takes = grind (arith, common_steps); count = search rules; len = search rules; name = search rules; same = search rules; failed = search rules; stays = search rules; later = search rules; writes = search rules }
+
+pub returns : goal.returns
+returns g c = record { takes = grind (arith, common_steps); count = search rules; len = search rules; name = search rules; same = search rules; failed = search rules; stays = search rules; later = search rules; writes = search rules }
