@@ -1,3 +1,4 @@
+use Rattle.std.proofs.lemmas.Grind.{common_steps}
 use Rattle.std.proofs.Common.{◌≡◌, true, sym, subst, arith}
 use Rattle.std.proofs.lemmas.Bool.Decides.{nat_tests}
 use Rattle.decision_map.specs.Decisions.{expression_at}
@@ -22,3 +23,9 @@ returns c =
       },
       λ is. (c.is_path.ensures.exact (expression_at c.args.map.now c.args.entry.now.decision.0) c.graph.ensures.exact).1 (subst (λ g. IsPathVector g v) (sym c.graph.ensures.exact) is.path),
     )
+
+pub graph-requires : goal.graph-requires
+graph-requires c = grind (arith, common_steps)
+
+pub returns-then-decision-len : goal.returns-then-decision-len
+returns-then-decision-len c = grind (arith, common_steps)

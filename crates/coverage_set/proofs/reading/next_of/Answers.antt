@@ -1,3 +1,4 @@
+use Rattle.std.proofs.Common.{rules}
 use Rattle.coverage_set.proofs.reading.next_of.Goals as goal
 
 pub returns-in-Ok-Some-clause-gives : goal.returns-in-Ok-Some-clause-gives
@@ -8,3 +9,6 @@ returns-in-Ok-Some-clause-gives g c = record {
   reads = rw c.in-Ok-Some.field-0-is at c.in-Ok-Some.ensures.answers;
   name = c.in-Ok-Some.ensures.name;
 }
+
+pub returns-in-Err : goal.returns-in-Err
+returns-in-Err g = search rules

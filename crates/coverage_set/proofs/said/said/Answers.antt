@@ -1,3 +1,5 @@
+use Rattle.std.proofs.Common.{arith}
+use Rattle.std.proofs.lemmas.Grind.{common_steps}
 use Rattle.std.proofs.Common.{◌≡◌, ◌↔◌, ◌⊎◌, List, [], ap, subst, ◌∙◌}
 use Rattle.cov_base.specs.declared.event.Event.{Event}
 use Rattle.cov_base.specs.Lists.{Somewhere}
@@ -29,3 +31,9 @@ returns-clause-said c =
     (subst (Added c.add_all.new.self c.add_all-2.new.self) starts c.in_ok-add_all-2.ensures)
     c.into_set.ensures
     (said_law o c.requires.sound t c.requires.kept c.in_ok-flagged.flagged.items c.in_ok-flagged.ensures.said)
+
+pub starts_in-requires : goal.starts_in-requires
+starts_in-requires c = grind (arith, common_steps)
+
+pub returns-clause-follow : goal.returns-clause-follow
+returns-clause-follow c = grind (arith, common_steps)

@@ -7,3 +7,6 @@ loop-item-preserved g c = grind (arith, common_steps) steps 2000000
 
 pub returns : goal.returns
 returns g c = grind (arith, common_steps) steps 2000000
+
+pub loop-item-init : goal.loop-item-init
+loop-item-init g c = grind (arith, common_steps)

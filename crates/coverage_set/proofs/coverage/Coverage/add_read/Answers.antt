@@ -1,3 +1,5 @@
+use Rattle.std.proofs.Common.{rules, arith}
+use Rattle.std.proofs.lemmas.Grind.{common_steps}
 use Rattle.std.proofs.Common.{◌≡◌, ◌↔◌, ◌⊎◌, List, ℕ, inr, sym, subst}
 use Rattle.std.proofs.lemmas.Result.{err_from_is_err_and}
 use Rattle.object_format.specs.declared.object.Object.{Object}
@@ -35,3 +37,42 @@ returns-in_err-found-clause-cause g c = λ bytes told.
       passed = took.passed;
       unfit = c.in_err-found.ensures.unfit c.args.map.now took.file c.requires.sound took.read (passes_of bytes took.file took.passed);
     }))
+
+pub returns-in_err-reading : goal.returns-in_err-reading
+returns-in_err-reading g = search rules
+
+pub returns-in_err-closing : goal.returns-in_err-closing
+returns-in_err-closing g = search rules
+
+pub read-requires : goal.read-requires
+read-requires g = search rules
+
+pub returns-in_err-grow : goal.returns-in_err-grow
+returns-in_err-grow g = search rules
+
+pub returns-clause-failed : goal.returns-clause-failed
+returns-clause-failed g = grind (arith, common_steps)
+
+pub returns-clause-object : goal.returns-clause-object
+returns-clause-object g = grind (arith, common_steps)
+
+pub returns-clause-same : goal.returns-clause-same
+returns-clause-same g = grind (arith, common_steps)
+
+pub returns-in_err-found-clause-writes : goal.returns-in_err-found-clause-writes
+returns-in_err-found-clause-writes g = grind (arith, common_steps)
+
+pub returns-clause-writes : goal.returns-clause-writes
+returns-clause-writes g = grind (arith, common_steps)
+
+pub returns-clause-stays : goal.returns-clause-stays
+returns-clause-stays g = grind (arith, common_steps)
+
+pub returns-in_err-found-clause-later : goal.returns-in_err-found-clause-later
+returns-in_err-found-clause-later g = grind (arith, common_steps)
+
+pub returns-in_err-found-clause-same : goal.returns-in_err-found-clause-same
+returns-in_err-found-clause-same g = grind (arith, common_steps)
+
+pub returns-in_err-found-clause-stays : goal.returns-in_err-found-clause-stays
+returns-in_err-found-clause-stays g = grind (arith, common_steps)

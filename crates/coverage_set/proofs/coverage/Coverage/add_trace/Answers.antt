@@ -1,3 +1,4 @@
+use Rattle.std.proofs.Common.{rules}
 use Rattle.std.proofs.Common.{subst}
 use Rattle.object_format.specs.declared.object.Object.{Object}
 use Rattle.coverage_set.specs.Consolidated.{ArePossible}
@@ -19,3 +20,9 @@ returns-clause-events c = λ e. in_either _ _ _ _ (c.in_ok-grow.ensures.events e
 
 pub returns-clause-runs : goal.returns-clause-runs
 returns-clause-runs c = rw (← c.closing.ensures) c.in_ok-grow.ensures.runs
+
+pub returns-in_err-grow : goal.returns-in_err-grow
+returns-in_err-grow c = search rules
+
+pub returns-in_err-found : goal.returns-in_err-found
+returns-in_err-found c = search rules

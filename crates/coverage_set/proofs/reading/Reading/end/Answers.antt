@@ -1,3 +1,4 @@
+use Rattle.std.proofs.Common.{rules}
 use Rattle.std.proofs.Common.{◌∙◌, sym}
 use Rattle.coverage_set.proofs.FoundSeen.{found_breaks, found_follows, found_said}
 use Rattle.coverage_set.proofs.ReadLaws.{took_possible}
@@ -20,3 +21,6 @@ returns-clause-whole c = λ o t sound read passes.
 
 pub returns-clause-possible : goal.returns-clause-possible
 returns-clause-possible c = λ o sound took. took_possible o sound c.args.self took c.in_ok-into_events.field-0 c.in_ok-into_events.ensures
+
+pub returns-in-Err : goal.returns-in-Err
+returns-in-Err c = search rules

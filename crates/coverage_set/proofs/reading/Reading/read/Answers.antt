@@ -1,3 +1,5 @@
+use Rattle.std.proofs.Common.{arith}
+use Rattle.std.proofs.lemmas.Grind.{common_steps}
 use Rattle.std.proofs.Common.{◌∙◌, refl}
 use Rattle.std.proofs.lemmas.Result.{err_from_is_err_and}
 use Rattle.trace_format.specs.Reader.{file_name}
@@ -36,3 +38,18 @@ loop-preserved g c =
       reads = c.in_ok-entry.ensures.stays (λ e. cc e) ∙ c.loop.invariant.reads;
       writes = c.in_ok-entry.ensures.writes ∙ c.loop.invariant.writes;
     }
+
+pub returns-in-Close-clause-same : goal.returns-in-Close-clause-same
+returns-in-Close-clause-same g c = grind (arith, common_steps)
+
+pub returns-in-Close-clause-failed : goal.returns-in-Close-clause-failed
+returns-in-Close-clause-failed g c = grind (arith, common_steps)
+
+pub returns-in-Close-clause-stays : goal.returns-in-Close-clause-stays
+returns-in-Close-clause-stays g c = grind (arith, common_steps)
+
+pub unreachable-requires : goal.unreachable-requires
+unreachable-requires g c = grind (arith, common_steps)
+
+pub loop-init : goal.loop-init
+loop-init g c = grind (arith, common_steps)

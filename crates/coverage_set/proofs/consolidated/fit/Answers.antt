@@ -1,0 +1,11 @@
+use Rattle.std.proofs.Common.{rules}
+use Rattle.coverage_set.proofs.consolidated.fit.Goals as goal
+
+pub returns : goal.returns
+returns c = search rules
+
+pub returns-in-Some : goal.returns-in-Some
+returns-in-Some c = search rules
+
+pub returns-in-Some-2 : goal.returns-in-Some-2
+returns-in-Some-2 c = search rules
