@@ -25,3 +25,6 @@ returns c = grind (arith, common_steps) steps 2000000
 
 pub returns-in-Transfer-3 : goal.returns-in-Transfer-3
 returns-in-Transfer-3 c = grind (arith, common_steps) steps 2000000
+
+pub overflow_add-pc : goal.overflow_add-pc
+overflow_add-pc c = grind (arith, common_steps)

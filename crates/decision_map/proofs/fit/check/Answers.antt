@@ -1,3 +1,4 @@
+use Rattle.std.proofs.Common.{rules}
 use Rattle.std.proofs.Common.{arith}
 use Rattle.std.proofs.lemmas.Grind.{common_steps}
 use Rattle.std.proofs.Common.{refl, sym, ◌∙◌}
@@ -41,3 +42,6 @@ returns c =
 
 pub check_blocks-requires-clause-few : goal.check_blocks-requires-clause-few
 check_blocks-requires-clause-few c = grind (arith, common_steps) steps 2000000
+
+pub check_edges-requires : goal.check_edges-requires
+check_edges-requires c = search rules
