@@ -29,8 +29,8 @@ use Rattle.symbol_table.proofs.WalkLaws.{exact_begins, fresh_holds}
 use Rattle.program_walk.specs.declared.walk.Walk.{Walk}
 use Rattle.program_walk.specs.States.{state_of}
 use Rattle.program_walk.specs.Walks.{Begins, IsBeginning}
-use Rattle.unit_walk.specs.Standing.{StandsBefore}
-use Rattle.unit_walk.proofs.StandingLaws.{grown}
+use Rattle.library_units.specs.Standing.{StandsBefore}
+use Rattle.library_units.proofs.StandingLaws.{grown}
 use Rattle.declarations.proofs.GoingLaws.{refused_behind}
 use Rattle.library_units.specs.Bodies.{PassesBodies, ComesToAllBodies}
 use Rattle.library_units.specs.Interfaces.{IsIdle, PassesUnits, ComesToUnits}

@@ -10,10 +10,9 @@ use ada_library::{Library, has_main, headings};
 use ada_phrases::Step;
 use ada_syntax::Unit;
 use cov_base::{Failure, Pos};
-use library_units::{all_bodies, all_shown};
+use library_units::{all_bodies, all_shown, instances_before};
 use program_walk::Walk;
 use std::alloc::Global;
-use unit_walk::instances_before;
 
 /// What the walk over all units leaves: what it has declared and found, and what instances have for the
 /// formals and the constants of their generics.

@@ -26,9 +26,9 @@ use Rattle.program_walk.specs.declared.walk.Walk.{Walk}
 use Rattle.program_walk.specs.Walks.{Begins, Continues, StandsAt}
 use Rattle.declarations.specs.Going.{Stays, GoesInside}
 use Rattle.declarations.proofs.GoingLaws.{inside_continues, stays_behind}
-use Rattle.unit_walk.specs.Standing.{StandsBefore}
-use Rattle.unit_walk.specs.Entering.{IsUnitContext, IsEntered, Enters, Leaves}
-use Rattle.unit_walk.proofs.StandingLaws.{in_unit}
+use Rattle.library_units.specs.Standing.{StandsBefore}
+use Rattle.library_units.specs.Entering.{IsUnitContext, IsEntered, Enters, Leaves}
+use Rattle.library_units.proofs.StandingLaws.{in_unit}
 use Rattle.library_units.specs.Walked.{IsBetween, GoesBehind}
 
 -- no declarations lead anywhere

@@ -40,12 +40,12 @@ use Rattle.program_walk.specs.Walks.{Begins, StandsAt, IsInside}
 use Rattle.declarations.specs.Going.{region_in, Stays}
 use Rattle.declarations.proofs.GoingLaws.{refused_behind}
 use Rattle.specifications.specs.Profiles.{IsClosed}
-use Rattle.subprogram_specifications.specs.Routines.{ComesToRegion}
-use Rattle.bodies.specs.Going.{IsSound, Advances}
-use Rattle.bodies.specs.Library.{ComesToLibrary}
-use Rattle.unit_walk.specs.Standing.{StandsBefore, IsKnownEntity}
-use Rattle.unit_walk.specs.Entering.{IsUnitContext, IsPackageContext, IsEntered, Leaves, LeavesWords}
-use Rattle.unit_walk.proofs.StandingLaws.{in_text}
+use Rattle.library_units.specs.Routines.{ComesToRegion}
+use Rattle.library_units.specs.Going.{IsSound, Advances}
+use Rattle.library_units.specs.Library.{ComesToLibrary}
+use Rattle.library_units.specs.Standing.{StandsBefore, IsKnownEntity}
+use Rattle.library_units.specs.Entering.{IsUnitContext, IsPackageContext, IsEntered, Leaves, LeavesWords}
+use Rattle.library_units.proofs.StandingLaws.{in_text}
 use Rattle.library_units.specs.Bodies.{IsTextOf, IsGenericOf, IsRoutineOf, GoesByBodies, IsWalkedTo}
 use Rattle.library_units.proofs.BetweenLaws.{left_becomes, entered_continues, entered_open, stands_in_unit}
 

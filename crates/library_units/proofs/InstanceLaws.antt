@@ -31,11 +31,11 @@ use Rattle.program_walk.specs.States.{kept_state, state_of}
 use Rattle.program_walk.specs.Walks.{Begins, IsPlaceOf}
 use Rattle.specifications.specs.Actuals.{actuals_in}
 use Rattle.declarations.specs.Going.{Stays}
-use Rattle.unit_walk.specs.declared.instantiation.Instantiated.{Instantiated}
-use Rattle.unit_walk.specs.Standing.{StandsBefore}
-use Rattle.unit_walk.specs.Entering.{IsUnitContext, IsEntered, Leaves}
-use Rattle.unit_walk.specs.Instantiating.{instantiated_of, instance_part, judged_from, behind_instance, Makes, KeepsSymbols, SeesInstance}
-use Rattle.unit_walk.proofs.InstantiatingLaws.{judged}
+use Rattle.library_units.specs.declared.instantiation.Instantiated.{Instantiated}
+use Rattle.library_units.specs.Standing.{StandsBefore}
+use Rattle.library_units.specs.Entering.{IsUnitContext, IsEntered, Leaves}
+use Rattle.library_units.specs.Instantiating.{instantiated_of, instance_part, judged_from, behind_instance, Makes, KeepsSymbols, SeesInstance}
+use Rattle.library_units.proofs.InstantiatingLaws.{judged}
 use Rattle.library_units.specs.Walked.{IsWalked}
 use Rattle.library_units.proofs.BetweenLaws.{left_becomes, as_entered, stands_in_unit}
 

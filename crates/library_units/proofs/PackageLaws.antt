@@ -34,10 +34,10 @@ use Rattle.program_walk.specs.Walks.{Begins, StandsAt}
 use Rattle.declarations.specs.Going.{region_in, Stays, GoesInside}
 use Rattle.declarations.proofs.GoingLaws.{inside_continues, refused_behind, stands_then}
 use Rattle.specifications.specs.Profiles.{IsClosed}
-use Rattle.subprogram_specifications.specs.Routines.{ComesToRegion}
-use Rattle.unit_walk.specs.Standing.{StandsBefore}
-use Rattle.unit_walk.specs.Entering.{IsUnitContext, IsPackageContext, IsEntered, LeavesWords}
-use Rattle.unit_walk.proofs.StandingLaws.{grown, shown, in_text}
+use Rattle.library_units.specs.Routines.{ComesToRegion}
+use Rattle.library_units.specs.Standing.{StandsBefore}
+use Rattle.library_units.specs.Entering.{IsUnitContext, IsPackageContext, IsEntered, LeavesWords}
+use Rattle.library_units.proofs.StandingLaws.{grown, shown, in_text}
 use Rattle.library_units.specs.Walked.{IsWalked}
 
 -- a package is its formals, its declarations and its end

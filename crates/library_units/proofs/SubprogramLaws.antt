@@ -27,11 +27,11 @@ use Rattle.program_walk.specs.declared.context.Context.{Context}
 use Rattle.program_walk.specs.declared.walk.Walk.{Walk}
 use Rattle.program_walk.specs.States.{state_of}
 use Rattle.program_walk.specs.Walks.{Begins, HasLibrary, StandsAt}
-use Rattle.subprogram_specifications.specs.Alone.{HasProfile}
-use Rattle.subprogram_specifications.specs.Routines.{IsRoutineOf}
-use Rattle.unit_walk.specs.Standing.{StandsBefore}
-use Rattle.unit_walk.specs.Entering.{IsUnitContext, IsEntered}
-use Rattle.unit_walk.proofs.StandingLaws.{grown, shown}
+use Rattle.library_units.specs.Alone.{HasProfile}
+use Rattle.library_units.specs.Routines.{IsRoutineOf}
+use Rattle.library_units.specs.Standing.{StandsBefore}
+use Rattle.library_units.specs.Entering.{IsUnitContext, IsEntered}
+use Rattle.library_units.proofs.StandingLaws.{grown, shown}
 use Rattle.library_units.specs.Subprograms.{IsBodyOrFirst}
 use Rattle.library_units.specs.Walked.{IsWalked}
 use Rattle.library_units.proofs.BetweenLaws.{stands_in_unit}

@@ -28,9 +28,9 @@ use Rattle.program_walk.specs.declared.walk.Walk.{Walk}
 use Rattle.program_walk.specs.States.{state_of}
 use Rattle.program_walk.specs.Walks.{Begins}
 use Rattle.declarations.specs.Going.{Stays}
-use Rattle.unit_walk.specs.Standing.{StandsBefore}
-use Rattle.unit_walk.proofs.SeenLaws.{seen_in_body_known}
-use Rattle.unit_walk.proofs.StandingLaws.{grown}
+use Rattle.library_units.specs.Standing.{StandsBefore}
+use Rattle.library_units.proofs.SeenLaws.{seen_in_body_known}
+use Rattle.library_units.proofs.StandingLaws.{grown}
 use Rattle.library_units.specs.Bodies.{GoesByBodies, IsWalkedTo, WalkedTo}
 use Rattle.library_units.specs.Interfaces.{IsIdle}
 use Rattle.library_units.specs.Walked.{IsBetween}

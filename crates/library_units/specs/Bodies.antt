@@ -25,7 +25,7 @@ use Rattle.program_walk.specs.declared.walk.Walk.{Walk}
 use Rattle.program_walk.specs.States.{state_of}
 use Rattle.program_walk.specs.Walks.{Begins, Continues}
 use Rattle.declarations.specs.Going.{Stays}
-use Rattle.unit_walk.specs.Standing.{StandsBefore}
+use Rattle.library_units.specs.Standing.{StandsBefore}
 use Rattle.library_units.specs.declared.place.UnitPlace.{UnitPlace}
 use Rattle.library_units.specs.Interfaces.{IsIdle}
 use Rattle.library_units.specs.Walked.{IsBetween, env_at}

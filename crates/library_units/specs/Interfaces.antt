@@ -17,7 +17,7 @@ use Rattle.symbol_table.specs.SymbolViews.{IsKnown}
 use Rattle.program_walk.specs.declared.walk.Walk.{Walk}
 use Rattle.program_walk.specs.States.{state_of}
 use Rattle.program_walk.specs.Walks.{Begins}
-use Rattle.unit_walk.specs.Standing.{StandsBefore}
+use Rattle.library_units.specs.Standing.{StandsBefore}
 use Rattle.library_units.specs.Walked.{PassesUnit, WalkedAs}
 
 -- a walk between units of this library, where no region is open

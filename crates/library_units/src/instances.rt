@@ -3,6 +3,8 @@
 ghost use Rattle.ada_rules.specs.Units as rules;
 ghost use Rattle.library_units.specs.Walked.{ComesToInterface, Passes};
 
+use crate::entering::{enter_unit, leave_unit};
+use crate::instantiation::{instance_actuals, make_instance, show_instance};
 use crate::place::UnitPlace;
 use ada_demands::Instances;
 use ada_entities::{Refusal, Region};
@@ -10,7 +12,6 @@ use ada_syntax::Instance;
 use cov_base::{Failure, Pos};
 use program_walk::Walk;
 use std::alloc::Global;
-use unit_walk::{enter_unit, instance_actuals, leave_unit, make_instance, show_instance};
 
 /// An instance, whose text begins at this place and which has this number: a package of its own, whose
 /// name is not visible in it. It is made, and other units see it. Refused at the rules' own place.

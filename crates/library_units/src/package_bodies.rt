@@ -4,17 +4,18 @@ ghost use Rattle.cov_base.specs.declared.position.Pos.{Pos};
 ghost use Rattle.ada_rules.specs.Units as rules;
 ghost use Rattle.library_units.specs.Bodies.{PassesBody, ComesToBody};
 
+use crate::contexts::package_context;
+use crate::entering::{enter_unit, leave_unit, note_library_words};
+use crate::items::body_items;
 use crate::place::UnitPlace;
 use crate::unit_texts::{generic_of, text_of};
 use ada_demands::Instances;
 use ada_entities::{Refusal, Region};
 use ada_syntax::PackageBody;
-use bodies::body_items;
 use cov_base::Failure;
 use program_walk::Walk;
 use specifications::closed_by;
 use std::alloc::Global;
-use unit_walk::{enter_unit, leave_unit, note_library_words, package_context};
 
 /// The body of the package with this number: its declarations and bodies come behind those of its
 /// specification. Refused at the rules' own place.

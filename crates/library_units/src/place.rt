@@ -1,12 +1,12 @@
 //! Which unit is looked at.
 
-ghost use Rattle.unit_walk.specs.Entering.{IsUnitContext};
+ghost use Rattle.library_units.specs.Entering.{IsUnitContext};
 
+use crate::contexts::unit_context;
 use ada_demands::Instances;
 use ada_library::Library;
 use ada_phrases::Step;
 use program_walk::Context;
-use unit_walk::unit_context;
 
 /// A unit of a library, by its number and its name in lower case, and the step in which it is looked at.
 #[derive(Clone, Copy)]

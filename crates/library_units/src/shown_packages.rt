@@ -8,18 +8,19 @@ ghost use Rattle.symbol_table.specs.declared.extent.Extent.{Extent};
 ghost use Rattle.library_units.specs.Walked.{ComesToInterface, Passes};
 ghost use Rattle.library_units.specs.Packages.{KeepsInnermost, IsInterfaceWith, IsKnownWith};
 
+use crate::contexts::package_context;
+use crate::entering::{enter_unit, leave_unit, note_library_words};
+use crate::formals::formals_declared;
+use crate::items::package_items;
 use crate::place::UnitPlace;
 use ada_demands::Instances;
 use ada_entities::{Interface, Refusal, Region};
 use ada_syntax::{Formal, PackageSpecification};
-use bodies::package_items;
 use cov_base::{Failure, Seq};
 use program_walk::Walk;
 use specifications::closed_by;
 use std::alloc::{AllocError, Global};
-use subprogram_specifications::formals_declared;
 use symbol_table::Symbols;
-use unit_walk::{enter_unit, leave_unit, note_library_words, package_context};
 
 /// The generic that a unit is, where it has formals.
 fn generic_at(formals: &Option<Seq<Formal>>, unit: u32) -> Option<u32>

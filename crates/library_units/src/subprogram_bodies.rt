@@ -2,15 +2,15 @@
 
 ghost use Rattle.library_units.specs.Bodies.{PassesBody, ComesToSubprogram};
 
+use crate::entering::{enter_unit, leave_unit};
+use crate::library::library_body;
 use crate::place::UnitPlace;
 use ada_demands::Instances;
 use ada_entities::{Refusal, Region};
 use ada_syntax::SubprogramBody;
-use bodies::library_body;
 use cov_base::Failure;
 use program_walk::Walk;
 use std::alloc::Global;
-use unit_walk::{enter_unit, leave_unit};
 
 /// The body of a library subprogram, which declares no object of the library level. Refused at the
 /// rules' own place.

@@ -5,15 +5,16 @@ ghost use Rattle.ada_rules.specs.Units as rules;
 ghost use Rattle.library_units.specs.Walked.{ComesToInterface, Passes};
 ghost use Rattle.library_units.specs.Subprograms.{IsBodyOrFirst};
 
+use crate::alone::profile_alone;
+use crate::entering::{enter_unit, leave_unit};
 use crate::place::UnitPlace;
+use crate::routines::{body_number, new_routine};
 use ada_demands::Instances;
 use ada_entities::{Completion, Interface, Refusal, Region};
 use ada_syntax::{Identifier, SubprogramBody};
 use cov_base::Failure;
 use program_walk::{Context, Walk};
 use std::alloc::{AllocError, Global};
-use subprogram_specifications::{body_number, new_routine, profile_alone};
-use unit_walk::{enter_unit, leave_unit};
 
 /// The number of the body of a subprogram by its name; the first, where there is no such body.
 fn body_or_first(alloc: Global, context: &Context<'_>, name: &Identifier) -> Result<u32, AllocError>

@@ -8,7 +8,7 @@ use Rattle.ada_entities.specs.EntityViews.{Tables}
 use Rattle.ada_phrases.specs.Scopes.{step_of}
 use Rattle.program_walk.specs.States.{state_of}
 use Rattle.program_walk.specs.Walks.{Begins}
-use Rattle.unit_walk.specs.Standing.{StandsBefore}
+use Rattle.library_units.specs.Standing.{StandsBefore}
 use Rattle.library_units.specs.Bodies.{GoesByBodies}
 use Rattle.library_units.specs.Interfaces.{IsIdle}
 use Rattle.library_units.proofs.unit_bodies.all_bodies.Given as goal

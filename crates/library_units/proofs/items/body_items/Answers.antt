@@ -1,0 +1,54 @@
+use Rattle.std.proofs.Common.{refl}
+use Rattle.std.proofs.lemmas.Result.{err_from_is_err_and}
+use Rattle.ada_rules.specs.Units.{body_item, body_items}
+use Rattle.declarations.proofs.GoingLaws.{stays_behind, refused_behind}
+use Rattle.library_units.proofs.GoingLaws.{advances_nowhere, then_advances, sound_behind, sound_there}
+use Rattle.library_units.proofs.ItemLaws.{reaches_first, reaches_next, refuses_next, reaches_last}
+use Rattle.library_units.proofs.items.body_items.Goals as goal
+
+pub loop-item-init : goal.loop-item-init
+loop-item-init c = record {
+  rest = λ k env h b. reaches_first body_item body_items c.args.context.now c.args.walk.now k env c.args.items.now h;
+  inside = λ h. advances_nowhere c.args.walk.now h.open_now;
+}
+
+pub loop-item-preserved : goal.loop-item-preserved
+loop-item-preserved c = record {
+  rest = λ k env h b.
+      let middle = c.loop-item.walk in
+      let new = c.body_item.new.walk in
+      let goes = c.in_ok-body_item.ensures.goes (sound_behind _ _ (sound_there _ _ k env h) (c.loop-item.invariant.inside (sound_there _ _ k env h))) in
+      let r = c.loop-item.invariant.rest k env h (goes.continues k b) in
+      reaches_next body_item body_items (λ env s p x xs. refl) c.args.context.now c.args.walk.now middle k env c.args.items.now c.loop-item.item-index r
+      _ new c.loop-item-test.true c.item-item.is goes b (λ p. c.in_ok-body_item.ensures.comes p k r.here_now r.stands b);
+  inside = λ h.
+      let a = c.loop-item.invariant.inside h in
+      then_advances _ _ _ a (c.in_ok-body_item.ensures.goes (sound_behind _ _ h a));
+}
+
+pub returns-in_err-body_item-clause-comes : goal.returns-in_err-body_item-clause-comes
+returns-in_err-body_item-clause-comes c p k env h b =
+    let e = err_from_is_err_and c.from_residual.result c.from_residual.ensures.1 in
+    rw (e.1, e.2) (let middle = c.loop-item.walk in
+    let new = c.body_item.new.walk in
+    let f = c.in_err-body_item.field-0.0 in
+    let stays = c.in_err-body_item.ensures.goes (sound_behind _ _ (sound_there _ _ k env h) (c.loop-item.invariant.inside (sound_there _ _ k env h))) in
+    refused_behind middle new k f _ stays b (λ before.
+    let r = c.loop-item.invariant.rest k env h before in
+    refuses_next body_item body_items (λ env s p x xs. refl) c.args.context.now c.args.walk.now middle k env c.args.items.now c.loop-item.item-index r
+    _ f p c.loop-item-test.true c.item-item.is (c.in_err-body_item.ensures.comes p k r.here_now r.stands b)))
+
+pub returns-in_err-body_item-clause-goes : goal.returns-in_err-body_item-clause-goes
+returns-in_err-body_item-clause-goes c h =
+    let e = err_from_is_err_and c.from_residual.result c.from_residual.ensures.1 in
+    rw (e.1, e.2) (let a = c.loop-item.invariant.inside h in
+    stays_behind c.args.walk.now c.loop-item.walk c.body_item.new.walk c.in_err-body_item.field-0.0 a.continues
+    (c.in_err-body_item.ensures.goes (sound_behind _ _ h a)))
+
+pub returns-clause-comes : goal.returns-clause-comes
+returns-clause-comes c p k env h b =
+    reaches_last body_item body_items (λ env s p. refl) c.args.context.now c.args.walk.now c.loop-item.walk k env c.args.items.now c.loop-item.item-index
+    (c.loop-item.invariant.rest k env h b) p c.loop-item-test.false
+
+pub returns-clause-goes : goal.returns-clause-goes
+returns-clause-goes c = c.loop-item.invariant.inside

@@ -1,4 +1,0 @@
-pub mod Instances
-pub mod Standing
-pub mod Entering
-pub mod Instantiating
