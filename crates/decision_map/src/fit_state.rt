@@ -127,7 +127,11 @@ impl<'a> FitState<'a> {
             return;
         }
         let passes = has_its_flags(self.map, self.before, block);
-        self.edge = unless(self.edge, passes, FitFault::Edge { start: block.start });
+        note(
+            &mut self.edge,
+            passes,
+            FitFault::Edge { start: block.start },
+        );
         show(&mut self.shown, block);
         self.before = Some(block);
     }
@@ -140,9 +144,9 @@ impl<'a> FitState<'a> {
     {
         let at = self.entries;
         let kept = self.map.needs_history(entry.address);
-        self.address = unless(self.address, kept, FitFault::HistoryAddress { at });
+        note(&mut self.address, kept, FitFault::HistoryAddress { at });
         let shown = shows(&self.shown, entry);
-        self.flat = unless(self.flat, shown, FitFault::HistoryNotFlat { at });
+        note(&mut self.flat, shown, FitFault::HistoryNotFlat { at });
         self.entries = at.saturating_add(1);
     }
 }
@@ -232,17 +236,14 @@ fn shows(shown: &[Shown], entry: HistoryEntry) -> bool
     }
 }
 
-/// The fault that was found before, else this one where the check doesn't pass.
-fn unless(found: Option<FitFault>, passes: bool, fault: FitFault) -> Option<FitFault>
-    ensures { result ≡ option_or found (if passes then None else Some fault) }
+/// Keeps the fault where none was found before and the check doesn't pass.
+fn note(found: &mut Option<FitFault>, passes: bool, fault: FitFault)
+    ensures { found.new ≡ option_or found.old (if passes then None else Some fault) }
 {
-    if found.is_some() {
-        return found;
+    if passes || found.is_some() {
+        return;
     }
-    if passes {
-        return None;
-    }
-    Some(fault)
+    *found = Some(fault);
 }
 
 /// The first of two faults.

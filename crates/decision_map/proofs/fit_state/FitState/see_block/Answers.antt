@@ -17,4 +17,4 @@ returns c = λ o object ending blocks h.
     let is = next_is o c.args.self.now object ending blocks c.args.block true h fine c.if-not-is_next_block.ensures in
     let passes = flags_are o c.args.self.now object ending blocks c.args.block c.has_its_flags-passes.result h c.has_its_flags-passes.ensures in
     block_seen o c.args.self.now _ object ending blocks c.args.block c.has_its_flags-passes.result h (sym is) fine passes refl
-    c.show.ensures refl refl refl refl refl c.unless-self.ensures refl
+    c.show.ensures refl refl refl refl refl c.note.ensures refl
