@@ -1,3 +1,5 @@
+use Rattle.std.proofs.Common.{arith}
+use Rattle.std.proofs.lemmas.Grind.{common_steps}
 use Rattle.std.proofs.Common.{[], ◌∷◌, ◌++◌, sym, ap, ◌∙◌}
 use Rattle.ada_demands.proofs.ConstantLaws.{group_is, grouped_push, grouped_kept, grouped_same}
 use Rattle.ada_demands.proofs.constants.GenericConstants.add.Goals as goal
@@ -21,3 +23,9 @@ invariant_of-self-2 c =
     grouped_push cs c.push_both.new.declared.items groups c.args.constant c.push_both.new.group
     (grouped_same cs c.self.inside.groups.items groups c.self.invariant c.make_room.ensures.same) there
     (c.in_ok-push_both.ensures.grouped ∙ ap (λ l. l ++ c.args.constant ∷ []) (sym group)) c.in_ok-push_both.ensures.declared
+
+pub returns : goal.returns
+returns c = record { number = grind (arith, common_steps); added = grind (arith, common_steps) }
+
+pub invariant_of-self-in_default : goal.invariant_of-self-in_default
+invariant_of-self-in_default c = grind (arith, common_steps)

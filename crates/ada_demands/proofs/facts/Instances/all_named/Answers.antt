@@ -1,3 +1,4 @@
+use Rattle.std.proofs.lemmas.Grind.{common_steps}
 use Rattle.std.proofs.Common.{[], ◌∷◌, ◌++◌, ◌+◌, map, drop, option_map, append_assoc, sym, ap, ◌∙◌, arith}
 use Rattle.std.proofs.lemmas.List.{map_push}
 use Rattle.ada_tree.specs.Programs.{bounds_of}
@@ -30,3 +31,6 @@ loop-choice-preserved c =
     ∙ (append_assoc (map bounds_of so_far) (bounds_of c.in-Some.range ∷ []) rest
     ∙ (ap (λ bs. map bounds_of so_far ++ bs) (sym (step ∙ ap (λ o. with_named (option_map bounds_of o) rest) c.in-Some.is))
     ∙ c.loop-choice.invariant)))
+
+pub returns : goal.returns
+returns c = grind (arith, common_steps)

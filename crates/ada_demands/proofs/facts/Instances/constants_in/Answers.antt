@@ -1,3 +1,4 @@
+use Rattle.std.proofs.lemmas.Grind.{common_steps}
 use Rattle.std.proofs.Common.{◌∙◌, arith}
 use Rattle.ada_rules.specs.Statics.{instance_values}
 use Rattle.ada_demands.proofs.ComputingLaws.{one_computed}
@@ -9,3 +10,6 @@ loop-constant-preserved c =
     c.loop-constant.values.items c.as_slice.result.now c.push.new.self.items c.next_constant-value.result
     (omega arith) c.as_slice.ensures.value c.next_constant-value.ensures c.in_ok-push.ensures.items
     ∙ c.loop-constant.invariant
+
+pub returns : goal.returns
+returns c = grind (arith, common_steps)
