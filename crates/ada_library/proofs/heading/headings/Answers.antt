@@ -1,3 +1,4 @@
+use Rattle.std.proofs.lemmas.Grind.{common_steps}
 use Rattle.std.proofs.Common.{◌+◌, drop, rules, arith, ◌∙◌, subst}
 use Rattle.std.proofs.lemmas.Result.{err_from_is_err_and}
 use Rattle.ada_rules.specs.Library.{heading}
@@ -22,3 +23,6 @@ returns-in_err-heading c l is =
     let own = subst (λ n. Refuses (heading l n u).answer f) c.in_ok-numbered.ensures (c.in_err-heading.ensures l is) in
     let r = refused_as _ _ f so_far (unit_refused l i u (drop (i + 1) us) f own) in
     search (rules, r)
+
+pub loop-index-preserved : goal.loop-index-preserved
+loop-index-preserved c = grind (arith, common_steps)

@@ -1,3 +1,4 @@
+use Rattle.std.proofs.lemmas.Grind.{common_steps}
 use Rattle.std.proofs.Common.{◌≡◌, ◌<◌, true, deque_len, length, get_or, remove, IfSome, OnSome, arith, sym, ap, ◌∙◌, subst}
 use Rattle.ada_rules.specs.Library.{is_ready}
 use Rattle.ada_library.proofs.OrderLaws.{found_ready, removed}
@@ -19,3 +20,6 @@ returns-then-is_ready c order marked =
     c.loop-index.invariant.first order marked
     ∙ (found_ready g order old.items i n inside own ready
     ∙ removed old.items new i c.remove.result inside (λ h. c.remove.ensures.variant.1 (omega (arith, h, ap deque_len kept, old.ok.0))) value left n own)
+
+pub loop-index-preserved : goal.loop-index-preserved
+loop-index-preserved c = grind (arith, common_steps)

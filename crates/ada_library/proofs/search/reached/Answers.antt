@@ -1,3 +1,4 @@
+use Rattle.std.proofs.lemmas.Grind.{common_steps}
 use Rattle.std.proofs.Common.{◌≡◌, [], ◌∷◌, ◌+◌, suc, arith, sym, ap, ◌∙◌, subst}
 use Rattle.ada_rules.specs.Library.{reached, joined, next_ones}
 use Rattle.ada_library.specs.Marking.{AreMarked, MarksNew, IsSearched}
@@ -24,3 +25,6 @@ loop-preserved c =
       marked = subst (λ ms. AreMarked ms new) (sym more) marked;
       searched = subst (λ ms. IsSearched g ms found) (sym more) searched;
     }
+
+pub returns : goal.returns
+returns c = grind (arith, common_steps)

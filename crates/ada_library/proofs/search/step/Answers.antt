@@ -1,3 +1,4 @@
+use Rattle.std.proofs.lemmas.Grind.{common_steps}
 use Rattle.std.proofs.Common.{[], ◌∷◌, ◌+◌, drop, get_or, arith, subst}
 use Rattle.std.proofs.lemmas.List.{at_drop_more}
 use Rattle.ada_rules.specs.Library.{edges, next_ones}
@@ -17,3 +18,6 @@ loop-unit-preserved c =
     (at_drop_more (next_ones g) us i 0 (omega arith)) c.loop-unit.invariant in
     next_marked (edges g u) (next_ones g rest) (next_ones g (u ∷ rest)) (next_ones g us) c.args.marks.now c.loop-unit.marks c.mark_named.new.marks
     [] c.loop-unit.new.items c.mark_named.new.new.items (next_joined g u rest) so_far c.in_ok-mark_named.ensures
+
+pub returns : goal.returns
+returns c = grind (arith, common_steps)

@@ -1,3 +1,4 @@
+use Rattle.std.proofs.lemmas.Grind.{common_steps}
 use Rattle.std.proofs.Common.{◌≡◌, ◌++◌, append-nil, sym, ◌∙◌, arith}
 use Rattle.std.proofs.lemmas.List.{at_drop_all}
 use Rattle.ada_library.specs.InstanceNumbering.{next_behind, numbers_from, number_at}
@@ -14,3 +15,6 @@ returns c n =
     sym (append-nil xs) ∙ (sym (at_drop_all (λ vs. xs ++ numbers_from next vs) us i (omega arith)) ∙ c.loop-unit.invariant.numbers) in
     let last : next ≡ next_behind 1 us = sym (at_drop_all (next_behind next) us i (omega arith)) ∙ c.loop-unit.invariant.next in
     (λ z. number_at (numbers z) (last z) n) ∙ numbered_instances us n
+
+pub loop-unit-preserved : goal.loop-unit-preserved
+loop-unit-preserved c = grind (arith, common_steps)
