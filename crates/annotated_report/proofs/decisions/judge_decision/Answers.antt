@@ -11,3 +11,9 @@ judge_pairs-requires-clause-conditions c =
 
 pub returns-clause-findings : goal.returns-clause-findings
 returns-clause-findings c = grind (arith, common_steps)
+
+pub returns-clause-covered : goal.returns-clause-covered
+returns-clause-covered c = grind (arith, common_steps)
+
+pub judge_pairs-requires-clause-vectors : goal.judge_pairs-requires-clause-vectors
+judge_pairs-requires-clause-vectors c = grind (arith, common_steps)

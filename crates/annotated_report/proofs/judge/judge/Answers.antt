@@ -1,3 +1,5 @@
+use Rattle.std.proofs.Common.{arith}
+use Rattle.std.proofs.lemmas.Grind.{common_steps}
 use Rattle.std.proofs.Common.{◌<◌, ◌++◌, ◌∙◌, ap, sym, length, subst}
 use Rattle.annotated_report.specs.Findings.{unstarted}
 use Rattle.annotated_report.specs.Marked.{marked}
@@ -22,3 +24,12 @@ returns-clause-statements c =
     let agree : AgreeBelow (length c.args.obligations.now.statements) (marked marks) (is_started c.args.events.now) =
     λ n low. ap (λ l. marked l n) c.as_slice-marks.ensures.value ∙ c.in_ok-marks.ensures.marks n (subst (λ l. n < length l) (sym c.as_slice-entries.ensures) low) in
     count_is c.args.events.now marks c.as_slice-entries.result.now c.args.obligations.now.statements _ c.as_slice-entries.ensures agree c.in_ok-statements.ensures.covered
+
+pub judge_asked-requires : goal.judge_asked-requires
+judge_asked-requires c = grind (arith, common_steps)
+
+pub returns-clause-pairs : goal.returns-clause-pairs
+returns-clause-pairs c = grind (arith, common_steps)
+
+pub returns-clause-decisions : goal.returns-clause-decisions
+returns-clause-decisions c = grind (arith, common_steps)
