@@ -1,6 +1,7 @@
 -- One actual of an instance, in both steps.
-use Rattle.std.proofs.Common.{◌≡◌, ℕ, Bool, true, false, List, [], ◌∷◌, Option, Some, None, option_map, slice_get, Result, Ok, refl, sym, ap, ◌∙◌, subst}
+use Rattle.std.proofs.Common.{◌≡◌, ℕ, Bool, true, false, List, [], ◌∷◌, Option, Some, None, option_map, slice_get, Result, Ok, Err, refl, sym, ap, ◌∙◌, subst}
 use Rattle.std.specs.Option.{ok_or}
+use Rattle.std.specs.Result.{result_and}
 use Rattle.std.proofs.lemmas.Bool.{false≢true}
 use Rattle.std.proofs.lemmas.Option.{slice_get-map}
 use Rattle.cov_base.specs.declared.failure.Failure.{Failure}
@@ -13,7 +14,7 @@ use Rattle.ada_syntax.specs.declared.expr.ExprKind.TheVariants as kind
 use Rattle.ada_syntax.specs.declared.expr.LogicalOperator.{LogicalOperator}
 use Rattle.ada_syntax.specs.declared.expr.Operand.{Operand}
 use Rattle.ada_meaning.specs.Types.{Static}
-use Rattle.ada_rules.specs.Plan.{Plan, ◌>>=◌, rule, ruled, answer_at}
+use Rattle.ada_rules.specs.Plan.{Plan, ◌>>=◌, outcome_after, rule, ruled, answer_at}
 use Rattle.ada_rules.specs.Types.{AdaSubtype, Kind, type_in, range_in, fits}
 use Rattle.ada_rules.specs.Statics.{Test}
 use Rattle.ada_rules.specs.Entities as rules
@@ -28,8 +29,21 @@ use Rattle.ada_entities.specs.declared.entity.Entity.TheVariants as entity
 use Rattle.ada_entities.specs.declared.fault.Refusal.{Refusal}
 use Rattle.ada_entities.specs.Answers.{refusal, Refuses, refused_at, no_memory, Answers}
 use Rattle.ada_entities.specs.EntityViews.{Tables, entity_of, named, region_of}
-use Rattle.ada_phrases.proofs.Parts.{passes_on, in_part}
+use Rattle.ada_phrases.proofs.Parts.{passes_on, in_part, answers_as}
 use Rattle.specifications.specs.Passing.{name_given, by_name, by_other, name_plan}
+
+-- what is given whatever a part comes to, where it passes
+behind_part : {A B C J : Type 0} (seen : J → B) (view : A → C) (p : Pos) (part : Result B Pos) (k : B → Plan C) (o : Result A (Failure Refusal))
+    → ((j : J) → Answers view (answer_at p (k (seen j)).outcome) o) → (r : Result J (Failure Refusal)) → Answers seen part r
+    → Answers view (answer_at p (outcome_after part k)) (result_and r o)
+behind_part seen view p part k o each (Ok j) h = answers_as view _ _ o (passes_on p part k (seen j) h) (each j)
+behind_part seen view p part k o each (Err f) h = in_part p part k f h
+
+and_then : {A B C J : Type 0} (seen : J → B) (view : A → C) (p : Pos) (part : Result B Pos) (k : B → Plan C) (o result : Result A (Failure Refusal))
+    (r : Result J (Failure Refusal)) → result ≡ result_and r o → ((j : J) → Answers view (answer_at p (k (seen j)).outcome) o) → Answers seen part r
+    → Answers view (answer_at p (outcome_after part k)) result
+and_then seen view p part k o result r is each h =
+    subst (λ x. Answers view (answer_at p (outcome_after part k)) x) (sym is) (behind_part seen view p part k o each r h)
 
 -- for a formal object, whose type and values are known in other words
 abbrev object_behind : Given Valued → Plan (Given Actual)
@@ -63,18 +77,15 @@ module _ (env : Env) (s : State) (n : ℕ) (before : List Actual) (f : rules.Ent
 abbrev none_behind : Step → Given Judged → Plan (Given Actual)
 none_behind st y = typed_rule st (given any_actual y.next) None
 
-module _ (env : Env) (s : State) (x : source.Expr) (p : Pos) where
-  pub other_refused : (fault : Failure Refusal) → Refuses (judged env itself s x).answer fault → Refuses (answer_at p (by_other env s x).outcome) fault
-  other_refused fault h = in_part p (judged env itself s x).answer (none_behind env.step) fault h
-
-  module _ (y : Given Judged) (h : (judged env itself s x).answer ≡ Ok y) where
-    pub other_named : env.step ≡ naming → answer_at p (by_other env s x).outcome ≡ Ok (given any_actual y.next)
-    other_named st =
-        passes_on p (judged env itself s x).answer (none_behind env.step) y h ∙ ap (λ t. answer_at p (none_behind t y).outcome) st
-
-    pub other_typed : env.step ≡ typing → Refuses (answer_at p (by_other env s x).outcome) (refusal p)
-    other_typed st =
-        refused_at (passes_on p (judged env itself s x).answer (none_behind env.step) y h ∙ ap (λ t. answer_at p (none_behind t y).outcome) st)
+pub other_given : {A J : Type 0} (env : Env) (s : State) (x : source.Expr) (p q : Pos) (n : State) (seen : J → Judged) (view : A → Actual)
+    (o result : Result A (Failure Refusal)) (r : Result J (Failure Refusal)) (st : Step) → env.step ≡ st → q ≡ p → result ≡ result_and r o
+    → Answers (λ a. given (view a) n) (answer_at q (typed_rule st (given any_actual n) None).outcome) o
+    → Answers (λ j. given (seen j) n) (judged env itself s x).answer r
+    → Answers (λ a. given (view a) n) (answer_at p (by_other env s x).outcome) result
+other_given env s x p q n seen view o result r st step at is own h =
+    and_then (λ j. given (seen j) n) (λ a. given (view a) n) p (judged env itself s x).answer (none_behind env.step) o result r is
+    (λ j. subst (λ t. Answers (λ a. given (view a) n) (answer_at p (typed_rule t (given any_actual n) None).outcome) o) (sym step)
+    (subst (λ u. Answers (λ a. given (view a) n) (answer_at u (typed_rule st (given any_actual n) None).outcome) o) at own)) h
 
 -- what is looked at for its names
 abbrev any_behind : {A : Type 0} → Given A → Plan (Given Actual)
@@ -83,13 +94,13 @@ any_behind d = rule (Some (given any_actual d.next))
 abbrev any_other : Env → State → source.Expr → Plan (Given Actual)
 any_other env s x = judged env itself s x >>= any_behind
 
-module _ (env : Env) (s : State) (p q : Pos) (x : source.Name) where
-  pub any_name_refused : (fault : Failure Refusal) → Refuses (denoted env s x).answer fault → Refuses (answer_at p (any_plan env s (source.named q x)).outcome) fault
-  any_name_refused fault h = in_part p (denoted env s x).answer any_behind fault h
-
-  pub any_name_passes : (d : Given Denoted) → (denoted env s x).answer ≡ Ok d
-      → answer_at p (any_plan env s (source.named q x)).outcome ≡ Ok (given any_actual d.next)
-  any_name_passes d h = passes_on p (denoted env s x).answer any_behind d h
+pub any_named : {A D : Type 0} (env : Env) (s : State) (p q : Pos) (x : source.Name) (n : State) (seen : D → Denoted) (view : A → Actual)
+    (a : A) (result : Result A (Failure Refusal)) (r : Result D (Failure Refusal)) → view a ≡ any_actual → result ≡ result_and r (Ok a)
+    → Answers (λ d. given (seen d) n) (denoted env s x).answer r
+    → Answers (λ b. given (view b) n) (answer_at p (any_plan env s (source.named q x)).outcome) result
+any_named env s p q x n seen view a result r any is h =
+    and_then (λ d. given (seen d) n) (λ b. given (view b) n) p (denoted env s x).answer any_behind (Ok a) result r is
+    (λ d. ap (λ b. Ok (given b n)) (sym any)) h
 
 -- which expressions are names
 abbrev pub is_named : source.Expr → Bool
@@ -141,17 +152,14 @@ any_as env s (source.binary p y op z) h = refl
 any_as env s (source.relation p y op z) h = refl
 any_as env s (source.logical p y op z) h = refl
 
-module _ (env : Env) (s : State) (p : Pos) (x : source.Expr) (other : is_named x ≡ false) where
-  pub any_other_refused : (fault : Failure Refusal) → Refuses (judged env itself s x).answer fault → Refuses (answer_at p (any_plan env s x).outcome) fault
-  any_other_refused fault h =
-      subst (λ (q : Plan (Given Actual)). Refuses (answer_at p q.outcome) fault) (sym (any_as env s x other))
-      (in_part p (judged env itself s x).answer any_behind fault h)
-
-  pub any_other_passes : (y : Given Judged) → (judged env itself s x).answer ≡ Ok y
-      → answer_at p (any_plan env s x).outcome ≡ Ok (given any_actual y.next)
-  any_other_passes y h =
-      ap (λ (q : Plan (Given Actual)). answer_at p q.outcome) (any_as env s x other)
-      ∙ passes_on p (judged env itself s x).answer any_behind y h
+pub any_unnamed : {A J : Type 0} (env : Env) (s : State) (p : Pos) (x : source.Expr) (n : State) (seen : J → Judged) (view : A → Actual)
+    (a : A) (result : Result A (Failure Refusal)) (r : Result J (Failure Refusal)) → is_named x ≡ false → view a ≡ any_actual
+    → result ≡ result_and r (Ok a) → Answers (λ j. given (seen j) n) (judged env itself s x).answer r
+    → Answers (λ b. given (view b) n) (answer_at p (any_plan env s x).outcome) result
+any_unnamed env s p x n seen view a result r other any is h =
+    answers_as (λ b. given (view b) n) _ _ result (ap (λ (q : Plan (Given Actual)). answer_at p q.outcome) (any_as env s x other))
+    (and_then (λ j. given (seen j) n) (λ b. given (view b) n) p (judged env itself s x).answer any_behind (Ok a) result r is
+    (λ j. ap (λ b. Ok (given b n)) (sym any)) h)
 
 -- a formal that is no object takes a name
 abbrev pub is_object : rules.Entity → Bool

@@ -61,6 +61,12 @@ IsForName walk before f p d result =
     (answer_at p (name_given env walk.number (actuals_of k before) (entity_of k f) (given (denotes k d) s)).outcome)
     result
 
+-- what no name gives for a formal type or subprogram
+abbrev pub IsNoActual : CodeStep → Pos → Result InstanceActual (Failure Refusal) → Type 0
+IsNoActual step p result =
+    (k : Tables) (s : State)
+    → Answers (λ a. given (actual_of k a) s) (answer_at p (typed_rule (step_of step) (given any_actual s) None).outcome) result
+
 -- an actual is kept where there is a formal for it
 abbrev pub kept : {F A : Type 0} → Option F → List A → A → List A
 kept None xs x = xs

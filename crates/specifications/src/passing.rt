@@ -10,7 +10,7 @@ ghost use Rattle.ada_entities.specs.EntityViews.{Tables, entity_of};
 ghost use Rattle.ada_entities.specs.Views.{subtype_of};
 ghost use Rattle.static_parts.specs.Places.{ComesTo};
 ghost use Rattle.specifications.specs.Actuals.{actual_of, actuals_of, actuals_in};
-ghost use Rattle.specifications.specs.Passing.{by_name, by_other, name_plan, plan_for, formals_seen, kept, IsForName, IsCounted};
+ghost use Rattle.specifications.specs.Passing.{by_name, by_other, name_plan, plan_for, formals_seen, kept, IsForName, IsNoActual, IsCounted};
 
 use crate::actual::InstanceActual;
 use crate::instantiation::Instantiation;
@@ -72,6 +72,17 @@ fn are_as_many(formals: usize, actuals: usize) -> bool
     ensures { result ≡ nat_eq formals actuals }
 {
     formals == actuals
+}
+
+/// What no name gives for a formal type or subprogram: the step of names goes on with something in
+/// place of it, and the step of types refuses what begins at this place.
+fn no_actual(step: Step, pos: Pos) -> Result<InstanceActual, Failure<Refusal>>
+    ensures { IsNoActual step pos result }
+{
+    match step {
+        Step::Naming => Ok(InstanceActual::any()),
+        Step::Typing => Err(refused(pos)),
+    }
 }
 
 impl InstanceWalk<'_> {
@@ -145,11 +156,13 @@ impl InstanceWalk<'_> {
     {
         let site = &self.place.site;
         let denoted = site.denoted(alloc, &mut notes.decisions, name)?;
-        self.for_name(actuals, formal, pos, &denoted)
+        let actual = self.for_name(actuals, formal, pos, &denoted);
+        drop(denoted);
+        actual
     }
 
     /// For a formal type or subprogram no other expression will do; the step of names looks at it for
-    /// its names.
+    /// its names. What it comes to apart from them is known before, and `and` drops what it denotes.
     #[tactic(auto, using(crate::proofs::PassingLaws::parts))]
     fn other_actual(
         &self,
@@ -161,11 +174,9 @@ impl InstanceWalk<'_> {
             (λ k env s. answer_at (expr_pos expr.now) (by_other env s expr.now).outcome) result }
     {
         let site = &self.place.site;
-        site.judged(alloc, Role::Itself, &mut notes.decisions, expr)?;
-        match site.step {
-            Step::Naming => Ok(InstanceActual::any()),
-            Step::Typing => Err(refused(expr.pos())),
-        }
+        let actual = no_actual(site.step, expr.pos());
+        site.judged(alloc, Role::Itself, &mut notes.decisions, expr)
+            .and(actual)
     }
 
     /// An actual for a formal that is no object.
@@ -224,15 +235,12 @@ impl InstanceWalk<'_> {
             (λ k env s. answer_at (expr_pos expr.now) (rules.any_plan env s expr.now).outcome) result }
     {
         let site = &self.place.site;
+        let any = InstanceActual::any();
         match &expr.kind {
-            ExprKind::Name(name) => {
-                site.denoted(alloc, &mut notes.decisions, name)?;
-                Ok(InstanceActual::any())
-            }
-            _ => {
-                site.judged(alloc, Role::Itself, &mut notes.decisions, expr)?;
-                Ok(InstanceActual::any())
-            }
+            ExprKind::Name(name) => site.denoted(alloc, &mut notes.decisions, name).and(Ok(any)),
+            _ => site
+                .judged(alloc, Role::Itself, &mut notes.decisions, expr)
+                .and(Ok(any)),
         }
     }
 

@@ -1,3 +1,5 @@
+use Rattle.std.proofs.Common.{arith}
+use Rattle.std.proofs.lemmas.Grind.{common_steps}
 use Rattle.std.proofs.Common.{Some, None, option_map, sym, ap, ◌∙◌}
 use Rattle.std.proofs.lemmas.Result.{err_from_is_err_and}
 use Rattle.ada_rules.specs.Entities.{hidden}
@@ -44,3 +46,6 @@ returns-in-None-awaiting_body-clause-refused c k =
     (refused_at (told region c.args.name.now (entity_of k c.in-Some.entity) None
     (sym (c.in_ok-find_inside.ensures k) ∙ ap (option_map (entity_of k)) c.in-Some.is)
     (c.awaiting_body.ensures.waits k region c.args.name.now ∙ ap (option_map (λ r. region)) c.in-None-awaiting_body.is)))
+
+pub returns-in-Some-awaiting_body-clause-inside : goal.returns-in-Some-awaiting_body-clause-inside
+returns-in-Some-awaiting_body-clause-inside c = grind (arith, common_steps)

@@ -1,3 +1,5 @@
+use Rattle.std.proofs.lemmas.Grind.{common_steps}
+use Rattle.specifications.proofs.PassingLaws.{parts}
 use Rattle.std.proofs.Common.{◌+◌, length, map, nat_eq, option_map, arith, rules, sym, ap, ◌∙◌}
 use Rattle.ada_syntax.specs.Tree.{expr_pos}
 use Rattle.ada_rules.specs.Environment.{given}
@@ -67,3 +69,6 @@ returns c k env s h =
     ∙ ap (λ m. counted_rule env.step p (nat_eq m (length xs)) (given before st)) (sym (c.count_formals.ensures k))
     ∙ ap (λ t. counted_rule t p (nat_eq c.count_formals.result (length xs)) (given before st)) h.site.step)
     (c.counted.ensures k st)
+
+pub returns-in_err-keep : goal.returns-in_err-keep
+returns-in_err-keep c = grind (arith, common_steps, parts)

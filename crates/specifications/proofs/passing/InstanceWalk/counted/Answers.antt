@@ -1,3 +1,5 @@
+use Rattle.std.proofs.Common.{arith}
+use Rattle.std.proofs.lemmas.Grind.{common_steps}
 use Rattle.std.proofs.Common.{◌≡◌, nat_eq, false, sym, ◌∙◌}
 use Rattle.ada_rules.specs.Environment.{given}
 use Rattle.ada_entities.specs.Answers.{refused_at}
@@ -11,3 +13,6 @@ returns-else-are_as_many c k s =
     let other : nat_eq c.args.formals c.args.count ≡ false = sym c.are_as_many.ensures ∙ c.if-are_as_many.false in
     rw c.refused.ensures
     (refused_at (λ z. counted_rule (step_of (c.in-Typing.is z)) c.args.pos (other z) (given (actuals_of k c.args.actuals.items) s)))
+
+pub returns-then-are_as_many : goal.returns-then-are_as_many
+returns-then-are_as_many c = grind (arith, common_steps)

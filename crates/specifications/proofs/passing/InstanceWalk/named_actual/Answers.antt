@@ -21,7 +21,7 @@ pub returns : goal.returns
 returns c k env s h =
     let n = c.args.notes.now in
     let d = given (denotes k c.in_ok-denoted.denoted) (counted c.denoted.new.decisions (noted k n.statics s)) in
-    answers_as (λ a. given (actual_of k a) d.next) _ _ c.for_name.result
+    answers_as (λ a. given (actual_of k a) d.next) _ _ c.for_name-actual.result
     (name_passes env (with_notes k n s) c.args.self.now.number (actuals_of k c.args.actuals.now) (entity_of k c.args.formal) c.args.pos c.args.name.now d
     (c.in_ok-denoted.ensures k env (noted k n.statics s) h.site))
-    (c.for_name.ensures k env d.next h)
+    (c.for_name-actual.ensures k env d.next h)
