@@ -28,16 +28,12 @@ operation_put e t p q n o rest e0 e1 all hn hq h whole =
     (λ i. h i ++ code_lines e t ((hq ∙ ap (λ m. p + m) hn) i) rest)
     ∙ append_assoc e0 (op_lines e t p o) (code_lines e t (p + op_length o) rest) ∙ whole
 
-pub choose_put : (e : Setting) (t : Targets) (p k : ℕ) (a b : Code) (first second inside behind otherwise past : ℕ)
-    (e0 e1 e2 e3 e4 : List Line)
-    → first ≡ code_length a → second ≡ code_length b → inside ≡ p + 6 → behind ≡ p + 7 → otherwise ≡ behind + first
-    → past ≡ otherwise + second
+pub choose_put : (e : Setting) (t : Targets) (p k : ℕ) (a b : Code) (inside otherwise past : ℕ) (e0 e1 e2 e3 e4 : List Line)
+    → inside ≡ p + 6 → otherwise ≡ p + 7 + code_length a → past ≡ p + 7 + code_length a + code_length b
     → e1 ≡ e0 ++ (map plain (load_slot 11 k (Immediate Addi 13 0 1 ∷ [])) ++ (branch steers Beq 11 13 inside ∷ (jump otherwise ∷ [])))
     → e2 ≡ e1 ++ code_lines e t inside a → e3 ≡ e2 ++ jump past ∷ [] → e4 ≡ e3 ++ code_lines e t otherwise b
     → e4 ≡ e0 ++ op_lines e t p (choose k a b)
-choose_put e t p k a b first second inside behind otherwise past e0 e1 e2 e3 e4 hf hs hi hb ho hp h1 h2 h3 h4 =
-    let other : otherwise ≡ p + 7 + code_length a = ho ∙ (λ i. hb i + hf i) in
-    let end : past ≡ p + 7 + code_length a + code_length b = hp ∙ (λ i. other i + hs i) in
+choose_put e t p k a b inside otherwise past e0 e1 e2 e3 e4 hi other end h1 h2 h3 h4 =
     four_parts e0 e1 e2 e3 e4
     (map plain (load_slot 11 k (Immediate Addi 13 0 1 ∷ [])) ++ (branch steers Beq 11 13 (p + 6) ∷ (jump (p + 7 + code_length a) ∷ [])))
     (code_lines e t (p + 6) a) (jump (p + 7 + code_length a + code_length b) ∷ []) (code_lines e t (p + 7 + code_length a) b)
@@ -47,48 +43,35 @@ choose_put e t p k a b first second inside behind otherwise past e0 e1 e2 e3 e4 
     (h3 ∙ (λ i. e2 ++ jump (end i) ∷ []))
     (h4 ∙ (λ i. e3 ++ code_lines e t (other i) b))
 
-pub repeat_put : (e : Setting) (t : Targets) (p : ℕ) (a : Code) (n end past : ℕ) (e0 e1 e2 : List Line)
-    → n ≡ code_length a → end ≡ p + n → past ≡ end + 1
+pub repeat_put : (e : Setting) (t : Targets) (p : ℕ) (a : Code) (past : ℕ) (e0 e1 e2 : List Line) → past ≡ p + code_length a + 1
     → e1 ≡ e0 ++ code_lines e (record { raise_to = t.raise_to; exit_to = past; return_to = t.return_to }) p a → e2 ≡ e1 ++ jump p ∷ []
     → e2 ≡ e0 ++ op_lines e t p (forever a)
-repeat_put e t p a n end past e0 e1 e2 hn he hp h1 h2 =
-    let left : past ≡ p + code_length a + 1 = hp ∙ ap (λ m. m + 1) (he ∙ ap (λ m. p + m) hn) in
+repeat_put e t p a past e0 e1 e2 left h1 h2 =
     two_parts e0 e1 e2 (code_lines e (record { raise_to = t.raise_to; exit_to = p + code_length a + 1; return_to = t.return_to }) p a)
     (jump p ∷ [])
     (h1 ∙ (λ i. e0 ++ code_lines e (record { raise_to = t.raise_to; exit_to = left i; return_to = t.return_to }) p a)) h2
 
-pub catch_put : (e : Setting) (t : Targets) (p k : ℕ) (a b : Code) (first second end caught handled past : ℕ) (e0 e1 e2 e3 : List Line)
-    → first ≡ code_length a → second ≡ code_length b → end ≡ p + first → caught ≡ end + 1 → handled ≡ end + 4 → past ≡ handled + second
+pub catch_put : (e : Setting) (t : Targets) (p k : ℕ) (a b : Code) (caught handled past : ℕ) (e0 e1 e2 e3 : List Line)
+    → caught ≡ p + code_length a + 1 → handled ≡ p + code_length a + 4 → past ≡ p + code_length a + 4 + code_length b
     → e1 ≡ e0 ++ code_lines e (record { raise_to = caught; exit_to = t.exit_to; return_to = t.return_to }) p a
     → e2 ≡ e1 ++ jump past ∷ map plain (store_slot 12 k []) → e3 ≡ e2 ++ code_lines e t handled b
     → e3 ≡ e0 ++ op_lines e t p (catch a k b)
-catch_put e t p k a b first second end caught handled past e0 e1 e2 e3 hf hs he hc hh hp h1 h2 h3 =
-    let ends : end ≡ p + code_length a = he ∙ ap (λ m. p + m) hf in
-    let at_handler : handled ≡ p + code_length a + 4 = hh ∙ ap (λ m. m + 4) ends in
-    let behind : past ≡ p + code_length a + 4 + code_length b = hp ∙ (λ i. at_handler i + hs i) in
+catch_put e t p k a b caught handled past e0 e1 e2 e3 at_catch at_handler behind h1 h2 h3 =
     three_parts e0 e1 e2 e3
     (code_lines e (record { raise_to = p + code_length a + 1; exit_to = t.exit_to; return_to = t.return_to }) p a)
     (jump (p + code_length a + 4 + code_length b) ∷ map plain (store_slot 12 k [])) (code_lines e t (p + code_length a + 4) b)
-    (h1 ∙ (λ i. e0 ++ code_lines e (record {
-      raise_to = (hc ∙ ap
-          (λ m. m + 1) ends) i;
-      exit_to = t.exit_to;
-      return_to = t.return_to;
-    }) p a))
+    (h1 ∙ (λ i. e0 ++ code_lines e (record { raise_to = at_catch i; exit_to = t.exit_to; return_to = t.return_to }) p a))
     (h2 ∙ (λ i. e1 ++ jump (behind i) ∷ map plain (store_slot 12 k [])))
     (h3 ∙ (λ i. e2 ++ code_lines e t (at_handler i) b))
 
-pub decide_put : (e : Setting) (t : Targets) (p k : ℕ) (d : DecId) (x : InstId) (ns : Nodes) (n true_at false_at past : ℕ)
+pub decide_put : (e : Setting) (t : Targets) (p k : ℕ) (d : DecId) (x : InstId) (ns : Nodes) (true_at false_at past : ℕ)
     (e0 e1 e2 : List Line)
-    → n ≡ nodes_length ns → true_at ≡ p + n → false_at ≡ true_at + 5 → past ≡ true_at + 9
+    → true_at ≡ p + nodes_length ns → false_at ≡ p + nodes_length ns + 5 → past ≡ p + nodes_length ns + 9
     → e1 ≡ e0 ++ nodes_lines e t true_at false_at d x 0 p ns
     → e2 ≡ e1 ++ (map plain (Immediate Addi 10 0 1 ∷ store_slot 10 k []) ++
     (jump past ∷ map plain (Immediate Addi 10 0 0 ∷ store_slot 10 k [])))
     → e2 ≡ e0 ++ op_lines e t p (decide d x k ns)
-decide_put e t p k d x ns n true_at false_at past e0 e1 e2 hn ht hf hp h1 h2 =
-    let at_true : true_at ≡ p + nodes_length ns = ht ∙ ap (λ m. p + m) hn in
-    let at_false : false_at ≡ p + nodes_length ns + 5 = hf ∙ ap (λ m. m + 5) at_true in
-    let behind : past ≡ p + nodes_length ns + 9 = hp ∙ ap (λ m. m + 9) at_true in
+decide_put e t p k d x ns true_at false_at past e0 e1 e2 at_true at_false behind h1 h2 =
     two_parts e0 e1 e2
     (nodes_lines e t (p + nodes_length ns) (p + nodes_length ns + 5) d x 0 p ns)
     (map plain (Immediate Addi 10 0 1 ∷ store_slot 10 k []) ++
@@ -99,18 +82,15 @@ decide_put e t p k d x ns n true_at false_at past e0 e1 e2 hn ht hf hp h1 h2 =
 
 pub node_put : (e : Setting) (t : Targets) (true_at false_at : ℕ) (d : DecId) (x : InstId) (number after p k : ℕ) (a : Code)
     (on_true on_false : Edge) (ns : Nodes)
-    (n end taken next to_true to_false : ℕ) (e0 e1 e2 e3 : List Line)
-    → n ≡ code_length a → end ≡ p + n → taken ≡ end + 7 → next ≡ end + 8 → after ≡ number + 1
+    (taken next to_true to_false : ℕ) (e0 e1 e2 e3 : List Line)
+    → taken ≡ p + code_length a + 7 → next ≡ p + code_length a + 8 → after ≡ number + 1
     → to_true ≡ edge_place true_at false_at ns next on_true → to_false ≡ edge_place true_at false_at ns next on_false
     → e1 ≡ e0 ++ code_lines e t p a
     → e2 ≡ e1 ++ (map plain (load_truth k) ++ (branch (decides d number x) Bne 10 0 taken ∷ (jump to_false ∷ (jump to_true ∷ []))))
     → e3 ≡ e2 ++ nodes_lines e t true_at false_at d x after next ns
     → e3 ≡ e0 ++ nodes_lines e t true_at false_at d x number p (and_node a k on_true on_false ns)
-node_put e t true_at false_at d x number after p k a on_true on_false ns n end taken next to_true to_false
-    e0 e1 e2 e3 hn he ht hx ha htrue hfalse h1 h2 h3 =
-    let ends : end ≡ p + code_length a = he ∙ ap (λ m. p + m) hn in
-    let at_next : next ≡ p + code_length a + 8 = hx ∙ ap (λ m. m + 8) ends in
-    let at_taken : taken ≡ p + code_length a + 7 = ht ∙ ap (λ m. m + 7) ends in
+node_put e t true_at false_at d x number after p k a on_true on_false ns taken next to_true to_false
+    e0 e1 e2 e3 at_taken at_next ha htrue hfalse h1 h2 h3 =
     let leads_true : to_true ≡ edge_place true_at false_at ns (p + code_length a + 8) on_true = htrue ∙ ap
     (λ m. edge_place true_at false_at ns m on_true) at_next in
     let leads_false : to_false ≡ edge_place true_at false_at ns (p + code_length a + 8) on_false = hfalse ∙ ap

@@ -1,6 +1,6 @@
 //! How many lines code has, whatever its place.
 
-ghost use Rattle.std.specs.Prelude.{◌≡◌, ℕ, IfOk};
+ghost use Rattle.std.specs.Prelude.{◌≡◌, ◌+◌, ℕ, IfOk};
 ghost use Rattle.kernel_ir.specs.declared.simple.Simple.TheVariants as simple;
 ghost use Rattle.kernel_ir.specs.TreeView.{op_of, ops_of, nodes_of};
 ghost use Rattle.kernel_code.specs.Code.{simple_length, op_length, code_length, nodes_length};
@@ -59,6 +59,13 @@ fn arithmetic_length(operator: Operator) -> u32
     }
 }
 
+/// The place behind a part that stands at a place, if the part's length can be told.
+pub(crate) fn behind(place: u32, length: Result<u32, AllocError>) -> Result<u32, AllocError>
+    ensures { (n : ℕ) → IfOk length (λ lines. lines ≡ n) → IfOk result (λ there. there ≡ place + n) }
+{
+    further(place, length?)
+}
+
 /// How many lines code has.
 #[cycle(lengths)]
 pub(crate) fn code_length(code: &Code) -> Result<u32, AllocError>
@@ -73,7 +80,7 @@ fn ops_length(ops: &[Op]) -> Result<u32, AllocError>
 {
     let mut sum = 0;
     for op in ops {
-        sum = further(sum, op_length(op)?)?;
+        sum = behind(sum, op_length(op))?;
     }
     Ok(sum)
 }
@@ -85,7 +92,7 @@ pub(crate) fn nodes_length(nodes: &[Node]) -> Result<u32, AllocError>
 {
     let mut sum = 0;
     for node in nodes {
-        sum = further(further(sum, code_length(&node.operand)?)?, 8)?;
+        sum = behind(8, behind(sum, code_length(&node.operand)))?;
     }
     Ok(sum)
 }
@@ -101,13 +108,20 @@ pub(crate) fn op_length(op: &Op) -> Result<u32, AllocError>
             if_true,
             if_false,
             ..
-        } => further(further(code_length(if_true)?, code_length(if_false)?)?, 7),
-        Op::Forever(body) | Op::ForLoop(body) => further(code_length(body)?, 1),
+        } => both_lengths(7, if_true, if_false),
+        Op::Forever(body) | Op::ForLoop(body) => behind(1, code_length(body)),
         Op::Exit | Op::Returns => Ok(1),
-        Op::Catch { body, handler, .. } => {
-            further(further(code_length(body)?, code_length(handler)?)?, 4)
-        }
-        Op::Decide { nodes, .. } => further(nodes_length(nodes)?, 9),
+        Op::Catch { body, handler, .. } => both_lengths(4, body, handler),
+        Op::Decide { nodes, .. } => behind(9, nodes_length(nodes)),
         Op::Call { .. } => Ok(13),
     }
+}
+
+/// How many lines two codes have, and so many more.
+#[cycle(lengths)]
+fn both_lengths(more: u32, first: &Code, second: &Code) -> Result<u32, AllocError>
+    ensures { IfOk result (λ n. n ≡ code_length first.now + code_length second.now + more) }
+{
+    let before = behind(more, code_length(first))?;
+    behind(before, code_length(second))
 }

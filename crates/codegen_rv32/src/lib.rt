@@ -8,6 +8,7 @@ mod fills;
 mod lengths;
 mod parts;
 mod pieces;
+mod places;
 mod structure;
 mod targets;
 

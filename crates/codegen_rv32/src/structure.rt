@@ -7,10 +7,12 @@ ghost use Rattle.kernel_code.specs.Code.{op_lines, code_lines, nodes_lines, body
 ghost use Rattle.kernel_code.specs.Set.{setting_of};
 ghost use Rattle.codegen_rv32.specs.Set.{targets_of};
 
-use crate::lengths::{code_length, nodes_length, op_length};
+use crate::lengths::{behind, code_length, op_length};
 use crate::parts::{
-    edge_place, enter_body, enter_handler, leave_body, put_call, put_condition, put_test,
-    set_outcome,
+    enter_body, enter_handler, leave_body, put_call, put_condition, put_test, set_outcome,
+};
+use crate::places::{
+    behind_loop, choice_places, handler_places, node_places, number_after, outcome_places,
 };
 use crate::targets::{Evaluation, Targets};
 use cov_base::{DecId, InstId};
@@ -45,7 +47,7 @@ fn put_operations(
     let mut at = place;
     for op in ops {
         put_operation(emitter, frame, targets, at, op)?;
-        at = further(at, op_length(op)?)?;
+        at = behind(at, op_length(op))?;
     }
     Ok(())
 }
@@ -101,16 +103,11 @@ fn put_choose(
     ensures { OnOk result (emitter.new ≡ emitter.old ++ op_lines (setting_of frame.now) (targets_of targets) place
         (tree.choose slot if_true.now if_false.now)) }
 {
-    let inside = further(place, 6)?;
-    let behind = further(place, 7)?;
-    let first = code_length(if_true)?;
-    let second = code_length(if_false)?;
-    let otherwise = further(behind, first)?;
-    let past = further(otherwise, second)?;
-    put_test(emitter, slot, inside, otherwise)?;
-    put_code(emitter, frame, targets, inside, if_true)?;
-    emitter.jump(past)?;
-    put_code(emitter, frame, targets, otherwise, if_false)
+    let at = choice_places(place, if_true, if_false)?;
+    put_test(emitter, slot, at.inside, at.otherwise)?;
+    put_code(emitter, frame, targets, at.inside, if_true)?;
+    emitter.jump(at.past)?;
+    put_code(emitter, frame, targets, at.otherwise, if_false)
 }
 
 /// A loop.
@@ -125,9 +122,7 @@ fn put_repeat(
     ensures { OnOk result (emitter.new ≡ emitter.old ++ op_lines (setting_of frame.now) (targets_of targets) place
         (tree.forever body.now)) }
 {
-    let length = code_length(body)?;
-    let end = further(place, length)?;
-    let past = further(end, 1)?;
+    let past = behind_loop(place, body)?;
     let inside = Targets {
         raise_to: targets.raise_to,
         exit_to: past,
@@ -151,20 +146,15 @@ fn put_catch(
     ensures { OnOk result (emitter.new ≡ emitter.old ++ op_lines (setting_of frame.now) (targets_of targets) place
         (tree.catch body.now slot handler.now)) }
 {
-    let first = code_length(body)?;
-    let second = code_length(handler)?;
-    let end = further(place, first)?;
-    let caught = further(end, 1)?;
-    let handled = further(end, 4)?;
-    let past = further(handled, second)?;
+    let at = handler_places(place, body, handler)?;
     let guarded = Targets {
-        raise_to: caught,
+        raise_to: at.caught,
         exit_to: targets.exit_to,
         return_to: targets.return_to,
     };
     put_code(emitter, frame, guarded, place, body)?;
-    enter_handler(emitter, past, slot)?;
-    put_code(emitter, frame, targets, handled, handler)
+    enter_handler(emitter, at.past, slot)?;
+    put_code(emitter, frame, targets, at.handled, handler)
 }
 
 /// The evaluation of a decision.
@@ -182,18 +172,15 @@ fn put_decide(
     ensures { OnOk result (emitter.new ≡ emitter.old ++ op_lines (setting_of frame.now) (targets_of targets) place
         (tree.decide decision instance slot (nodes_of nodes.now))) }
 {
-    let length = nodes_length(nodes)?;
-    let true_at = further(place, length)?;
-    let false_at = further(true_at, 5)?;
-    let past = further(true_at, 9)?;
+    let at = outcome_places(place, nodes)?;
     let evaluation = Evaluation {
         decision,
         instance,
-        true_at,
-        false_at,
+        true_at: at.true_at,
+        false_at: at.false_at,
     };
     put_nodes(emitter, frame, targets, evaluation, 0, place, nodes)?;
-    set_outcome(emitter, slot, past)
+    set_outcome(emitter, slot, at.past)
 }
 
 /// The nodes of a decision, of which the first one has a number.
@@ -214,18 +201,21 @@ fn put_nodes(
     let Some((node, following)) = nodes.split_first() else {
         return Ok(());
     };
-    let length = code_length(&node.operand)?;
-    let end = further(place, length)?;
-    let taken = further(end, 7)?;
-    let next = further(end, 8)?;
+    let at = node_places(evaluation, place, node, following)?;
     let after = number_after(number)?;
-    let on_true = edge_place(evaluation, following, next, node.on_true)?;
-    let on_false = edge_place(evaluation, following, next, node.on_false)?;
     put_code(emitter, frame, targets, place, &node.operand)?;
     put_condition(
-        emitter, evaluation, number, node.slot, taken, on_false, on_true,
+        emitter,
+        evaluation,
+        number,
+        node.slot,
+        at.taken,
+        at.on_false,
+        at.on_true,
     )?;
-    put_nodes(emitter, frame, targets, evaluation, after, next, following)
+    put_nodes(
+        emitter, frame, targets, evaluation, after, at.next, following,
+    )
 }
 
 /// A body.
@@ -247,11 +237,4 @@ pub(crate) fn put_body(
     enter_body(emitter)?;
     put_code(emitter, frame, targets, 2, code)?;
     leave_body(emitter)
-}
-
-/// The number of the next node. There is no memory for 256 of them.
-fn number_after(number: u8) -> Result<u8, AllocError>
-    ensures { IfOk result (λ after. after ≡ number + 1) }
-{
-    number.checked_add(1).ok_or(AllocError)
 }

@@ -13,6 +13,9 @@ decreases-ops_length l = 3 * code_size (ops_of l.ops.now)
 abbrev pub decreases-op_length : goal.decreases-op_length
 decreases-op_length l = 3 * op_size (op_of l.op.now)
 
+abbrev pub decreases-both_lengths : goal.decreases-both_lengths
+decreases-both_lengths l = 3 * (code_size l.first.now + code_size l.second.now) + 2
+
 abbrev pub decreases-nodes_length : goal.decreases-nodes_length
 decreases-nodes_length l = 3 * nodes_size (nodes_of l.nodes.now) + 2
 

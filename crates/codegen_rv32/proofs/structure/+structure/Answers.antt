@@ -25,25 +25,24 @@ pub put_choose-returns : goal.put_choose-returns
 put_choose-returns t c =
     on_ok_weaker c.put_code-2.result
     (choose_put (setting_of c.args.frame.now)
-    (targets_of c.args.targets) c.args.place c.args.slot c.args.if_true.now c.args.if_false.now _ _ _ _ _ _ _ _ _ _ _
-    c.in_ok-first.ensures c.in_ok-second.ensures c.in_ok-inside.ensures c.in_ok-behind.ensures c.in_ok-otherwise.ensures
-    c.in_ok-past.ensures
+    (targets_of c.args.targets) c.args.place c.args.slot c.args.if_true.now c.args.if_false.now _ _ _ _ _ _ _ _
+    c.in_ok-at.ensures.inside c.in_ok-at.ensures.otherwise c.in_ok-at.ensures.past
     c.in_ok-put_test.ensures c.in_ok-put_code.ensures c.in_ok-jump.ensures)
     c.put_code-2.ensures
 
 pub put_repeat-returns : goal.put_repeat-returns
 put_repeat-returns t c =
     on_ok_weaker c.jump.result
-    (repeat_put (setting_of c.args.frame.now) (targets_of c.args.targets) c.args.place c.args.body.now _ _ _ _ _ _
-    c.in_ok-length.ensures c.in_ok-end.ensures c.in_ok-past.ensures c.in_ok-put_code.ensures)
+    (repeat_put (setting_of c.args.frame.now) (targets_of c.args.targets) c.args.place c.args.body.now _ _ _ _
+    c.in_ok-past.ensures c.in_ok-put_code.ensures)
     c.jump.ensures
 
 pub put_catch-returns : goal.put_catch-returns
 put_catch-returns t c =
     on_ok_weaker c.put_code-2.result
     (catch_put (setting_of c.args.frame.now)
-    (targets_of c.args.targets) c.args.place c.args.slot c.args.body.now c.args.handler.now _ _ _ _ _ _ _ _ _ _
-    c.in_ok-first.ensures c.in_ok-second.ensures c.in_ok-end.ensures c.in_ok-caught.ensures c.in_ok-handled.ensures c.in_ok-past.ensures
+    (targets_of c.args.targets) c.args.place c.args.slot c.args.body.now c.args.handler.now _ _ _ _ _ _ _
+    c.in_ok-at.ensures.caught c.in_ok-at.ensures.handled c.in_ok-at.ensures.past
     c.in_ok-put_code.ensures c.in_ok-enter_handler.ensures)
     c.put_code-2.ensures
 
@@ -51,8 +50,8 @@ pub put_decide-returns : goal.put_decide-returns
 put_decide-returns t c =
     on_ok_weaker c.set_outcome.result
     (decide_put (setting_of c.args.frame.now) (targets_of c.args.targets) c.args.place c.args.slot c.args.decision c.args.instance
-    (nodes_of c.args.nodes.now) _ _ _ _ _ _ _
-    c.in_ok-length.ensures c.in_ok-true_at.ensures c.in_ok-false_at.ensures c.in_ok-past.ensures c.in_ok-put_nodes.ensures)
+    (nodes_of c.args.nodes.now) _ _ _ _ _ _
+    c.in_ok-at.ensures.true_at c.in_ok-at.ensures.false_at c.in_ok-at.ensures.past c.in_ok-put_nodes.ensures)
     c.set_outcome.ensures
 
 pub put_nodes-put_nodes-requires : goal.put_nodes-put_nodes-requires
@@ -69,10 +68,12 @@ put_nodes-returns t c =
     (node_put (setting_of c.args.frame.now) (targets_of c.args.targets) v.true_at v.false_at v.decision v.instance c.args.number
     c.in_ok-after.after c.args.place c.in-Some.node.now.slot
     c.in-Some.node.now.operand c.in-Some.node.now.on_true c.in-Some.node.now.on_false
-    (nodes_of c.in-Some.following.now) _ _ _ _ _ _ _ _ _ _
-    c.in_ok-length.ensures c.in_ok-end.ensures c.in_ok-taken.ensures c.in_ok-next.ensures c.in_ok-after.ensures
-    c.in_ok-on_true.ensures c.in_ok-on_false.ensures c.in_ok-put_code.ensures c.in_ok-put_condition.ensures h))
+    (nodes_of c.in-Some.following.now) _ _ _ _ _ _ _ _
+    c.in_ok-at.ensures.taken c.in_ok-at.ensures.next c.in_ok-after.ensures
+    c.in_ok-at.ensures.on_true c.in_ok-at.ensures.on_false c.in_ok-put_code.ensures c.in_ok-put_condition.ensures h))
     c.put_nodes.ensures
 
 pub put_operations-loop-op-preserved : goal.put_operations-loop-op-preserved
-put_operations-loop-op-preserved t c = grind (arith, common_steps)
+put_operations-loop-op-preserved t c =
+    let at = c.in_ok-at.ensures _ c.op_length.ensures in
+    grind (arith, common_steps, at)
