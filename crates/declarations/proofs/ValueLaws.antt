@@ -1,5 +1,5 @@
 -- Objects with and without an initial value, of the rules' definitions.
-use Rattle.std.proofs.Common.{◌≡◌, Bool, true, false, if◌then◌else◌, List, Option, None, Some, option_map, Result, Ok, ap, ◌∙◌}
+use Rattle.std.proofs.Common.{◌≡◌, Bool, true, false, if◌then◌else◌, List, Option, None, Some, option_map, Result, Ok, Err, IfOk, OnOk, ap, subst, ◌∙◌}
 use Rattle.cov_base.specs.declared.position.Pos.{Pos}
 use Rattle.cov_base.specs.declared.failure.Failure.{Failure}
 use Rattle.ada_meaning.specs.Types.{Static}
@@ -12,7 +12,7 @@ use Rattle.ada_rules.specs.Entities.{Region}
 use Rattle.ada_rules.specs.Environment.{Step, typed_rule, State, Given, given, Env, with_local}
 use Rattle.ada_rules.specs.Declarations.{NewValue, new_value, LibraryValue, library_value, no_library_value, Declared, may_be_bare, one_name, known_constant, lying_in, local_bare, local_known, local_set, library_known, library_declared, objects_declared}
 use Rattle.ada_entities.specs.declared.fault.Refusal.{Refusal}
-use Rattle.ada_entities.specs.Answers.{Refuses}
+use Rattle.ada_entities.specs.Answers.{Refuses, Answers}
 use Rattle.ada_phrases.proofs.Parts.{passes_on, in_part}
 use Rattle.declarations.specs.Setting.{setting_library, setting_locals}
 
@@ -89,3 +89,18 @@ pub broken_at : (st : Step) (p : Pos) (library local : Declared) (o : Option Uni
     → ((d : Declared) → Refuses (ruled_as st p d o) f) → (b : Bool) → Refuses (at_level st p library local o b) f
 broken_at st p library local o f h true = h library
 broken_at st p library local o f h false = h local
+
+-- what is ensured of a result that came, and where one came
+pub when_ok : {A E : Type 0} (P : A → Type 0) (r : Result A E) (x : A) → r ≡ Ok x → IfOk r P → P x
+when_ok P r x is h = subst (λ y. IfOk y P) is h
+
+pub when_passed : {A E P : Type 0} (r : Result A E) (x : A) → r ≡ Ok x → OnOk r P → P
+when_passed {A} {E} {P} r x is h = subst (λ y. OnOk y P) is h
+
+-- what a rule comes to that refused, and one that passed
+module _ {A B : Type 0} (view : A → B) (x : Result B Pos) (r : Result A (Failure Refusal)) where
+  pub rule_refuses : (f : Failure Refusal) → r ≡ Err f → Answers view x r → Refuses x f
+  rule_refuses f is h = subst (λ y. Answers view x y) is h
+
+  pub rule_passes : (a : A) → r ≡ Ok a → Answers view x r → x ≡ Ok (view a)
+  rule_passes a is h = subst (λ y. Answers view x y) is h

@@ -1,19 +1,23 @@
 -- Objects that are declared in a subprogram, as the walk goes on.
-use Rattle.std.specs.Prelude.{◌≡◌, ℕ, ◌+◌, List, ◌++◌, map, option_map}
+use Rattle.std.specs.Prelude.{◌≡◌, ℕ, ◌+◌, List, [], ◌∷◌, ◌++◌, map, option_map}
+use Rattle.cov_base.specs.declared.position.Pos.{Pos}
 use Rattle.ada_syntax.specs.declared.name.Identifier.{Identifier}
 use Rattle.ada_meaning.specs.Tree as tree
 use Rattle.ada_tree.specs.Programs.{unfolded_declaration}
 use Rattle.ada_tree.specs.View.{declaration_of}
 use Rattle.ada_tree.specs.declared.statement.Declaration.{Declaration}
+use Rattle.ada_tree.specs.declared.statement.NewValue.{NewValue}
 use Rattle.ada_tree.specs.declared.types.Subtype.{Subtype as TreeSubtype}
 use Rattle.ada_rules.specs.Types.{AdaSubtype, subtype_in_tree}
 use Rattle.ada_rules.specs.Entities.{key, Entity, Region, redefined}
-use Rattle.ada_rules.specs.Environment.{State}
+use Rattle.ada_rules.specs.Environment.{State, statement_label}
 use Rattle.ada_rules.specs.Declarations.{object_entity, local_objects, with_objects, bare_declarations}
 use Rattle.ada_entities.specs.Views.{subtype_of}
 use Rattle.ada_entities.specs.EntityViews.{Tables, constant_of}
+use Rattle.object_values.specs.Values.{value_in}
+use Rattle.program_walk.specs.declared.counts.Counts.{Counts}
 use Rattle.program_walk.specs.declared.walk.Walk.{Walk}
-use Rattle.program_walk.specs.States.{types_in, subtype_there, state_of}
+use Rattle.program_walk.specs.States.{types_in, subtype_there, with_counts, state_of}
 use Rattle.declarations.specs.declared.objects.ObjectForm.{ObjectForm}
 use Rattle.declarations.specs.Going.{region_in}
 use Rattle.declarations.specs.Objects.{one_object}
@@ -62,3 +66,9 @@ abbrev pub MakesBare : (old new : List Declaration) → TreeSubtype → (first :
 MakesBare old new x first is =
     (k : Tables) (t : AdaSubtype) → subtype_there k x ≡ subtype_in_tree t
     → made_of k new ≡ made_of k old ++ bare_declarations t first is
+
+-- the declaration of objects with a value, whose label is the next
+abbrev pub MakesSet : Counts → (old new : List Declaration) → Pos → NewValue → Type 0
+MakesSet counts old new p v =
+    (k : Tables) (s : State)
+    → made_of k new ≡ made_of k old ++ tree.initialized (statement_label (with_counts counts s) p) counts.objects (value_in k.types v) ∷ []

@@ -2,12 +2,14 @@
 
 ghost use Rattle.std.specs.Prelude.{◌≡◌, ◌+◌, IfOk, OnOk};
 ghost use Rattle.declarations.specs.Going.{GoesInside, IsWalkOpen};
-ghost use Rattle.declarations.specs.Locals.{AddsLocal, AddsLocals, MakesBare};
+ghost use Rattle.declarations.specs.Locals.{AddsLocal, AddsLocals, MakesBare, MakesSet};
+ghost use Rattle.program_walk.specs.Counting.{Starts};
 
 use crate::objects::ObjectForm;
 use ada_syntax::Identifier;
-use ada_tree::{Declaration, Object, Subtype as TreeSubtype};
-use program_walk::{Walk, Word};
+use ada_tree::{Declaration, NewValue, Object, Subtype as TreeSubtype};
+use cov_base::Pos;
+use program_walk::{Counts, Walk, Word};
 use std::alloc::{AllocError, Global};
 
 /// Declares an object under a name of the innermost region, with the next number.
@@ -70,4 +72,28 @@ pub(crate) fn make_bare(
         number = next(number)?;
     }
     Ok(())
+}
+
+/// Makes the declaration, which begins at `pos`, of objects that are set to this, from the next number on.
+/// It takes the number of a statement obligation.
+pub(crate) fn make_set(
+    counts: &mut Counts,
+    made: &mut Vec<Declaration>,
+    pos: Pos,
+    value: NewValue,
+) -> Result<(), AllocError>
+    ensures made { OnOk result (MakesSet counts.old made.old.items made.new.items pos value) }
+    ensures taken { OnOk result (Starts counts.old counts.new) }
+{
+    let number = counts.objects;
+    match counts.statement(pos) {
+        Ok(label) => {
+            made.push(Declaration::Initialized(label, number, value))?;
+            Ok(())
+        }
+        Err(fault) => {
+            drop(value);
+            Err(fault)
+        }
+    }
 }

@@ -9,7 +9,7 @@ ghost use Rattle.declarations.specs.Values.{DeclaresObjects, SetsLibraryObjects,
 use crate::constants::{library_constant, local_constant};
 use crate::initial::{LibraryValue, library_value};
 use crate::library::add_objects;
-use crate::locals::{add_locals, make_bare};
+use crate::locals::{add_locals, make_bare, make_set};
 use crate::objects::ObjectForm;
 use crate::trees::tree_subtype;
 use ada_entities::{Refusal, Subtype, refused};
@@ -72,16 +72,14 @@ fn make_locals(
         constancy,
         subtype,
         value.known,
-    )?;
+    );
+    make_set(&mut walk.counts, made, pos, value.value)?;
     let form = ObjectForm {
         constancy,
         subtype,
         tree: tree_subtype(&walk.symbols, subtype)?,
-        known,
+        known: known?,
     };
-    let number = walk.counts.objects;
-    let label = walk.counts.statement(pos)?;
-    made.push(Declaration::Initialized(label, number, value.value))?;
     add_locals(alloc, walk, form, names)?;
     Ok(())
 }
@@ -218,9 +216,16 @@ pub(crate) fn set_locals(
     let place = context.place(&walk.symbols);
     let decisions = &mut walk.notes.decisions;
     let value = new_value(alloc, &place.site, decisions, pos, subtype, initial)?;
-    one_name(context.step, pos, names)?;
-    make_locals(
-        alloc, context, walk, made, pos, constancy, subtype, value, names,
-    )?;
-    Ok(())
+    match one_name(context.step, pos, names) {
+        Ok(()) => {
+            make_locals(
+                alloc, context, walk, made, pos, constancy, subtype, value, names,
+            )?;
+            Ok(())
+        }
+        Err(fault) => {
+            drop(value);
+            Err(fault)
+        }
+    }
 }
