@@ -1,5 +1,5 @@
 -- What an object is set to, in both steps.
-use Rattle.std.proofs.Common.{◌≡◌, Option, None, option_map, Result, Ok, Err, refl, sym, ap, subst, ◌∙◌}
+use Rattle.std.proofs.Common.{◌≡◌, Option, None, option_map, Result, Ok, Err, IfOk, refl, sym, ap, subst, ◌∙◌}
 use Rattle.cov_base.specs.declared.position.Pos.{Pos}
 use Rattle.cov_base.specs.declared.failure.Failure.{Failure}
 use Rattle.ada_syntax.specs.declared.declaration.Initial.{Initial}
@@ -46,3 +46,7 @@ pub none_refused : {A B : Type 0} (p : Pos) (g : A → B) (o : Option A) → o �
 none_refused p g o h = refused_at (ap (λ x. answer_at p (ruled (option_map g x))) h)
 
 pub ruleset parts = (no_memory)
+
+-- what is ensured of a result that came
+pub when_ok : {A E : Type 0} (P : A → Type 0) (r : Result A E) (x : A) → r ≡ Ok x → IfOk r P → P x
+when_ok P r x is h = subst (λ y. IfOk y P) is h

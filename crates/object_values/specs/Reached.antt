@@ -13,6 +13,8 @@ use Rattle.ada_entities.specs.EntityViews.{Tables}
 use Rattle.symbol_table.specs.declared.symbols.Symbols.{Symbols}
 use Rattle.symbol_table.specs.SymbolViews.{Begins, IsKnown}
 use Rattle.object_values.specs.Values.{in_indices}
+use Rattle.type_trees.specs.Trees.{IsSubtypeThere}
+use Rattle.object_values.specs.declared.reach.Placement.{Placement}
 use Rattle.object_values.specs.declared.reach.Reach.{Reach}
 
 -- what the component within is set to, round which the indices stand
@@ -27,3 +29,18 @@ IsReached symbols t others o =
 
 abbrev pub AreIndices : List ScalarRange → Option Indices → Type 0
 AreIndices rs o = (v : tree.NewValue) → others_of rs v ≡ in_indices o v
+
+-- what the component within is set to, with the indices as a value has them
+abbrev pub placed_value : TypeTables → rules.Judged → Option Placement → Option tree.NewValue
+placed_value k e None = None
+placed_value k e (Some p) = option_map (in_indices p.indices) (value_for (subtype_of k p.component) [] e)
+
+-- the component's type is in the table
+abbrev pub IsPlaceThere : TypeTables → Option Placement → Type 0
+IsPlaceThere k None = Unit {0}
+IsPlaceThere k (Some p) = IsSubtypeThere k p.component
+
+abbrev pub IsPlacing : Symbols → Subtype → List Pos → Option Placement → Type 0
+IsPlacing symbols t others o =
+    IsKnown symbols → (k : Tables) → Begins symbols k
+    → ((e : rules.Judged) → value_for (subtype_of k.types t) others e ≡ placed_value k.types e o) × IsPlaceThere k.types o

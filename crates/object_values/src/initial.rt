@@ -5,9 +5,9 @@ ghost use Rattle.ada_rules.specs.Declarations as rules;
 ghost use Rattle.ada_entities.specs.EntityViews.{Tables};
 ghost use Rattle.object_values.specs.NewValues.{new_value_of, known_for, IsValueFor, IsTypedValue, IsNewValue};
 
-use crate::others::in_others;
+use crate::others::placed;
 use crate::place::value_place;
-use crate::reach::{indices_of, reached};
+use crate::reach::placing;
 use crate::single::single_value;
 use ada_entities::{Refusal, Subtype, refused};
 use ada_judged::{Form, Judged, Kind, StaticTree};
@@ -60,17 +60,20 @@ fn value_for(
 ) -> Result<Option<TreeValue>, AllocError>
     ensures { IfOk result (IsValueFor symbols.now subtype others.now kind form) }
 {
-    let Some(reach) = reached(alloc, symbols, subtype, others)? else {
-        return Ok(None);
-    };
-    if !symbols.knows(reach.component.of) {
-        return Err(AllocError);
+    match placing(alloc, symbols, subtype, others) {
+        Ok(Some(placement)) => {
+            let single = single_value(placement.component, kind, form);
+            Ok(placed(placement.indices, single))
+        }
+        Ok(None) => {
+            drop(form);
+            Ok(None)
+        }
+        Err(fault) => {
+            drop(form);
+            Err(fault)
+        }
     }
-    let indices = indices_of(alloc, reach.indices.as_slice())?;
-    let Some(single) = single_value(reach.component, kind, form) else {
-        return Ok(None);
-    };
-    Ok(Some(in_others(indices, single)))
 }
 
 /// What an object of this subtype is set to by an expression, with an `others` at each of these places
@@ -90,6 +93,7 @@ fn typed_value(
     let known = known_for(others, value.known);
     let found = value_for(alloc, symbols, subtype, others, value.kind, value.form)?;
     let Some(value) = found else {
+        drop(known);
         return Err(refused(value_place(symbols, pos, subtype, others)?));
     };
     Ok(NewValue { value, known })
@@ -110,7 +114,10 @@ pub fn new_value(
 {
     let value = site.judged(alloc, Role::Itself, decisions, &initial.value)?;
     match site.step {
-        Step::Naming => Ok(NewValue::any()),
+        Step::Naming => {
+            drop(value);
+            Ok(NewValue::any())
+        }
         Step::Typing => {
             let others = initial.others.as_slice();
             typed_value(alloc, site.symbols, subtype, pos, others, value)

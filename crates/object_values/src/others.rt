@@ -1,6 +1,6 @@
 //! `(others => ..)` (Ada RM 2012, 4.3.3).
 
-ghost use Rattle.std.specs.Prelude.{◌≡◌};
+ghost use Rattle.std.specs.Prelude.{◌≡◌, option_map};
 ghost use Rattle.ada_entities.specs.Views.{TypeTables};
 ghost use Rattle.object_values.specs.Values.{value_in, single_in, in_indices};
 
@@ -21,6 +21,20 @@ pub fn in_others(indices: Option<Indices>, value: Single) -> NewValue
         }
         (Some(indices), Single::Composite(owner, number, object, parts)) => {
             NewValue::OthersComposite(indices, owner, number, object, parts)
+        }
+    }
+}
+
+/// The same of a value where there is one.
+pub(crate) fn placed(indices: Option<Indices>, value: Option<Single>) -> Option<NewValue>
+    ensures { (k : TypeTables) → option_map (value_in k) result
+        ≡ option_map (in_indices indices) (option_map (single_in k) value) }
+{
+    match value {
+        Some(value) => Some(in_others(indices, value)),
+        None => {
+            drop(indices);
+            None
         }
     }
 }

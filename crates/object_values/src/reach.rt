@@ -1,7 +1,7 @@
 //! How far in `(others => ..)` goes (Ada RM 2012, 4.3.3).
 
 ghost use Rattle.std.specs.Prelude.{◌≡◌, IfOk};
-ghost use Rattle.object_values.specs.Reached.{IsReached, AreIndices};
+ghost use Rattle.object_values.specs.Reached.{IsReached, AreIndices, IsPlacing};
 
 use ada_entities::Subtype;
 use ada_tree::{Indices, ScalarRange};
@@ -11,14 +11,21 @@ use symbol_table::Symbols;
 
 /// The indices of `(others => ..)`, from the outermost in, and the subtype of the component within.
 #[derive(Drop)]
-pub(crate) struct Reach {
+struct Reach {
     pub indices: Vec<ScalarRange>,
+    pub component: Subtype,
+}
+
+/// The same with the indices as a value has them round it, where there are some.
+#[derive(Drop)]
+pub(crate) struct Placement {
+    pub indices: Option<Indices>,
     pub component: Subtype,
 }
 
 /// How far in an `others` at each of these places goes; nowhere, where one does not stand for the
 /// components of an array.
-pub(crate) fn reached(
+fn reached(
     alloc: Global,
     symbols: &Symbols,
     subtype: Subtype,
@@ -39,10 +46,7 @@ pub(crate) fn reached(
 }
 
 /// The indices, where there are some.
-pub(crate) fn indices_of(
-    alloc: Global,
-    indices: &[ScalarRange],
-) -> Result<Option<Indices>, AllocError>
+fn indices_of(alloc: Global, indices: &[ScalarRange]) -> Result<Option<Indices>, AllocError>
     ensures { IfOk result (AreIndices indices.now) }
 {
     match indices.split_first() {
@@ -52,4 +56,27 @@ pub(crate) fn indices_of(
         })),
         None => Ok(None),
     }
+}
+
+/// How far in an `others` at each of these places goes, as a value of the component is placed there. A
+/// component's type that leads nowhere has no memory.
+pub(crate) fn placing(
+    alloc: Global,
+    symbols: &Symbols,
+    subtype: Subtype,
+    others: &[Pos],
+) -> Result<Option<Placement>, AllocError>
+    ensures { IfOk result (IsPlacing symbols.now subtype others.now) }
+{
+    let Some(reach) = reached(alloc, symbols, subtype, others)? else {
+        return Ok(None);
+    };
+    if !symbols.knows(reach.component.of) {
+        return Err(AllocError);
+    }
+    let indices = indices_of(alloc, reach.indices.as_slice())?;
+    Ok(Some(Placement {
+        indices,
+        component: reach.component,
+    }))
 }

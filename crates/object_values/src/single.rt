@@ -27,7 +27,14 @@ fn composite(of: Composite, form: Form) -> Option<Single>
             variable.object,
             variable.parts,
         )),
-        Form::Plain(_) | Form::Test(_) => None,
+        Form::Plain(expr) => {
+            drop(expr);
+            None
+        }
+        Form::Test(test) => {
+            drop(test);
+            None
+        }
     }
 }
 
@@ -46,6 +53,7 @@ pub(crate) fn single_value(subtype: Subtype, kind: Kind, form: Form) -> Option<S
     ensures { IsSingle subtype kind form result }
 {
     if !kind.fits(subtype.of) {
+        drop(form);
         return None;
     }
     of_form(subtype, form)
