@@ -1,4 +1,5 @@
-//! Names of types and subtypes (Ada RM 2012, 3.2.2, 3.5).
+//! Names of types and subtypes (Ada RM 2012, 3.2.2, 3.5). What a name denotes is given to `drop` by name: the
+//! end of a scope would write out the drop of each part of it.
 
 ghost use Rattle.std.specs.Prelude.{◌≡◌, option_map, unwrap_or};
 ghost use Rattle.std.specs.Option.{option_and_then};
@@ -121,7 +122,9 @@ impl Site<'_> {
             (λ env s. (rules.mark_part env s name.now).answer) result }
     {
         let denoted = self.denoted(alloc, decisions, name)?;
-        mark(self.step, name.pos(), &denoted)
+        let found = mark(self.step, name.pos(), &denoted);
+        drop(denoted);
+        found
     }
 
     /// A scalar type or subtype, by its name (RM 3.5). Refused at the rules' own place.
@@ -136,6 +139,8 @@ impl Site<'_> {
             (λ env s. (rules.scalar_mark env s name.now).answer) result }
     {
         let denoted = self.denoted(alloc, decisions, name)?;
-        scalar_mark(self.step, name.pos(), &denoted)
+        let found = scalar_mark(self.step, name.pos(), &denoted);
+        drop(denoted);
+        found
     }
 }

@@ -1,4 +1,5 @@
-//! Where a construct stands (Ada RM 2012, 8.1 to 8.3).
+//! Where a construct stands (Ada RM 2012, 8.1 to 8.3). What is refused is given to `drop` by name: the end
+//! of a scope would write out the drop of each part of it.
 
 ghost use Rattle.std.specs.Prelude.{◌≡◌, IfOk};
 ghost use Rattle.ada_rules.specs.Entities.{key};
@@ -72,6 +73,7 @@ impl Site<'_> {
     {
         let value = judged(alloc, &self.scope(), role, decisions, expr)?;
         if !self.symbols.extent.knows_judged(&value) {
+            drop(value);
             return Err(Failure::WantOfMemory);
         }
         Ok(value)
@@ -90,6 +92,7 @@ impl Site<'_> {
     {
         let denoted = denoted(alloc, &self.scope(), decisions, name)?;
         if !self.symbols.extent.knows_denoted(&denoted) {
+            drop(denoted);
             return Err(Failure::WantOfMemory);
         }
         Ok(denoted)

@@ -19,7 +19,7 @@ pub returns : goal.returns
 returns c k env s h =
     let st = step_of c.args.self.now.step in
     let d = given (denotes k c.in_ok-denoted.denoted) (counted c.denoted.new.decisions s) in
-    answers_as (λ m. given (marked_of k m) d.next) _ _ c.mark.result
+    answers_as (λ m. given (marked_of k m) d.next) _ _ c.mark-found.result
     (mark_passes env (counted c.args.decisions.now s) c.args.name.now st d h.step (c.in_ok-denoted.ensures k env s h)
     ∙ ap (λ p. answer_at p (ruled (option_map (λ m. given m d.next) (mark_or_any st d.value)))) (sym c.pos.ensures))
-    (c.mark.ensures k d.next)
+    (c.mark-found.ensures k d.next)

@@ -21,8 +21,8 @@ returns c k env s h =
     let st = step_of c.args.self.now.step in
     let d = given (denotes k c.in_ok-denoted.denoted) (counted c.denoted.new.decisions s) in
     let o = marked d.value in
-    answers_as (λ m. given (marked_of k m) d.next) _ _ c.scalar_mark.result
+    answers_as (λ m. given (marked_of k m) d.next) _ _ c.scalar_mark-found.result
     (scalar_passes env (counted c.args.decisions.now s) c.args.name.now st d h.step (c.in_ok-denoted.ensures k env s h)
     ∙ ap (λ p. answer_at p (typed_rule st (given (unwrap_or o any_mark) d.next) (option_map (λ m. given m d.next) (option_and_then scalar_only o))).outcome)
     (sym c.pos.ensures))
-    (c.scalar_mark.ensures k d.next)
+    (c.scalar_mark-found.ensures k d.next)
