@@ -1,4 +1,5 @@
-//! Expressions that have to be static (Ada RM 2012, 4.9).
+//! Expressions that have to be static (Ada RM 2012, 4.9). What is used no longer is given to `drop` by name:
+//! the end of a scope would write out the drop of each part of it.
 
 ghost use Rattle.std.specs.Prelude.{◌≡◌};
 ghost use Rattle.ada_rules.specs.Expressions as rules;
@@ -56,6 +57,7 @@ impl Place<'_> {
             return Err(refused(pos));
         };
         if !accepted.accepts(kind) {
+            drop(tree);
             return Err(refused(pos));
         }
         let value = statics.static_known(alloc, self.instances, self.generic, &tree)?;
@@ -81,10 +83,14 @@ impl Place<'_> {
             .site
             .judged(alloc, Role::Itself, &mut notes.decisions, expr)?;
         match self.site.step {
-            Step::Naming => Ok(Valued::any()),
+            Step::Naming => {
+                drop(value);
+                Ok(Valued::any())
+            }
             Step::Typing => {
                 let pos = expr.pos();
                 let statics = &mut notes.statics;
+                drop(value.form);
                 self.demanded(alloc, statics, pos, accepted, asks, value.kind, value.known)
             }
         }
