@@ -1,3 +1,6 @@
+mod TreeSeen
+pub mod TreeUnfolding
+pub mod TreeTableLaws
 pub mod SeenLaws
 pub mod Agreement
 pub mod TableLaws

@@ -16,6 +16,8 @@ mod routines;
 mod seen;
 mod standard;
 mod table;
+mod tree_subtype;
+mod tree_table;
 mod types;
 mod units;
 
@@ -27,5 +29,7 @@ pub use regions::Regions;
 pub use routines::{Parameter, ResultMark, Routine, Routines};
 pub use seen::range_seen;
 pub use standard::{predefined, test_io};
+pub use tree_subtype::subtype_in_tree;
+pub use tree_table::type_declarations;
 pub use types::{AdaType, Composite, FormalKind, Identity, ScalarType, Subtype, TypeName};
 pub use units::{Interface, Units, shown};

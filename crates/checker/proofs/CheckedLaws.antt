@@ -31,7 +31,7 @@ use Rattle.ada_library.specs.LibraryView.{IsLibraryOf}
 use Rattle.ada_phrases.specs.declared.scope.Step.TheVariants as step
 use Rattle.ada_tree.specs.declared.types.TypeDeclaration.{TypeDeclaration}
 use Rattle.ada_tree.specs.Programs.{types_of}
-use Rattle.type_trees.specs.Trees.{shapes_in_tree}
+use Rattle.ada_entities.specs.Trees.{shapes_in_tree}
 use Rattle.typed_program.specs.Assembled.{HasTypes, IsProgramOf}
 use Rattle.program_walk.specs.States.{state_of}
 use Rattle.program_walk.specs.Walks.{Begins}
@@ -40,8 +40,8 @@ use Rattle.checker.specs.declared.fault.CheckFault.{CheckFault}
 use Rattle.checker.specs.declared.fault.CheckFault.TheVariants.{Naming, Typing, Limit}
 use Rattle.checker.specs.declared.steps.WholeWalk.{WholeWalk}
 use Rattle.checker.specs.Checking.{IsRefusal, breaks_names, breaks_types, passes_a_limit, memory_is_out, naming_of, typing_of, Passes, IsLegal, VerdictAs, AcceptedAs, IsUnmet, IsExcess, ComesToAccepted, HasEntries, DeclaresTypes, whole_library}
-use Rattle.checker.specs.Entries.{entries_of, AreEntries}
-use Rattle.checker.specs.TypeTexts.{AreTypeTexts}
+use Rattle.typed_program.specs.Entries.{entries_of, AreEntries}
+use Rattle.typed_program.specs.TypeTexts.{AreTypeTexts}
 use Rattle.checker.specs.TypeWeights.{AreDeclared}
 use Rattle.checker.specs.Judging.{IsWholeLibrary, IsJudged, JudgedAs}
 use Rattle.checker.proofs.JudgedLaws.{tables_there, begins_there}

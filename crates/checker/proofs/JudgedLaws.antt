@@ -23,18 +23,15 @@ use Rattle.ada_phrases.specs.Scopes.{step_of}
 use Rattle.ada_phrases.proofs.Parts.{passes_on, in_part, refused_as}
 use Rattle.ada_demands.specs.SpanEntries.{listed_of}
 use Rattle.ada_demands.specs.SpanViews.{listed}
-use Rattle.symbol_table.specs.Changes.{Becomes}
-use Rattle.symbol_table.specs.Exact.{exact}
-use Rattle.symbol_table.proofs.WalkLaws.{exact_begins, fresh_holds}
+use Rattle.program_walk.specs.Changes.{Becomes}
+use Rattle.program_walk.specs.Exact.{exact}
+use Rattle.program_walk.proofs.WalkLaws.{exact_begins, fresh_holds}
 use Rattle.program_walk.specs.declared.walk.Walk.{Walk}
 use Rattle.program_walk.specs.States.{state_of}
 use Rattle.program_walk.specs.Walks.{Begins, IsBeginning}
-use Rattle.library_units.specs.Standing.{StandsBefore}
-use Rattle.library_units.proofs.StandingLaws.{grown}
-use Rattle.declarations.proofs.GoingLaws.{refused_behind}
-use Rattle.library_units.specs.Bodies.{PassesBodies, ComesToAllBodies}
-use Rattle.library_units.specs.Interfaces.{IsIdle, PassesUnits, ComesToUnits}
-use Rattle.library_units.specs.Walked.{GoesBehind, IsWalked}
+use Rattle.library_units.proofs.Grown.{grown}
+use Rattle.program_walk.proofs.GoingLaws.{refused_behind}
+use Rattle.library_units.specs.Words.{StandsBefore, PassesBodies, ComesToAllBodies, IsIdle, PassesUnits, ComesToUnits, GoesBehind, IsWalked}
 use Rattle.checker.specs.declared.steps.WholeWalk.{WholeWalk}
 use Rattle.checker.specs.Judging.{IsWholeLibrary, IsMainThere, EndsAs, IsEnd, IsJudged}
 

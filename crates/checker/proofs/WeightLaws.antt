@@ -16,11 +16,11 @@ use Rattle.ada_tree.specs.View.{numbered, components_of, composite_of}
 use Rattle.ada_tree.specs.Weights.{definition_nodes, type_nodes, stands_in}
 use Rattle.ada_rules.specs.Environment.{Declares}
 use Rattle.ada_entities.specs.EntityViews.{Tables}
-use Rattle.type_trees.specs.Trees.{shape_in_tree, AreIn}
+use Rattle.ada_entities.specs.Trees.{shape_in_tree, AreIn}
 use Rattle.program_walk.specs.declared.found.DeclaredType.{DeclaredType}
 use Rattle.program_walk.specs.States.{types_in, subtype_there, declared_type_of}
 use Rattle.legal_types.specs.Weights.{component_count, shape_weight, words_weight, types_weight}
-use Rattle.checker.specs.TypeTexts.{with_text, texts_of, IsNumbered, number_behind, AreNumbered, AreAllTexts}
+use Rattle.typed_program.specs.TypeTexts.{with_text, texts_of, IsNumbered, number_behind, AreNumbered, AreAllTexts}
 use Rattle.checker.specs.TypeWeights.{types_weight_in, AreDeclared}
 
 -- A definition weighs what it does unfolded.

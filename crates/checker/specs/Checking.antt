@@ -27,7 +27,7 @@ use Rattle.word_limits.specs.Excess.{HasUnits}
 use Rattle.checker.specs.declared.fault.CheckFault.{CheckFault}
 use Rattle.checker.specs.declared.fault.CheckFault.TheVariants.{Naming, Typing, Limit}
 use Rattle.checker.specs.declared.steps.WholeWalk.{WholeWalk}
-use Rattle.checker.specs.Entries.{entries_of}
+pub use Rattle.typed_program.specs.Entries.{entries_of, entries_from, text_role, role_by, role_of}
 use Rattle.checker.specs.TypeWeights.{AreDeclared}
 use Rattle.checker.specs.Judging.{IsWholeLibrary, IsJudged, JudgedAs}
 

@@ -1,5 +1,3 @@
 pub mod Judging
-pub mod Entries
-pub mod TypeTexts
 pub mod TypeWeights
 pub mod Checking

@@ -3,7 +3,7 @@
 //! The contract that the layers above use: [`check`] answers the typed program of the rules, or else the
 //! first of the rules' steps that refuses the units, and the rules' own place; that each refusal has a
 //! reason there is [`a_refusal_is_of_a_broken_rule`]. `specs/Checking.antt` says what a refusal is,
-//! `specs/Entries.antt` what the limits ask of the units, `specs/TypeWeights.antt` that the typed program's
+//! `typed_program/specs/Entries.antt` what the limits ask of the units, `specs/TypeWeights.antt` that the typed program's
 //! composite types weigh no more than what the text declares.
 //!
 //! The steps are those of the rules: [`judged`] walks over all units, once for the rules on names and once
@@ -14,11 +14,10 @@
 mod fault;
 mod laws;
 mod steps;
-mod texts;
-mod unit_entries;
 mod whole;
 
 pub use fault::CheckFault;
 pub use laws::a_refusal_is_of_a_broken_rule;
 pub use steps::{WholeWalk, judged};
-pub use whole::{check, discard_program};
+pub use typed_program::discard_program;
+pub use whole::check;

@@ -34,7 +34,7 @@ fn nowhere() -> Pos
 }
 
 /// The main unit with this name in lower case is there.
-#[tactic(auto, using(declarations::proofs::GoingLaws::parts))]
+#[tactic(auto, using(program_walk::proofs::GoingLaws::parts))]
 fn main_is_there(alloc: Global, main: &[u8], units: &[Unit]) -> Result<(), Failure<Refusal>>
     ensures { IsMainThere main.now units.now result }
 {
@@ -47,7 +47,7 @@ fn main_is_there(alloc: Global, main: &[u8], units: &[Unit]) -> Result<(), Failu
 /// Walks over all units in one of the steps, from the beginning: their headings, what they show each other
 /// in the order in which they depend on each other, and their bodies in the order of the text; and the main
 /// unit is among them. Refused at the rules' own place.
-#[tactic(auto, using(declarations::proofs::GoingLaws::parts))]
+#[tactic(auto, using(program_walk::proofs::GoingLaws::parts))]
 fn walk_over(
     alloc: Global,
     step: Step,
@@ -67,7 +67,7 @@ fn walk_over(
 
 /// All units in one of the steps, with the main unit, whose name is given in lower case. Refused at the
 /// rules' own place.
-#[tactic(auto, using(declarations::proofs::GoingLaws::parts))]
+#[tactic(auto, using(program_walk::proofs::GoingLaws::parts))]
 pub fn judged(
     alloc: Global,
     step: Step,

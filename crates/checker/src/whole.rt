@@ -5,25 +5,22 @@ ghost use Rattle.std.specs.Str.{str_to_ascii_lowercase};
 ghost use Rattle.ada_rules.specs.Legal.{checked, legal};
 ghost use Rattle.ada_tree.specs.Programs.{program_of};
 ghost use Rattle.typed_program.specs.Assembled.{HasTypes, IsProgramOf};
-ghost use Rattle.checker.specs.Entries.{AreEntries};
-ghost use Rattle.checker.specs.TypeTexts.{AreTypeTexts};
+ghost use Rattle.typed_program.specs.Entries.{AreEntries};
+ghost use Rattle.typed_program.specs.TypeTexts.{AreTypeTexts};
 ghost use Rattle.checker.specs.Checking as rules;
 ghost use Rattle.checker.specs.Checking.{Refuses, HasEntries, HasEntriesOf, HasEntriesIn, DeclaresTypes, DeclaresTypesOf, DeclaresTypesIn, IsUnmet, IsExcess, ComesToNamed, ComesToTyped, ComesToAccepted, ComesToProgram, ComesToVerdict, whole_library};
 
 use crate::fault::CheckFault;
 use crate::steps::{WholeWalk, judged};
-use crate::texts::type_texts;
-use crate::unit_entries::entries;
 use ada_demands::first_unmet;
-use ada_entities::Refusal;
+use ada_entities::{Refusal, type_declarations};
 use ada_library::Library;
 use ada_phrases::Step;
 use ada_syntax::Unit;
 use ada_tree::{Program, UnitEntry};
 use cov_base::{Failure, Pos};
 use std::alloc::{AllocError, Global};
-use type_trees::type_declarations;
-use typed_program::program_of;
+use typed_program::{entries, program_of, type_texts};
 use word_limits::first_excess;
 
 /// A refusal by the rules on names.
@@ -234,10 +231,4 @@ pub fn check(alloc: Global, units: &[Unit], main: &str) -> Result<Program, Failu
 {
     let lower = main.as_bytes().to_ascii_lowercase(alloc)?;
     check_lower(alloc, units, lower.as_slice())
-}
-
-/// Gives back the memory of a program, for who keeps it no longer. What it takes to drop a tree is proved
-/// anew in each crate that drops one, and this crate does it for those above.
-pub fn discard_program(program: Program) {
-    drop(program);
 }

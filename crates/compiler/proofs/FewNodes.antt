@@ -14,7 +14,7 @@ use Rattle.ada_syntax.specs.declared.unit.Unit.{Unit as LibraryUnit}
 use Rattle.ada_tree.specs.declared.program.UnitEntry.{UnitEntry}
 use Rattle.ada_tree.specs.declared.program.UnitRole.{UnitRole}
 use Rattle.checker.specs.Checking.{whole_library}
-use Rattle.checker.specs.Entries.{entries_from, entries_of}
+use Rattle.checker.specs.Checking.{entries_from, entries_of}
 use Rattle.generic_expand.specs.Expanded.{node_limit, expanded_nodes, past_nodes, first_past}
 use Rattle.legal_levels.specs.Levels.{AreOwnInterfaces}
 use Rattle.legal_levels.proofs.OwnInterfaces.{own_interfaces}

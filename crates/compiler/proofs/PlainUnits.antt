@@ -12,7 +12,7 @@ use Rattle.ada_syntax.specs.declared.unit.LibraryItem.TheVariants as library
 use Rattle.ada_syntax.specs.declared.unit.Unit.{Unit as LibraryUnit}
 use Rattle.ada_tree.specs.declared.program.UnitRole.TheVariants.{Once}
 use Rattle.checker.specs.Checking.{whole_library}
-use Rattle.checker.specs.Entries.{text_role, role_by, role_of}
+use Rattle.checker.specs.Checking.{text_role, role_by, role_of}
 use Rattle.expression_parser.specs.declared.extent.Extent.TheVariants.{Generics}
 use Rattle.expression_parser.specs.Extents.{opens}
 use Rattle.legal_levels.specs.Levels.{IsOwnInterface, AreOwnInterfaces}

@@ -10,7 +10,7 @@ use Rattle.ada_rules.specs.Units.{Walked, judged_in}
 use Rattle.ada_syntax.specs.declared.unit.Unit.{Unit as LibraryUnit}
 use Rattle.ada_tree.specs.declared.program.UnitEntry.{UnitEntry}
 use Rattle.checker.specs.Checking.{PassesLimit, whole_library}
-use Rattle.checker.specs.Entries.{entries_of}
+use Rattle.checker.specs.Checking.{entries_of}
 use Rattle.cov_base.specs.declared.failure.Failure.{Failure}
 use Rattle.cov_base.specs.declared.failure.Failure.TheVariants.{Fault, WantOfMemory}
 use Rattle.cov_base.specs.declared.obligations.SourceFile.{SourceFile}

@@ -15,11 +15,11 @@ use Rattle.program_walk.specs.declared.context.Context.{Context}
 use Rattle.program_walk.specs.declared.walk.Walk.{Walk}
 use Rattle.program_walk.specs.States.{state_of}
 use Rattle.program_walk.specs.Walks.{Begins, StandsAt, with_innermost}
-use Rattle.declarations.specs.Going.{GoesInside}
+use Rattle.program_walk.specs.Going.{GoesInside}
 use Rattle.declarations.specs.Locals.{made_of}
 use Rattle.declarations.specs.Made.{behind}
 use Rattle.declarations.specs.Values.{declared_in}
-use Rattle.declarations.proofs.GoingLaws.{region_is, stands_then}
+use Rattle.program_walk.proofs.GoingLaws.{region_is, stands_then}
 use Rattle.declarations.proofs.KindLaws.{next_declared, next_refused}
 
 -- where the walk stands behind some declarations, from which the rest comes to what all of them come to

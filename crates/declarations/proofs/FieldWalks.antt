@@ -19,9 +19,9 @@ use Rattle.program_walk.specs.declared.walk.Walk.{Walk}
 use Rattle.program_walk.specs.States.{state_of}
 use Rattle.program_walk.specs.Walks.{Begins, StandsAt, with_innermost}
 use Rattle.declarations.specs.Fields.{behind_fields}
-use Rattle.declarations.specs.Going.{GoesInside}
+use Rattle.program_walk.specs.Going.{GoesInside}
 use Rattle.declarations.proofs.FieldLaws.{before_none}
-use Rattle.declarations.proofs.GoingLaws.{stands_then}
+use Rattle.program_walk.proofs.GoingLaws.{stands_then}
 
 -- where the walk stands behind some components, from which the rest comes to what all of them come to
 pub record Reaches (c : Context) (old new : Walk) (k : Tables) (env : Env) (all rest : List Component) (done : List Field) : Type 0 where

@@ -1,14 +1,9 @@
-pub mod InsideLaws
-pub mod GoingLaws
-pub mod HidingLaws
-pub mod StateLaws
-pub mod OwnerLaws
+pub mod SymbolLaws
 pub mod WithinLaws
 pub mod InitialLaws
 pub mod ConstantLaws
 pub mod LiteralLaws
 pub mod NameLaws
-pub mod ObjectLaws
 pub mod FieldLaws
 pub mod FieldWalks
 pub mod TypeLaws

@@ -18,7 +18,7 @@ use Rattle.ada_entities.specs.Tables as table
 use Rattle.ada_entities.specs.Views.{TypeTables, subtype_of}
 use Rattle.ada_entities.specs.EntityViews.{Tables, region_of}
 use Rattle.ada_entities.specs.RegionCode.{innermost}
-use Rattle.symbol_table.specs.declared.symbols.Symbols.{Symbols}
+use Rattle.program_walk.specs.declared.symbols.Symbols.{Symbols}
 use Rattle.program_walk.specs.declared.context.Context.{Context}
 use Rattle.program_walk.specs.declared.walk.Walk.{Walk}
 use Rattle.declarations.specs.Fields.{fields_before, behind_fields}

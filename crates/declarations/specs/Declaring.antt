@@ -16,11 +16,11 @@ use Rattle.ada_entities.specs.declared.fault.Refusal.{Refusal}
 use Rattle.ada_entities.specs.declared.types.Subtype.{Subtype}
 use Rattle.ada_entities.specs.Views.{subtype_of}
 use Rattle.ada_entities.specs.EntityViews.{Tables}
-use Rattle.static_parts.specs.declared.place.Notes.{Notes}
-use Rattle.static_parts.specs.Places.{with_notes}
-use Rattle.symbol_table.specs.declared.symbols.Symbols.{Symbols}
-use Rattle.symbol_table.specs.SymbolViews as symbols
-use Rattle.symbol_table.specs.SymbolViews.{IsKnown}
+use Rattle.program_walk.specs.declared.place.Notes.{Notes}
+use Rattle.program_walk.specs.Places.{with_notes}
+use Rattle.program_walk.specs.declared.symbols.Symbols.{Symbols}
+use Rattle.program_walk.specs.SymbolViews as symbols
+use Rattle.program_walk.specs.SymbolViews.{IsKnown}
 use Rattle.program_walk.specs.declared.context.Context.{Context}
 use Rattle.program_walk.specs.declared.counts.Counts.{Counts}
 use Rattle.program_walk.specs.declared.found.Found.{Found}

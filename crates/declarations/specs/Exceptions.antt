@@ -9,8 +9,8 @@ use Rattle.ada_entities.specs.EntityViews.{Tables}
 use Rattle.program_walk.specs.declared.context.Context.{Context}
 use Rattle.program_walk.specs.declared.walk.Walk.{Walk}
 use Rattle.program_walk.specs.States.{state_of}
-use Rattle.declarations.specs.Contexts.{IsIn}
-use Rattle.declarations.specs.Going.{region_in}
+use Rattle.program_walk.specs.Contexts.{IsIn}
+use Rattle.program_walk.specs.Going.{region_in}
 
 abbrev pub IsInnerName : List ℕ → List ℕ → List ℕ → Type 0
 IsInnerName outer inner name = name ≡ outer ++ (codes "." ++ inner)

@@ -14,11 +14,11 @@ use Rattle.ada_entities.specs.declared.fault.Refusal.{Refusal}
 use Rattle.ada_entities.specs.Answers.{Answers}
 use Rattle.ada_entities.specs.declared.types.Subtype.{Subtype}
 use Rattle.ada_entities.specs.EntityViews.{Tables}
-use Rattle.symbol_table.specs.declared.symbols.Symbols.{Symbols}
-use Rattle.symbol_table.specs.SymbolViews.{Begins, IsKnown}
-use Rattle.static_parts.specs.declared.part.Valued.{Valued}
-use Rattle.static_parts.specs.Parts.{valued_of}
-use Rattle.static_parts.specs.Subtypes.{subtype_in}
+use Rattle.program_walk.specs.declared.symbols.Symbols.{Symbols}
+use Rattle.program_walk.specs.SymbolViews.{Begins, IsKnown}
+use Rattle.program_walk.specs.declared.part.Valued.{Valued}
+use Rattle.program_walk.specs.Parts.{valued_of}
+use Rattle.program_walk.specs.Subtypes.{subtype_in}
 use Rattle.declarations.specs.declared.within.Within.{Within}
 use Rattle.declarations.specs.declared.initial.LibraryValue.{LibraryValue}
 use Rattle.declarations.specs.Within.{initial_within}

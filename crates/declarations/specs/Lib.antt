@@ -1,7 +1,3 @@
-pub mod Contexts
-pub mod Owners
-pub mod Going
-pub mod Trees
 pub mod Within
 pub mod Initials
 pub mod Constants
@@ -9,7 +5,6 @@ pub mod Literals
 pub mod Fields
 pub mod Components
 pub mod Types
-pub mod Objects
 pub mod Locals
 pub mod Library
 pub mod Exceptions

@@ -12,9 +12,9 @@ use Rattle.program_walk.specs.declared.context.Context.{Context}
 use Rattle.program_walk.specs.declared.walk.Walk.{Walk}
 use Rattle.program_walk.specs.States.{state_of}
 use Rattle.declarations.specs.declared.objects.ObjectForm.{ObjectForm}
-use Rattle.declarations.specs.Contexts.{IsIn}
-use Rattle.declarations.specs.Going.{region_in}
-use Rattle.declarations.specs.Objects.{one_library_object}
+use Rattle.program_walk.specs.Contexts.{IsIn}
+use Rattle.program_walk.specs.Going.{region_in}
+use Rattle.program_walk.specs.Objects.{one_library_object}
 use Rattle.declarations.specs.Locals.{subtype_in_form, entity_in_form, HasTree}
 
 -- one object more

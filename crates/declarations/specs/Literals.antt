@@ -11,7 +11,7 @@ use Rattle.ada_entities.specs.declared.types.Subtype.{Subtype}
 use Rattle.ada_entities.specs.Views.{identity_of, type_of, subtype_of}
 use Rattle.ada_entities.specs.EntityViews.{Tables, entity_of, region_of}
 use Rattle.ada_entities.specs.RegionCode.{innermost}
-use Rattle.symbol_table.specs.declared.symbols.Symbols.{Symbols}
+use Rattle.program_walk.specs.declared.symbols.Symbols.{Symbols}
 
 abbrev pub IsEnumeration : Identity → ℕ → Subtype → Type 0
 IsEnumeration i n t =

@@ -19,9 +19,9 @@ use Rattle.program_walk.specs.declared.counts.Counts.{Counts}
 use Rattle.program_walk.specs.declared.walk.Walk.{Walk}
 use Rattle.program_walk.specs.States.{types_in, subtype_there, with_counts, state_of}
 use Rattle.declarations.specs.declared.objects.ObjectForm.{ObjectForm}
-use Rattle.declarations.specs.Going.{region_in}
-use Rattle.declarations.specs.Objects.{one_object}
-use Rattle.declarations.specs.Trees.{IsTree}
+use Rattle.program_walk.specs.Going.{region_in}
+use Rattle.program_walk.specs.Objects.{one_object}
+use Rattle.program_walk.specs.Trees.{IsTree}
 
 -- the subtype of objects, and what their names denote
 abbrev pub subtype_in_form : Tables → ObjectForm → AdaSubtype

@@ -22,9 +22,9 @@ use Rattle.ada_entities.specs.Tables.{shape_of}
 use Rattle.ada_entities.specs.Views.{shaped, identity_of, subtype_of}
 use Rattle.ada_entities.specs.EntityViews.{Tables, region_of}
 use Rattle.ada_entities.specs.RegionCode.{innermost}
-use Rattle.symbol_table.specs.declared.symbols.Symbols.{Symbols}
-use Rattle.symbol_table.specs.SymbolViews.{Begins, IsKnown}
-use Rattle.symbol_table.specs.Changes.{IsOpen, ChangesInside, Continues}
+use Rattle.program_walk.specs.declared.symbols.Symbols.{Symbols}
+use Rattle.program_walk.specs.SymbolViews.{Begins, IsKnown}
+use Rattle.program_walk.specs.Changes.{IsOpen, ChangesInside, Continues}
 use Rattle.program_walk.specs.declared.context.Context.{Context}
 use Rattle.program_walk.specs.declared.walk.Walk.{Walk}
 use Rattle.program_walk.specs.Walks.{ComesTo}

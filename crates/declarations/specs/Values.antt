@@ -18,15 +18,15 @@ use Rattle.ada_phrases.specs.declared.scope.Step.{Step}
 use Rattle.ada_phrases.specs.Scopes.{step_of}
 use Rattle.object_values.specs.declared.initial.NewValue.{NewValue}
 use Rattle.object_values.specs.NewValues.{new_value_of}
-use Rattle.symbol_table.specs.SymbolViews as symbols
-use Rattle.symbol_table.specs.SymbolViews.{IsKnown}
+use Rattle.program_walk.specs.SymbolViews as symbols
+use Rattle.program_walk.specs.SymbolViews.{IsKnown}
 use Rattle.program_walk.specs.declared.context.Context.{Context}
 use Rattle.program_walk.specs.declared.walk.Walk.{Walk}
 use Rattle.program_walk.specs.States.{state_of}
 use Rattle.program_walk.specs.Walks.{Begins, StandsAt}
 use Rattle.declarations.specs.declared.initial.LibraryValue.{LibraryValue}
-use Rattle.declarations.specs.Contexts.{IsIn}
-use Rattle.declarations.specs.Going.{region_in}
+use Rattle.program_walk.specs.Contexts.{IsIn}
+use Rattle.program_walk.specs.Going.{region_in}
 use Rattle.declarations.specs.Initials.{library_value_of}
 use Rattle.declarations.specs.Locals.{made_of}
 use Rattle.declarations.specs.Setting.{setting_library, setting_locals}

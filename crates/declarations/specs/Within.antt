@@ -9,8 +9,8 @@ use Rattle.ada_rules.specs.Declarations.{innermost, initial_for}
 use Rattle.ada_entities.specs.declared.types.Subtype.{Subtype}
 use Rattle.ada_entities.specs.Views.{TypeTables, subtype_of}
 use Rattle.ada_entities.specs.EntityViews.{Tables}
-use Rattle.symbol_table.specs.declared.symbols.Symbols.{Symbols}
-use Rattle.symbol_table.specs.SymbolViews.{Begins, IsKnown}
+use Rattle.program_walk.specs.declared.symbols.Symbols.{Symbols}
+use Rattle.program_walk.specs.SymbolViews.{Begins, IsKnown}
 use Rattle.declarations.specs.declared.within.Within.{Within}
 use Rattle.declarations.specs.declared.within.Within.TheVariants as within
 

@@ -1,16 +1,15 @@
 //! Components of records (Ada RM 2012, 3.8).
 
 ghost use Rattle.std.specs.Prelude.{◌≡◌, OnOk};
-ghost use Rattle.symbol_table.specs.Changes.{IsOpen, ChangesInside};
-ghost use Rattle.declarations.specs.Going.{GoesOn, IsWalkOpen};
+ghost use Rattle.program_walk.specs.Changes.{IsOpen, ChangesInside};
+ghost use Rattle.program_walk.specs.Going.{GoesOn, IsWalkOpen};
 ghost use Rattle.declarations.specs.Components.{DeclaresComponents, AddsNamed, AddsFields, ComesToFields};
 
 use ada_entities::{Component as Field, Entity, Refusal, Subtype, key};
 use ada_syntax::{Component, Identifier};
 use cov_base::{Bytes, Failure};
-use program_walk::{Context, Walk};
+use program_walk::{Context, Symbols, Walk};
 use std::alloc::{AllocError, Global};
-use symbol_table::Symbols;
 
 /// Lets names of the innermost region denote components.
 fn declare_components(
@@ -44,7 +43,7 @@ fn add_named(
 }
 
 /// Adds the components of one declaration, whose names are hidden in it, and are components behind it.
-#[tactic(auto, using(crate::proofs::GoingLaws::parts))]
+#[tactic(auto, using(program_walk::proofs::GoingLaws::parts))]
 fn add_fields(
     alloc: Global,
     context: &Context<'_>,
@@ -64,7 +63,7 @@ fn add_fields(
 }
 
 /// The components of a record, in order, in a region of their own.
-#[tactic(auto, using(crate::proofs::GoingLaws::parts))]
+#[tactic(auto, using(program_walk::proofs::GoingLaws::parts))]
 pub(crate) fn fields(
     alloc: Global,
     context: &Context<'_>,

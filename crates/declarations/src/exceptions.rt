@@ -1,7 +1,7 @@
 //! Exceptions (Ada RM 2012, 11.1).
 
 ghost use Rattle.std.specs.Prelude.{◌≡◌, IfOk, OnOk};
-ghost use Rattle.declarations.specs.Going.{GoesInside, IsWalkOpen};
+ghost use Rattle.program_walk.specs.Going.{GoesInside, IsWalkOpen};
 ghost use Rattle.declarations.specs.Exceptions.{IsInnerName, IsExceptionName, AddsException, AddsExceptions};
 
 use crate::owners::owner;

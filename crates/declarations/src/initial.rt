@@ -4,9 +4,9 @@ ghost use Rattle.std.specs.Prelude.{◌≡◌, option_map};
 ghost use Rattle.ada_tree.specs.View.{static_value_of};
 ghost use Rattle.ada_entities.specs.EntityViews.{Tables};
 ghost use Rattle.ada_rules.specs.Declarations as rules;
-ghost use Rattle.static_parts.specs.Places.{ComesTo};
-ghost use Rattle.static_parts.specs.Parts.{valued_of};
-ghost use Rattle.static_parts.specs.Subtypes.{subtype_in};
+ghost use Rattle.program_walk.specs.Places.{ComesTo};
+ghost use Rattle.program_walk.specs.Parts.{valued_of};
+ghost use Rattle.program_walk.specs.Subtypes.{subtype_in};
 ghost use Rattle.declarations.specs.Initials.{library_value_of, IsTypedValue};
 
 use crate::within::{Within, component_within};
@@ -16,9 +16,8 @@ use ada_syntax::Initial as Source;
 use ada_tree::{Initial, StaticValue};
 use cov_base::{Failure, Pos};
 use object_values::value_place;
-use static_parts::{Accepted, Asks, Notes, Place, Valued};
+use program_walk::{Accepted, Asks, Notes, Place, Symbols, Valued};
 use std::alloc::Global;
-use symbol_table::Symbols;
 
 /// The initial value of an object of the library level, and the static value of the expression, where
 /// it stands in no `others`.

@@ -2,7 +2,7 @@
 
 ghost use Rattle.std.specs.Prelude.{◌≡◌, Some, OnOk};
 ghost use Rattle.ada_syntax.specs.declared.declaration.DeclarationKind.TheVariants as declares;
-ghost use Rattle.declarations.specs.Going.{GoesOn, IsWalkOpen};
+ghost use Rattle.program_walk.specs.Going.{GoesOn, IsWalkOpen};
 ghost use Rattle.declarations.specs.Values.{DeclaresObjects};
 ghost use Rattle.declarations.specs.Declaring.{CountsType, Declares, DeclaresAlone, ComesToDeclared, ComesToAll};
 
@@ -18,9 +18,8 @@ use ada_syntax::{
 };
 use ada_tree::Declaration;
 use cov_base::{Failure, Pos};
-use program_walk::{Context, DeclaredType, Found, Level, Walk, Word};
+use program_walk::{Context, DeclaredType, Found, Level, Symbols, Walk, Word};
 use std::alloc::{AllocError, Global};
-use symbol_table::Symbols;
 
 /// Counts a type whose declaration begins at `pos`, with all its values.
 fn count_type(
@@ -39,7 +38,7 @@ fn count_type(
 }
 
 /// A type declaration that begins at `pos` (RM 3.2.1).
-#[tactic(auto, using(crate::proofs::GoingLaws::parts))]
+#[tactic(auto, using(program_walk::proofs::GoingLaws::parts))]
 fn type_declared(
     alloc: Global,
     context: &Context<'_>,
@@ -62,7 +61,7 @@ fn type_declared(
 }
 
 /// A subtype declaration (RM 3.2.2).
-#[tactic(auto, using(crate::proofs::GoingLaws::parts))]
+#[tactic(auto, using(program_walk::proofs::GoingLaws::parts))]
 fn subtype_declared(
     alloc: Global,
     context: &Context<'_>,
@@ -84,7 +83,7 @@ fn subtype_declared(
 }
 
 /// Objects with an initial value, in a declaration that begins at `pos`.
-#[tactic(auto, using(crate::proofs::GoingLaws::parts))]
+#[tactic(auto, using(program_walk::proofs::GoingLaws::parts))]
 fn set_objects(
     alloc: Global,
     context: &Context<'_>,
@@ -111,7 +110,7 @@ fn set_objects(
 }
 
 /// Objects, in a declaration that begins at `pos`.
-#[tactic(auto, using(crate::proofs::GoingLaws::parts))]
+#[tactic(auto, using(program_walk::proofs::GoingLaws::parts))]
 fn some_objects(
     alloc: Global,
     context: &Context<'_>,
@@ -136,7 +135,7 @@ fn some_objects(
 }
 
 /// A declaration of objects that begins at `pos` (RM 3.3.1).
-#[tactic(auto, using(crate::proofs::GoingLaws::parts))]
+#[tactic(auto, using(program_walk::proofs::GoingLaws::parts))]
 fn objects_declared(
     alloc: Global,
     context: &Context<'_>,
@@ -161,7 +160,7 @@ fn objects_declared(
 }
 
 /// A declaration of exceptions (RM 11.1).
-#[tactic(auto, using(crate::proofs::GoingLaws::parts))]
+#[tactic(auto, using(program_walk::proofs::GoingLaws::parts))]
 fn exceptions_declared(
     alloc: Global,
     context: &Context<'_>,
@@ -179,7 +178,7 @@ fn exceptions_declared(
 
 /// A declaration of this kind that begins at `pos`. What it adds to the typed program comes behind what
 /// was made so far.
-#[tactic(auto, using(crate::proofs::GoingLaws::parts))]
+#[tactic(auto, using(program_walk::proofs::GoingLaws::parts))]
 fn kind_declared(
     alloc: Global,
     context: &Context<'_>,
@@ -234,7 +233,7 @@ pub fn declared(
 
 /// Declarations in order, each in the region that those before it leave, and the declarations of the
 /// typed program that they make. Refused at the rules' own place.
-#[tactic(auto, using(crate::proofs::GoingLaws::parts))]
+#[tactic(auto, using(program_walk::proofs::GoingLaws::parts))]
 pub fn all_declared(
     alloc: Global,
     context: &Context<'_>,

@@ -1,7 +1,7 @@
 //! Objects of the library level (Ada RM 2012, 3.3.1, 7.1).
 
 ghost use Rattle.std.specs.Prelude.{◌≡◌, OnOk};
-ghost use Rattle.declarations.specs.Going.{GoesInside, IsWalkOpen};
+ghost use Rattle.program_walk.specs.Going.{GoesInside, IsWalkOpen};
 ghost use Rattle.declarations.specs.Library.{AddsObject, AddsObjects};
 
 use crate::objects::ObjectForm;

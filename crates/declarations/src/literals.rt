@@ -1,14 +1,14 @@
 //! Enumeration types and their literals (Ada RM 2012, 3.5.1).
 
 ghost use Rattle.std.specs.Prelude.{◌≡◌, IfOk, OnOk};
-ghost use Rattle.symbol_table.specs.Changes.{IsOpen, ChangesInside};
+ghost use Rattle.program_walk.specs.Changes.{IsOpen, ChangesInside};
 ghost use Rattle.declarations.specs.Literals.{IsEnumeration, IsLiteral, DeclaresLiterals};
 
 use ada_entities::{AdaType, Entity, Identity, ScalarType, Subtype};
 use ada_syntax::Identifier;
 use ada_tree::{Range, ScalarRange};
+use program_walk::Symbols;
 use std::alloc::{AllocError, Global};
-use symbol_table::Symbols;
 
 /// The enumeration type with so many literals, with all its values. One with 2^31 or more has no memory.
 pub(crate) fn enumeration(identity: Identity, literals: usize) -> Result<Subtype, AllocError>

@@ -1,7 +1,7 @@
 //! Objects that are declared in a subprogram or a block (Ada RM 2012, 3.3.1).
 
 ghost use Rattle.std.specs.Prelude.{◌≡◌, ◌+◌, IfOk, OnOk};
-ghost use Rattle.declarations.specs.Going.{GoesInside, IsWalkOpen};
+ghost use Rattle.program_walk.specs.Going.{GoesInside, IsWalkOpen};
 ghost use Rattle.declarations.specs.Locals.{AddsLocal, AddsLocals, MakesBare, MakesSet};
 ghost use Rattle.program_walk.specs.Counting.{Starts};
 

@@ -4,7 +4,7 @@ ghost use Rattle.std.specs.Prelude.{◌≡◌, is_some, IfOk, OnOk, if◌then◌
 ghost use Rattle.ada_meaning.specs.Types.{here, of_instance};
 ghost use Rattle.ada_tree.specs.View.{owner_of};
 ghost use Rattle.program_walk.specs.Counting.{CountsType};
-ghost use Rattle.declarations.specs.Owners.{IsNewIdentity};
+ghost use Rattle.program_walk.specs.Owners.{IsNewIdentity};
 
 use ada_entities::{Identity, TypeName};
 use ada_tree::Owner;

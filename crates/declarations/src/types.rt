@@ -2,8 +2,8 @@
 
 ghost use Rattle.std.specs.Prelude.{◌≡◌, IfOk, OnOk};
 ghost use Rattle.ada_syntax.specs.declared.declaration.TypeDefinition.TheVariants as definition;
-ghost use Rattle.symbol_table.specs.Changes.{Grows};
-ghost use Rattle.declarations.specs.Going.{GoesOn, KeepsOn, IsWalkOpen};
+ghost use Rattle.program_walk.specs.Changes.{Grows};
+ghost use Rattle.program_walk.specs.Going.{GoesOn, KeepsOn, IsWalkOpen};
 ghost use Rattle.declarations.specs.Types.{IsDefinedAs, IsEnumerated, GoesAsSymbols, IsDefined};
 
 use crate::components::fields;
@@ -12,10 +12,8 @@ use ada_entities::{AdaType, Composite, Definition, Identity, Refusal, ScalarType
 use ada_syntax::{Bounds, Component, DiscreteRange, Identifier, SubtypeIndication, TypeDefinition};
 use ada_tree::Owner;
 use cov_base::{Failure, Seq};
-use program_walk::{Context, Walk};
-use static_parts::Accepted;
+use program_walk::{Accepted, Context, Symbols, Walk};
 use std::alloc::{AllocError, Global};
-use symbol_table::Symbols;
 
 /// The composite type of this identity with this definition.
 fn composite(
@@ -39,7 +37,7 @@ fn composite(
 }
 
 /// An enumeration with these literals, which are hidden in its definition, and declared by it (RM 3.5.1).
-#[tactic(auto, using(crate::proofs::GoingLaws::parts))]
+#[tactic(auto, using(program_walk::proofs::GoingLaws::parts))]
 fn enumerated(
     alloc: Global,
     symbols: &mut Symbols,
@@ -56,7 +54,7 @@ fn enumerated(
 }
 
 /// An integer type (RM 3.5.4).
-#[tactic(auto, using(crate::proofs::GoingLaws::parts))]
+#[tactic(auto, using(program_walk::proofs::GoingLaws::parts))]
 fn integer_type(
     alloc: Global,
     context: &Context<'_>,
@@ -77,7 +75,7 @@ fn integer_type(
 }
 
 /// An array (RM 3.6).
-#[tactic(auto, using(crate::proofs::GoingLaws::parts))]
+#[tactic(auto, using(program_walk::proofs::GoingLaws::parts))]
 fn array_type(
     alloc: Global,
     context: &Context<'_>,
@@ -99,7 +97,7 @@ fn array_type(
 }
 
 /// A record (RM 3.8).
-#[tactic(auto, using(crate::proofs::GoingLaws::parts))]
+#[tactic(auto, using(program_walk::proofs::GoingLaws::parts))]
 fn record_type(
     alloc: Global,
     context: &Context<'_>,
@@ -119,7 +117,7 @@ fn record_type(
 }
 
 /// What a type declaration defines. Refused at the rules' own place.
-#[tactic(auto, using(crate::proofs::GoingLaws::parts))]
+#[tactic(auto, using(program_walk::proofs::GoingLaws::parts))]
 pub(crate) fn defined(
     alloc: Global,
     context: &Context<'_>,

@@ -2,7 +2,7 @@
 
 ghost use Rattle.std.specs.Prelude.{◌≡◌, None, Some, OnOk, if◌then◌else◌};
 ghost use Rattle.ada_rules.specs.Declarations as rules;
-ghost use Rattle.declarations.specs.Going.{GoesInside, GoesOn, IsWalkOpen};
+ghost use Rattle.program_walk.specs.Going.{GoesInside, GoesOn, IsWalkOpen};
 ghost use Rattle.declarations.specs.Values.{IsAllowed, MakesBareLocals, MakesLocals, MakesLibraryObjects};
 ghost use Rattle.declarations.specs.Values.{DeclaresObjects, SetsLibraryObjects, SetsLocals};
 
@@ -144,7 +144,7 @@ fn one_name(step: Step, pos: Pos, names: &[Identifier]) -> Result<(), Failure<Re
 }
 
 /// Objects without an initial value, in a declaration that begins at `pos`.
-#[tactic(auto, using(crate::proofs::GoingLaws::parts))]
+#[tactic(auto, using(program_walk::proofs::GoingLaws::parts))]
 pub(crate) fn bare_objects(
     alloc: Global,
     context: &Context<'_>,
@@ -174,7 +174,7 @@ pub(crate) fn bare_objects(
 }
 
 /// Objects of the library level with an initial value, in a declaration that begins at `pos`.
-#[tactic(auto, using(crate::proofs::GoingLaws::parts))]
+#[tactic(auto, using(program_walk::proofs::GoingLaws::parts))]
 pub(crate) fn set_library_objects(
     alloc: Global,
     context: &Context<'_>,
@@ -197,7 +197,7 @@ pub(crate) fn set_library_objects(
 }
 
 /// Objects of a subprogram with an initial value, in a declaration that begins at `pos`.
-#[tactic(auto, using(crate::proofs::GoingLaws::parts))]
+#[tactic(auto, using(program_walk::proofs::GoingLaws::parts))]
 pub(crate) fn set_locals(
     alloc: Global,
     context: &Context<'_>,

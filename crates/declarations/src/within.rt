@@ -3,15 +3,14 @@
 ghost use Rattle.std.specs.Prelude.{◌≡◌, IfOk, option_map};
 ghost use Rattle.ada_tree.specs.Programs.{initial_of};
 ghost use Rattle.ada_entities.specs.EntityViews.{Tables};
-ghost use Rattle.static_parts.specs.Parts.{valued_of};
+ghost use Rattle.program_walk.specs.Parts.{valued_of};
 ghost use Rattle.declarations.specs.Within.{IsWithin, subtype_within, initial_within};
 
 use ada_entities::Subtype;
 use ada_tree::{Initial, Owner, Static};
 use cov_base::Pos;
-use static_parts::Valued;
+use program_walk::{Symbols, Valued};
 use std::alloc::{AllocError, Global};
-use symbol_table::Symbols;
 
 /// What stands in an `others` at each of some places.
 #[derive(Clone, Copy)]

@@ -19,9 +19,9 @@ use ada_tree::{
     CompositeType, FormalActual, GenericConstant, Initial, Instance, LibraryObject, Operator,
     Owner, Program, Range, ScalarRange, Static, StaticValue, Subtype, TypeDeclaration,
 };
-use checker::discard_program;
 use cov_base::{Bytes, Pos, Seq};
 use std::alloc::{AllocError, Global};
+use typed_program::discard_program;
 
 const INTEGER: ScalarRange = ScalarRange::Known(Range {
     first: i32::MIN,

@@ -25,29 +25,29 @@ use Rattle.ada_library.specs.declared.library.Library.{Library}
 use Rattle.ada_phrases.specs.declared.scope.Step.{Step}
 use Rattle.ada_phrases.specs.Scopes.{step_of}
 use Rattle.ada_phrases.proofs.Parts.{passes_on, in_part, refused_as}
-use Rattle.static_parts.specs.Places.{with_notes}
-use Rattle.symbol_table.specs.declared.symbols.Symbols.{Symbols}
-use Rattle.symbol_table.specs.Alike.{IsKnownRegion}
-use Rattle.symbol_table.specs.Changes.{Becomes}
-use Rattle.symbol_table.specs.Sites.{Holds}
-use Rattle.symbol_table.specs.SymbolViews.{IsKnown}
+use Rattle.program_walk.specs.Places.{with_notes}
+use Rattle.program_walk.specs.declared.symbols.Symbols.{Symbols}
+use Rattle.program_walk.specs.Alike.{IsKnownRegion}
+use Rattle.program_walk.specs.Changes.{Becomes}
+use Rattle.program_walk.specs.Sites.{Holds}
+use Rattle.program_walk.specs.SymbolViews.{IsKnown}
 use Rattle.program_walk.specs.declared.context.Context.{Context}
 use Rattle.program_walk.specs.declared.context.Level.TheVariants as level
 use Rattle.program_walk.specs.declared.found.Found.{Found}
 use Rattle.program_walk.specs.declared.walk.Walk.{Walk}
 use Rattle.program_walk.specs.States.{with_counts, state_of}
 use Rattle.program_walk.specs.Walks.{Begins, StandsAt, IsInside}
-use Rattle.declarations.specs.Going.{region_in, Stays}
-use Rattle.declarations.proofs.GoingLaws.{refused_behind}
+use Rattle.program_walk.specs.Going.{region_in, Stays}
+use Rattle.program_walk.proofs.GoingLaws.{refused_behind}
 use Rattle.specifications.specs.Profiles.{IsClosed}
-use Rattle.library_units.specs.Routines.{ComesToRegion}
-use Rattle.library_units.specs.Going.{IsSound, Advances}
+use Rattle.specifications.specs.Routines.{ComesToRegion}
+use Rattle.specifications.specs.Going.{IsSound, Advances}
 use Rattle.library_units.specs.Library.{ComesToLibrary}
-use Rattle.library_units.specs.Standing.{StandsBefore, IsKnownEntity}
-use Rattle.library_units.specs.Entering.{IsUnitContext, IsPackageContext, IsEntered, Leaves, LeavesWords}
-use Rattle.library_units.proofs.StandingLaws.{in_text}
-use Rattle.library_units.specs.Bodies.{IsTextOf, IsGenericOf, IsRoutineOf, GoesByBodies, IsWalkedTo}
-use Rattle.library_units.proofs.BetweenLaws.{left_becomes, entered_continues, entered_open, stands_in_unit}
+use Rattle.unit_walk.specs.Standing.{StandsBefore, IsKnownEntity}
+use Rattle.unit_walk.specs.Entering.{IsUnitContext, IsPackageContext, IsEntered, Leaves, LeavesWords}
+use Rattle.unit_walk.proofs.StandingLaws.{in_text}
+use Rattle.unit_walk.specs.Bodies.{IsTextOf, IsGenericOf, IsRoutineOf, GoesByBodies, IsWalkedTo}
+use Rattle.unit_walk.proofs.BetweenLaws.{left_becomes, entered_continues, entered_open, stands_in_unit}
 
 -- a world of these units alone
 abbrev world_with : List environment.Interface → World

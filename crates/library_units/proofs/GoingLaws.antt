@@ -7,17 +7,17 @@ use Rattle.ada_entities.specs.declared.entity.Entity.{Entity}
 use Rattle.ada_entities.specs.declared.fault.Refusal.{Refusal}
 use Rattle.ada_entities.specs.EntityViews.{Tables}
 use Rattle.ada_entities.specs.RegionCode.{innermost, enclosing}
-use Rattle.symbol_table.specs.declared.symbols.Symbols.{Symbols}
-use Rattle.symbol_table.specs.Changes.{IsOpen, Becomes, ChangesInside, Closes, Grows, UnlessMemory}
-use Rattle.symbol_table.proofs.HideLaws.{then_inside}
+use Rattle.program_walk.specs.declared.symbols.Symbols.{Symbols}
+use Rattle.program_walk.specs.Changes.{IsOpen, Becomes, ChangesInside, Closes, Grows, UnlessMemory}
+use Rattle.program_walk.proofs.HideLaws.{then_inside}
 use Rattle.program_walk.specs.declared.context.Context.{Context}
 use Rattle.program_walk.specs.declared.walk.Walk.{Walk}
 use Rattle.program_walk.specs.Walks.{Begins, Continues, StandsAt}
 use Rattle.program_walk.proofs.Following.{changed_inside}
-use Rattle.declarations.specs.Going.{region_in, GoesInside, GoesOn, Stays}
-use Rattle.declarations.proofs.GoingLaws.{inside_continues}
-use Rattle.declarations.proofs.InsideLaws.{grows_inside, grows_itself, stays_open}
-use Rattle.library_units.specs.Going.{IsSound, Advances, AdvancesOn}
+use Rattle.program_walk.specs.Going.{region_in, GoesInside, GoesOn, Stays}
+use Rattle.program_walk.proofs.GoingLaws.{inside_continues}
+use Rattle.program_walk.proofs.InsideLaws.{grows_inside, grows_itself, stays_open}
+use Rattle.specifications.specs.Going.{IsSound, Advances, AdvancesOn}
 
 pub advances_nowhere : (w : Walk) → IsOpen w.symbols → Advances w w
 advances_nowhere w open_now = record { symbols = grows_inside w.symbols w.symbols open_now (grows_itself w.symbols); continues = λ k b. b }

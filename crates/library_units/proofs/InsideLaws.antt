@@ -16,7 +16,7 @@ use Rattle.ada_entities.specs.Answers.{Refuses}
 use Rattle.ada_entities.specs.declared.fault.Refusal.{Refusal}
 use Rattle.ada_entities.specs.EntityViews.{Tables}
 use Rattle.ada_phrases.proofs.Parts.{passes_on, in_part, refused_as}
-use Rattle.statement_parts.proofs.CaseLaws.{statements_in}
+use Rattle.statements.proofs.NestedLaws.{statements_in}
 use Rattle.program_walk.specs.States.{types_in}
 use Rattle.declarations.specs.Locals.{made_of}
 use Rattle.statements.specs.Made.{frame_there}

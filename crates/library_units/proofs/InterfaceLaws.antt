@@ -29,10 +29,10 @@ use Rattle.ada_library.specs.Seeing.{IsSeen}
 use Rattle.ada_phrases.proofs.Parts.{passes_on, in_part, refused_as}
 use Rattle.program_walk.specs.declared.walk.Walk.{Walk}
 use Rattle.program_walk.specs.States.{state_of}
-use Rattle.library_units.specs.Standing.{StandsBefore, IsKnownEntity}
-use Rattle.library_units.proofs.SeenLaws.{seen_known}
-use Rattle.library_units.specs.Interfaces.{IsIdle}
-use Rattle.library_units.specs.Walked.{GoesBehind, IsBetween, IsWalked, WalkedAs}
+use Rattle.unit_walk.specs.Standing.{StandsBefore, IsKnownEntity}
+use Rattle.unit_walk.proofs.SeenLaws.{seen_known}
+use Rattle.unit_walk.specs.Interfaces.{IsIdle}
+use Rattle.unit_walk.specs.Walked.{GoesBehind, IsBetween, IsWalked, WalkedAs}
 
 -- the same answer in other words
 pub walked_as : {A : Type 0} (x : Library) (facts : List Facts) (new : Walk) (k : Tables) (r s : Result Walked Pos) (o : Result A (Failure Refusal))

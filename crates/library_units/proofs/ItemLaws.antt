@@ -18,12 +18,12 @@ use Rattle.program_walk.specs.declared.context.Context.{Context}
 use Rattle.program_walk.specs.declared.walk.Walk.{Walk}
 use Rattle.program_walk.specs.States.{state_of}
 use Rattle.program_walk.specs.Walks.{Begins, StandsAt, with_innermost}
-use Rattle.declarations.specs.Going.{region_in}
+use Rattle.program_walk.specs.Going.{region_in}
 use Rattle.declarations.specs.Locals.{made_of}
 use Rattle.declarations.specs.Made.{behind_made, behind}
 use Rattle.declarations.specs.Values.{declared_in}
-use Rattle.declarations.proofs.GoingLaws.{region_is}
-use Rattle.library_units.specs.Going.{Advances}
+use Rattle.program_walk.proofs.GoingLaws.{region_is}
+use Rattle.specifications.specs.Going.{Advances}
 use Rattle.library_units.proofs.GoingLaws.{stands_advanced}
 
 -- what a part comes to, and nothing behind it

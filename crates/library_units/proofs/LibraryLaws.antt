@@ -10,9 +10,9 @@ use Rattle.ada_entities.specs.Answers.{Refuses}
 use Rattle.ada_entities.specs.declared.fault.Refusal.{Refusal}
 use Rattle.ada_entities.specs.RegionCode.{innermost, enclosing}
 use Rattle.ada_phrases.proofs.Parts.{passes_on, in_part, refused_as}
-use Rattle.symbol_table.specs.declared.symbols.Symbols.{Symbols}
-use Rattle.symbol_table.specs.Changes.{IsOpen, Becomes}
-use Rattle.declarations.proofs.InsideLaws.{grows_inside, grows_itself}
+use Rattle.program_walk.specs.declared.symbols.Symbols.{Symbols}
+use Rattle.program_walk.specs.Changes.{IsOpen, Becomes}
+use Rattle.program_walk.proofs.InsideLaws.{grows_inside, grows_itself}
 
 module _ (env : Env) (before : State) (b : SubprogramBody) where
   abbrev at_end : State → Plan State

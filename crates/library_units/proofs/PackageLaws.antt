@@ -23,22 +23,22 @@ use Rattle.ada_library.specs.declared.library.Library.{Library}
 use Rattle.ada_phrases.specs.declared.scope.Step.{Step}
 use Rattle.ada_phrases.specs.Scopes.{step_of}
 use Rattle.ada_phrases.proofs.Parts.{passes_on, in_part, refused_as}
-use Rattle.static_parts.specs.Places.{with_notes}
-use Rattle.symbol_table.specs.declared.symbols.Symbols.{Symbols}
-use Rattle.symbol_table.specs.Changes.{Becomes, ChangesInside, ShowsUnit}
+use Rattle.program_walk.specs.Places.{with_notes}
+use Rattle.program_walk.specs.declared.symbols.Symbols.{Symbols}
+use Rattle.program_walk.specs.Changes.{Becomes, ChangesInside, ShowsUnit}
 use Rattle.program_walk.specs.declared.context.Context.{Context}
 use Rattle.program_walk.specs.declared.found.Found.{Found}
 use Rattle.program_walk.specs.declared.walk.Walk.{Walk}
 use Rattle.program_walk.specs.States.{with_counts, state_of}
 use Rattle.program_walk.specs.Walks.{Begins, StandsAt}
-use Rattle.declarations.specs.Going.{region_in, Stays, GoesInside}
-use Rattle.declarations.proofs.GoingLaws.{inside_continues, refused_behind, stands_then}
+use Rattle.program_walk.specs.Going.{region_in, Stays, GoesInside}
+use Rattle.program_walk.proofs.GoingLaws.{inside_continues, refused_behind, stands_then}
 use Rattle.specifications.specs.Profiles.{IsClosed}
-use Rattle.library_units.specs.Routines.{ComesToRegion}
-use Rattle.library_units.specs.Standing.{StandsBefore}
-use Rattle.library_units.specs.Entering.{IsUnitContext, IsPackageContext, IsEntered, LeavesWords}
-use Rattle.library_units.proofs.StandingLaws.{grown, shown, in_text}
-use Rattle.library_units.specs.Walked.{IsWalked}
+use Rattle.specifications.specs.Routines.{ComesToRegion}
+use Rattle.unit_walk.specs.Standing.{StandsBefore}
+use Rattle.unit_walk.specs.Entering.{IsUnitContext, IsPackageContext, IsEntered, LeavesWords}
+use Rattle.unit_walk.proofs.StandingLaws.{grown, shown, in_text}
+use Rattle.unit_walk.specs.Walked.{IsWalked}
 
 -- a package is its formals, its declarations and its end
 abbrev then_closed : Env → ℕ → PackageSpecification → Region → Given Region → Unit {0} → Plan Walked

@@ -8,11 +8,11 @@ use Rattle.ada_entities.specs.declared.units.Interface.{Interface}
 use Rattle.ada_entities.specs.EntityViews.{Tables, region_of}
 use Rattle.ada_entities.specs.RegionCode.{innermost, enclosing}
 use Rattle.ada_entities.specs.UnitViews.{interface_of}
-use Rattle.symbol_table.specs.declared.symbols.Symbols.{Symbols}
-use Rattle.symbol_table.specs.declared.extent.Extent.{Extent}
-use Rattle.symbol_table.specs.Alike.{IsKnownRegion}
-use Rattle.symbol_table.specs.Changes.{Becomes, ShowsKnown}
-use Rattle.symbol_table.specs.SymbolViews.{IsKnown}
+use Rattle.program_walk.specs.declared.symbols.Symbols.{Symbols}
+use Rattle.program_walk.specs.declared.extent.Extent.{Extent}
+use Rattle.program_walk.specs.Alike.{IsKnownRegion}
+use Rattle.program_walk.specs.Changes.{Becomes, ShowsKnown}
+use Rattle.program_walk.specs.SymbolViews.{IsKnown}
 
 -- all stays as it was, where a region is open and what there is leads to what is there
 abbrev pub KeepsInnermost : (old new : Symbols) → Type 0

@@ -1,10 +1,9 @@
 //! The inside of bodies: declarations, statements, and the end (Ada RM 2012, 6.3, 6.5).
 
-ghost use Rattle.declarations.specs.Going.{IsWalkOpen};
-ghost use Rattle.library_units.specs.Going.{AdvancesOn};
+ghost use Rattle.program_walk.specs.Going.{IsWalkOpen};
+ghost use Rattle.specifications.specs.Going.{AdvancesOn};
 ghost use Rattle.library_units.specs.Inside.{IsEndAllowed, IsEnded, ComesToInside};
 
-use crate::recording::{entry_of, record_body};
 use ada_entities::{Refusal, refused};
 use ada_phrases::Step;
 use ada_syntax::SubprogramBody;
@@ -13,9 +12,9 @@ use cov_base::{Failure, Seq};
 use declarations::all_declared;
 use program_walk::{Context, Returning, Walk};
 use specifications::closed_by;
-use statement_parts::frame_returns;
-use statements::all_handled;
+use statements::{all_handled, frame_returns};
 use std::alloc::Global;
+use unit_walk::{entry_of, record_body};
 
 /// Whether a body whose `return` gives this may end: a function has at least one `return` (RM 6.5).
 fn may_end(body: &SubprogramBody, returning: Returning) -> bool
@@ -28,7 +27,7 @@ fn may_end(body: &SubprogramBody, returning: Returning) -> bool
 }
 
 /// The end of a body: the name after it, and whether the body may end there.
-#[tactic(auto, using(declarations::proofs::GoingLaws::parts))]
+#[tactic(auto, using(program_walk::proofs::GoingLaws::parts))]
 fn ended(
     alloc: Global,
     context: &Context<'_>,
@@ -51,7 +50,7 @@ fn ended(
 
 /// The declarations and the statements of a body with these parameters, whose region is the innermost one
 /// and stays open. The body joins what was found. Refused at the rules' own place.
-#[tactic(auto, using(declarations::proofs::GoingLaws::parts))]
+#[tactic(auto, using(program_walk::proofs::GoingLaws::parts))]
 pub(crate) fn body_inside(
     alloc: Global,
     context: &Context<'_>,

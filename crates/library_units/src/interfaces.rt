@@ -1,11 +1,8 @@
 //! All units of a library, as others see them (Ada RM 2012, 10.1.1).
 
-ghost use Rattle.library_units.specs.Interfaces.{ComesToUnit, ComesToUnits, PassesUnits};
+ghost use Rattle.unit_walk.specs.Interfaces.{ComesToUnit, ComesToUnits, PassesUnits};
 
-use crate::instances::instance_shown;
-use crate::place::UnitPlace;
 use crate::shown_packages::package_shown;
-use crate::subprograms::subprogram_shown;
 use ada_demands::Instances;
 use ada_entities::{Entity, Refusal, key};
 use ada_library::{Library, item_name, seen};
@@ -14,10 +11,11 @@ use ada_syntax::{LibraryItem, Unit};
 use cov_base::Failure;
 use program_walk::Walk;
 use std::alloc::Global;
+use unit_walk::{UnitPlace, instance_shown, subprogram_shown};
 
 /// The unit with this number: other units see it from here on. A body of a package is seen by none.
 /// Refused at the rules' own place.
-#[tactic(auto, using(declarations::proofs::GoingLaws::parts))]
+#[tactic(auto, using(program_walk::proofs::GoingLaws::parts))]
 fn unit_shown(
     alloc: Global,
     step: Step,
@@ -59,7 +57,7 @@ fn unit_shown(
 
 /// All units in the order in which they depend on each other: each is seen by others from there on.
 /// Refused at the rules' own place.
-#[tactic(auto, using(declarations::proofs::GoingLaws::parts))]
+#[tactic(auto, using(program_walk::proofs::GoingLaws::parts))]
 pub fn all_shown(
     alloc: Global,
     step: Step,

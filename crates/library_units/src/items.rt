@@ -3,22 +3,22 @@
 ghost use Rattle.cov_base.specs.declared.position.Pos.{Pos};
 ghost use Rattle.ada_syntax.specs.declared.unit.PackageItem.TheVariants as part;
 ghost use Rattle.ada_rules.specs.Units as rules;
-ghost use Rattle.declarations.specs.Going.{GoesOn, IsWalkOpen};
-ghost use Rattle.library_units.specs.Routines.{ComesToRegion};
-ghost use Rattle.library_units.specs.Going.{IsSound, AdvancesOn};
+ghost use Rattle.program_walk.specs.Going.{GoesOn, IsWalkOpen};
+ghost use Rattle.specifications.specs.Routines.{ComesToRegion};
+ghost use Rattle.specifications.specs.Going.{IsSound, AdvancesOn};
 ghost use Rattle.library_units.specs.Items.{ComesToItem};
 
 use crate::packaged::packaged_body;
-use crate::routines::subprogram_declared;
 use ada_entities::Refusal;
 use ada_syntax::{BodyItem, Declaration, PackageItem};
 use cov_base::Failure;
 use declarations::declared;
 use program_walk::{Context, Walk};
+use specifications::subprogram_declared;
 use std::alloc::Global;
 
 /// A declaration in a package, which makes no declaration of a subprogram's body.
-#[tactic(auto, using(declarations::proofs::GoingLaws::parts))]
+#[tactic(auto, using(program_walk::proofs::GoingLaws::parts))]
 fn declared_item(
     alloc: Global,
     context: &Context<'_>,
@@ -34,7 +34,7 @@ fn declared_item(
 }
 
 /// A declaration in a package, also of a subprogram (RM 7.1).
-#[tactic(auto, using(declarations::proofs::GoingLaws::parts))]
+#[tactic(auto, using(program_walk::proofs::GoingLaws::parts))]
 fn package_item(
     alloc: Global,
     context: &Context<'_>,
@@ -53,7 +53,7 @@ fn package_item(
 }
 
 /// The declarations of a package, in order (RM 7.1). Refused at the rules' own place.
-#[tactic(auto, using(declarations::proofs::GoingLaws::parts))]
+#[tactic(auto, using(program_walk::proofs::GoingLaws::parts))]
 pub fn package_items(
     alloc: Global,
     context: &Context<'_>,
@@ -71,7 +71,7 @@ pub fn package_items(
 }
 
 /// A declaration or a body in the body of a package (RM 7.2).
-#[tactic(auto, using(declarations::proofs::GoingLaws::parts))]
+#[tactic(auto, using(program_walk::proofs::GoingLaws::parts))]
 fn body_item(
     alloc: Global,
     context: &Context<'_>,
@@ -88,7 +88,7 @@ fn body_item(
 }
 
 /// The declarations and bodies of a package's body, in order (RM 7.2). Refused at the rules' own place.
-#[tactic(auto, using(declarations::proofs::GoingLaws::parts))]
+#[tactic(auto, using(program_walk::proofs::GoingLaws::parts))]
 pub fn body_items(
     alloc: Global,
     context: &Context<'_>,

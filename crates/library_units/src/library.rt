@@ -1,21 +1,20 @@
 //! Bodies of library subprograms (Ada RM 2012, 6.3, 10.1).
 
-ghost use Rattle.library_units.specs.Going.{IsSound, AdvancesOn};
+ghost use Rattle.specifications.specs.Going.{IsSound, AdvancesOn};
 ghost use Rattle.library_units.specs.Library.{ComesToLibrary};
 
-use crate::body_contexts::body_context;
 use crate::inside::body_inside;
-use crate::specification::specified;
-use crate::typed::head_of;
 use ada_entities::Refusal;
 use ada_syntax::SubprogramBody;
 use cov_base::Failure;
 use program_walk::{Context, Walk};
+use specifications::{head_of, specified};
 use std::alloc::Global;
 use std::mem;
+use unit_walk::body_context;
 
 /// The body of a library subprogram, whose unit was entered. Refused at the rules' own place.
-#[tactic(auto, using(declarations::proofs::GoingLaws::parts))]
+#[tactic(auto, using(program_walk::proofs::GoingLaws::parts))]
 pub fn library_body(
     alloc: Global,
     context: &Context<'_>,

@@ -2,13 +2,9 @@
 
 ghost use Rattle.cov_base.specs.declared.position.Pos.{Pos};
 ghost use Rattle.ada_rules.specs.Units as rules;
-ghost use Rattle.library_units.specs.Bodies.{PassesBody, ComesToBody};
+ghost use Rattle.unit_walk.specs.Bodies.{PassesBody, ComesToBody};
 
-use crate::contexts::package_context;
-use crate::entering::{enter_unit, leave_unit, note_library_words};
 use crate::items::body_items;
-use crate::place::UnitPlace;
-use crate::unit_texts::{generic_of, text_of};
 use ada_demands::Instances;
 use ada_entities::{Refusal, Region};
 use ada_syntax::PackageBody;
@@ -16,10 +12,13 @@ use cov_base::Failure;
 use program_walk::Walk;
 use specifications::closed_by;
 use std::alloc::Global;
+use unit_walk::{
+    UnitPlace, enter_unit, generic_of, leave_unit, note_library_words, package_context, text_of,
+};
 
 /// The body of the package with this number: its declarations and bodies come behind those of its
 /// specification. Refused at the rules' own place.
-#[tactic(auto, using(declarations::proofs::GoingLaws::parts))]
+#[tactic(auto, using(program_walk::proofs::GoingLaws::parts))]
 pub fn package_body(
     alloc: Global,
     place: UnitPlace<'_>,

@@ -1,22 +1,22 @@
 //! Bodies in packages (Ada RM 2012, 6.3, 7.2).
 
 ghost use Rattle.ada_rules.specs.Subprograms as rules;
-ghost use Rattle.library_units.specs.Routines.{ComesToRegion};
-ghost use Rattle.library_units.specs.Going.{IsSound, AdvancesOn};
+ghost use Rattle.specifications.specs.Routines.{ComesToRegion};
+ghost use Rattle.specifications.specs.Going.{IsSound, AdvancesOn};
 
-use crate::body_contexts::body_context;
-use crate::heads::packaged_head;
 use crate::inside::body_inside;
 use ada_entities::{Refusal, key};
 use ada_syntax::SubprogramBody;
 use cov_base::Failure;
 use program_walk::{Context, Walk};
+use specifications::packaged_head;
 use std::alloc::Global;
 use std::mem;
+use unit_walk::body_context;
 
 /// A body in a package, which completes a declaration that has none yet, or declares a subprogram
 /// (RM 6.3). Refused at the rules' own place.
-#[tactic(auto, using(declarations::proofs::GoingLaws::parts))]
+#[tactic(auto, using(program_walk::proofs::GoingLaws::parts))]
 pub fn packaged_body(
     alloc: Global,
     context: &Context<'_>,

@@ -4,23 +4,21 @@ ghost use Rattle.std.specs.Prelude.{◌≡◌, IfOk, OnOk};
 ghost use Rattle.cov_base.specs.declared.position.Pos.{Pos};
 ghost use Rattle.ada_rules.specs.Units as rules;
 ghost use Rattle.ada_entities.specs.RegionCode.{innermost};
-ghost use Rattle.symbol_table.specs.declared.extent.Extent.{Extent};
-ghost use Rattle.library_units.specs.Walked.{ComesToInterface, Passes};
+ghost use Rattle.program_walk.specs.declared.extent.Extent.{Extent};
+ghost use Rattle.unit_walk.specs.Walked.{ComesToInterface, Passes};
 ghost use Rattle.library_units.specs.Packages.{KeepsInnermost, IsInterfaceWith, IsKnownWith};
 
-use crate::contexts::package_context;
-use crate::entering::{enter_unit, leave_unit, note_library_words};
-use crate::formals::formals_declared;
 use crate::items::package_items;
-use crate::place::UnitPlace;
 use ada_demands::Instances;
 use ada_entities::{Interface, Refusal, Region};
 use ada_syntax::{Formal, PackageSpecification};
 use cov_base::{Failure, Seq};
-use program_walk::Walk;
+use program_walk::{Symbols, Walk};
 use specifications::closed_by;
 use std::alloc::{AllocError, Global};
-use symbol_table::Symbols;
+use unit_walk::{
+    UnitPlace, enter_unit, formals_declared, leave_unit, note_library_words, package_context,
+};
 
 /// The generic that a unit is, where it has formals.
 fn generic_at(formals: &Option<Seq<Formal>>, unit: u32) -> Option<u32>
@@ -66,7 +64,7 @@ fn interface_with(formals: &Option<Seq<Formal>>, formal_region: Region, region: 
 
 /// A package or a generic: other units see its declarations, and its formals. Refused at the rules' own
 /// place.
-#[tactic(auto, using(declarations::proofs::GoingLaws::parts))]
+#[tactic(auto, using(program_walk::proofs::GoingLaws::parts))]
 pub fn package_shown(
     alloc: Global,
     place: UnitPlace<'_>,

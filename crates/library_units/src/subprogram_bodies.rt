@@ -1,20 +1,19 @@
 //! Bodies of library subprograms (Ada RM 2012, 6.3, 10.1).
 
-ghost use Rattle.library_units.specs.Bodies.{PassesBody, ComesToSubprogram};
+ghost use Rattle.unit_walk.specs.Bodies.{PassesBody, ComesToSubprogram};
 
-use crate::entering::{enter_unit, leave_unit};
 use crate::library::library_body;
-use crate::place::UnitPlace;
 use ada_demands::Instances;
 use ada_entities::{Refusal, Region};
 use ada_syntax::SubprogramBody;
 use cov_base::Failure;
 use program_walk::Walk;
 use std::alloc::Global;
+use unit_walk::{UnitPlace, enter_unit, leave_unit};
 
 /// The body of a library subprogram, which declares no object of the library level. Refused at the
 /// rules' own place.
-#[tactic(auto, using(declarations::proofs::GoingLaws::parts))]
+#[tactic(auto, using(program_walk::proofs::GoingLaws::parts))]
 pub fn subprogram_body(
     alloc: Global,
     place: UnitPlace<'_>,

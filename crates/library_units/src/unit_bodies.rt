@@ -1,12 +1,10 @@
 //! The bodies of all units of a library (Ada RM 2012, 7.2, 10.1).
 
 ghost use Rattle.std.specs.Prelude.{◌≡◌, IfOk};
-ghost use Rattle.library_units.specs.Bodies.{PassesBodies, ComesToNamed, ComesToBodiesOf, ComesToAllBodies};
+ghost use Rattle.unit_walk.specs.Bodies.{PassesBodies, ComesToNamed, ComesToBodiesOf, ComesToAllBodies};
 
 use crate::package_bodies::package_body;
-use crate::place::UnitPlace;
 use crate::subprogram_bodies::subprogram_body;
-use crate::unit_texts::routine_of;
 use ada_demands::Instances;
 use ada_entities::{Refusal, key};
 use ada_library::{Library, item_name, seen, seen_in_body};
@@ -15,6 +13,7 @@ use ada_syntax::{LibraryItem, PackageBody, Unit};
 use cov_base::Failure;
 use program_walk::Walk;
 use std::alloc::{AllocError, Global};
+use unit_walk::{UnitPlace, routine_of};
 
 /// The number of the unit at this index. A list with more than 2^32 - 1 items has no memory.
 fn numbered(index: usize) -> Result<u32, AllocError>
@@ -28,7 +27,7 @@ fn numbered(index: usize) -> Result<u32, AllocError>
 
 /// The body of the package with the name of its unit, where there is such a package. Refused at the
 /// rules' own place.
-#[tactic(auto, using(declarations::proofs::GoingLaws::parts))]
+#[tactic(auto, using(program_walk::proofs::GoingLaws::parts))]
 fn named_body(
     alloc: Global,
     place: UnitPlace<'_>,
@@ -52,7 +51,7 @@ fn named_body(
 }
 
 /// The body of the unit with this number, where it is one. Refused at the rules' own place.
-#[tactic(auto, using(declarations::proofs::GoingLaws::parts))]
+#[tactic(auto, using(program_walk::proofs::GoingLaws::parts))]
 fn unit_body(
     alloc: Global,
     step: Step,
@@ -87,7 +86,7 @@ fn unit_body(
 }
 
 /// The bodies of all units in the order of the text. Refused at the rules' own place.
-#[tactic(auto, using(declarations::proofs::GoingLaws::parts))]
+#[tactic(auto, using(program_walk::proofs::GoingLaws::parts))]
 pub fn all_bodies(
     alloc: Global,
     step: Step,

@@ -7,10 +7,10 @@ use Rattle.ada_entities.specs.declared.types.AdaType.TheVariants as type
 use Rattle.ada_entities.specs.Views.{is_known_owner}
 use Rattle.ada_entities.specs.EntityViews.{Tables}
 use Rattle.ada_entities.specs.TypeTable.{tables}
-use Rattle.symbol_table.specs.declared.symbols.Symbols.{Symbols}
-use Rattle.symbol_table.specs.Known.{knows_instance, knows_type}
-use Rattle.symbol_table.specs.SymbolViews.{Begins, IsKnown}
-use Rattle.type_trees.specs.Trees.{IsThere}
+use Rattle.program_walk.specs.declared.symbols.Symbols.{Symbols}
+use Rattle.program_walk.specs.Known.{knows_instance, knows_type}
+use Rattle.program_walk.specs.SymbolViews.{Begins, IsKnown}
+use Rattle.ada_entities.specs.Trees.{IsThere}
 
 pub known_there : (symbols : Symbols) → IsKnown symbols → (k : Tables) → Begins symbols k → (t : AdaType)
     → knows_type symbols.extent t ≡ true → IsThere k.types t

@@ -25,8 +25,8 @@ use Rattle.ada_entities.specs.Views.{Shape, array_shape, record_shape, shaped, T
 use Rattle.ada_entities.specs.Tables.{array_parts}
 use Rattle.ada_entities.specs.EntityViews.{Tables}
 use Rattle.object_values.specs.Values.{value_of_form, value_where_fits}
-use Rattle.type_trees.specs.Trees.{named_by, shapes_in_tree, IsSubtypeThere}
-use Rattle.type_trees.proofs.Unfolding.{named}
+use Rattle.ada_entities.specs.Trees.{named_by, shapes_in_tree, IsSubtypeThere}
+use Rattle.ada_entities.proofs.TreeUnfolding.{named}
 
 scalar_types : (s : ScalarType) → is_scalar (scalar_type_of s) ≡ true
 scalar_types (scalar.Integer i) = refl

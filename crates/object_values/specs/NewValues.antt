@@ -23,10 +23,10 @@ use Rattle.ada_judged.specs.Views.{kind_of}
 use Rattle.ada_judged.specs.JudgedView.{form_of, variable_in, judged_of}
 use Rattle.ada_phrases.specs.declared.decisions.Decisions.{Decisions}
 use Rattle.ada_phrases.specs.Answers.{counted}
-use Rattle.symbol_table.specs.declared.site.Site.{Site}
-use Rattle.symbol_table.specs.declared.symbols.Symbols.{Symbols}
-use Rattle.symbol_table.specs.Sites.{StandsAt}
-use Rattle.symbol_table.specs.SymbolViews.{Begins, IsKnown}
+use Rattle.program_walk.specs.declared.site.Site.{Site}
+use Rattle.program_walk.specs.declared.symbols.Symbols.{Symbols}
+use Rattle.program_walk.specs.Sites.{StandsAt}
+use Rattle.program_walk.specs.SymbolViews.{Begins, IsKnown}
 use Rattle.object_values.specs.Values.{value_in}
 use Rattle.object_values.specs.declared.initial.NewValue.{NewValue}
 

@@ -5,8 +5,8 @@ use Rattle.ada_rules.specs.Declarations.{value_place}
 use Rattle.ada_entities.specs.declared.types.Subtype.{Subtype}
 use Rattle.ada_entities.specs.Views.{subtype_of}
 use Rattle.ada_entities.specs.EntityViews.{Tables}
-use Rattle.symbol_table.specs.declared.symbols.Symbols.{Symbols}
-use Rattle.symbol_table.specs.SymbolViews.{Begins, IsKnown}
+use Rattle.program_walk.specs.declared.symbols.Symbols.{Symbols}
+use Rattle.program_walk.specs.SymbolViews.{Begins, IsKnown}
 
 abbrev pub IsValuePlace : Symbols → Pos → Subtype → List Pos → Pos → Type 0
 IsValuePlace symbols p t others place =

@@ -10,10 +10,10 @@ use Rattle.ada_rules.specs.Declarations.{value_for}
 use Rattle.ada_entities.specs.declared.types.Subtype.{Subtype}
 use Rattle.ada_entities.specs.Views.{TypeTables, subtype_of}
 use Rattle.ada_entities.specs.EntityViews.{Tables}
-use Rattle.symbol_table.specs.declared.symbols.Symbols.{Symbols}
-use Rattle.symbol_table.specs.SymbolViews.{Begins, IsKnown}
+use Rattle.program_walk.specs.declared.symbols.Symbols.{Symbols}
+use Rattle.program_walk.specs.SymbolViews.{Begins, IsKnown}
 use Rattle.object_values.specs.Values.{in_indices}
-use Rattle.type_trees.specs.Trees.{IsSubtypeThere}
+use Rattle.ada_entities.specs.Trees.{IsSubtypeThere}
 use Rattle.object_values.specs.declared.reach.Placement.{Placement}
 use Rattle.object_values.specs.declared.reach.Reach.{Reach}
 

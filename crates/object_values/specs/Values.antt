@@ -20,7 +20,7 @@ use Rattle.ada_judged.specs.declared.judged.Form.{Form}
 use Rattle.ada_judged.specs.declared.kind.Kind.{Kind}
 use Rattle.ada_judged.specs.Views.{kind_of}
 use Rattle.ada_judged.specs.JudgedView.{form_of, variable_in}
-use Rattle.type_trees.specs.Trees.{shapes_in_tree, IsSubtypeThere}
+use Rattle.ada_entities.specs.Trees.{shapes_in_tree, IsSubtypeThere}
 use Rattle.object_values.specs.declared.single.Single.{Single}
 use Rattle.object_values.specs.declared.single.Single.TheVariants as single
 

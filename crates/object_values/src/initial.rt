@@ -15,8 +15,8 @@ use ada_phrases::{Decisions, Role, Step};
 use ada_syntax::Initial;
 use ada_tree::{Expr, NewValue as TreeValue, Range, ScalarRange};
 use cov_base::{Failure, Pos};
+use program_walk::{Site, Symbols};
 use std::alloc::{AllocError, Global};
-use symbol_table::{Site, Symbols};
 
 /// What an object is set to, and the static value of the expression, where it stands in no `others`.
 #[derive(Drop)]

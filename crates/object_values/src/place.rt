@@ -5,8 +5,8 @@ ghost use Rattle.object_values.specs.Places.{IsValuePlace};
 
 use ada_entities::Subtype;
 use cov_base::Pos;
+use program_walk::Symbols;
 use std::alloc::AllocError;
-use symbol_table::Symbols;
 
 /// The place at which it is told that a value with an `others` at each of these places round it is not
 /// of the type of an object of this subtype: that of the innermost `others` that stands for the

@@ -6,8 +6,8 @@ ghost use Rattle.object_values.specs.Reached.{IsReached, AreIndices, IsPlacing};
 use ada_entities::Subtype;
 use ada_tree::{Indices, ScalarRange};
 use cov_base::{Pos, Seq};
+use program_walk::Symbols;
 use std::alloc::{AllocError, Global};
-use symbol_table::Symbols;
 
 /// The indices of `(others => ..)`, from the outermost in, and the subtype of the component within.
 #[derive(Drop)]

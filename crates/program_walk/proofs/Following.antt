@@ -3,9 +3,9 @@ use Rattle.std.proofs.Common.{◌≡◌, ℕ, true, List, Option, None, Some, re
 use Rattle.ada_rules.specs.Environment.{opened, with_local, in_loop, in_handler, Env}
 use Rattle.ada_entities.specs.declared.entity.Entity.{Entity}
 use Rattle.ada_entities.specs.EntityViews.{Tables, region_of}
-use Rattle.symbol_table.specs.Sites.{StandsInText}
-use Rattle.symbol_table.specs.Changes.{Grows, ChangesInside, Opens, Reopens}
-use Rattle.symbol_table.proofs.PlaceLaws.{holds_grown, holds_opened, holds_reopened, holds_inside}
+use Rattle.program_walk.specs.Sites.{StandsInText}
+use Rattle.program_walk.specs.Changes.{Grows, ChangesInside, Opens, Reopens}
+use Rattle.program_walk.proofs.PlaceLaws.{holds_grown, holds_opened, holds_reopened, holds_inside}
 use Rattle.program_walk.specs.declared.context.Context.{Context}
 use Rattle.program_walk.specs.declared.context.Level.TheVariants as level
 use Rattle.program_walk.specs.declared.walk.Walk.{Walk}

@@ -7,8 +7,8 @@ use Rattle.ada_tree.specs.View.{subtype_of}
 use Rattle.ada_rules.specs.Environment as rules
 use Rattle.ada_rules.specs.Environment.{Declares, State, beginning_state}
 use Rattle.ada_entities.specs.EntityViews.{Tables}
-use Rattle.type_trees.specs.Trees.{shapes_in_tree}
-use Rattle.static_parts.specs.Places.{with_notes}
+use Rattle.ada_entities.specs.Trees.{shapes_in_tree}
+use Rattle.program_walk.specs.Places.{with_notes}
 use Rattle.program_walk.specs.declared.counts.Counts.{Counts}
 use Rattle.program_walk.specs.declared.found.Word.{Word}
 use Rattle.program_walk.specs.declared.found.DeclaredType.{DeclaredType}

@@ -15,12 +15,12 @@ use Rattle.ada_library.specs.declared.library.Library.{Library}
 use Rattle.ada_library.specs.LibraryView.{IsLibrary}
 use Rattle.ada_demands.specs.SpanViews as spans
 use Rattle.ada_demands.specs.SpanViews.{listed}
-use Rattle.symbol_table.specs.declared.symbols.Symbols.{Symbols}
-use Rattle.symbol_table.specs.SymbolViews as symbols
-use Rattle.symbol_table.specs.Sites.{Holds}
-use Rattle.symbol_table.specs.Changes.{Grows, ChangesInside, Opens, IsFresh}
-use Rattle.static_parts.specs.declared.place.Place.{Place}
-use Rattle.static_parts.specs.Places as places
+use Rattle.program_walk.specs.declared.symbols.Symbols.{Symbols}
+use Rattle.program_walk.specs.SymbolViews as symbols
+use Rattle.program_walk.specs.Sites.{Holds}
+use Rattle.program_walk.specs.Changes.{Grows, ChangesInside, Opens, IsFresh}
+use Rattle.program_walk.specs.declared.place.Place.{Place}
+use Rattle.program_walk.specs.Places as places
 use Rattle.program_walk.specs.declared.context.Context.{Context}
 use Rattle.program_walk.specs.declared.context.Level.{Level}
 use Rattle.program_walk.specs.declared.context.Level.TheVariants as level

@@ -6,12 +6,13 @@ ghost use Rattle.ada_rules.specs.Environment.{Env};
 ghost use Rattle.ada_entities.specs.EntityViews.{Tables};
 ghost use Rattle.program_walk.specs.Walks.{IsPlaceOf, IsInside, IsInLoop, IsInHandler};
 
+use crate::place::Place;
+use crate::site::Site;
+use crate::symbols::Symbols;
 use ada_demands::Instances;
 use ada_entities::Subtype;
 use ada_library::Library;
 use ada_phrases::Step;
-use static_parts::Place;
-use symbol_table::{Site, Symbols};
 
 /// Where declarations stand.
 #[derive(Clone, Copy)]

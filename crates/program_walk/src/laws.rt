@@ -5,7 +5,7 @@ ghost use Rattle.std.specs.Prelude.{◌≡◌, ℕ, List};
 ghost use Rattle.ada_rules.specs.Environment.{opened, with_local, Env};
 ghost use Rattle.ada_entities.specs.declared.entity.Entity.{Entity};
 ghost use Rattle.ada_entities.specs.EntityViews.{Tables, region_of};
-ghost use Rattle.symbol_table.specs.Changes.{Grows, ChangesInside, Opens, Reopens};
+ghost use Rattle.program_walk.specs.Changes.{Grows, ChangesInside, Opens, Reopens};
 ghost use Rattle.program_walk.specs.declared.context.Context.{Context};
 ghost use Rattle.program_walk.specs.declared.walk.Walk.{Walk};
 ghost use Rattle.program_walk.specs.Walks.{with_innermost, IsInside, Leads};

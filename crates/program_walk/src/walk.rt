@@ -5,11 +5,11 @@ ghost use Rattle.program_walk.specs.Walks.{IsBeginning};
 
 use crate::counts::Counts;
 use crate::found::Found;
+use crate::place::Notes;
+use crate::symbols::Symbols;
 use ada_demands::{SpanTable, Statics};
 use ada_phrases::Decisions;
-use static_parts::Notes;
 use std::alloc::{AllocError, Global};
-use symbol_table::Symbols;
 
 /// What is declared so far, what the walk has noted, the values that loop parameters may have, the
 /// counters, and what was found.

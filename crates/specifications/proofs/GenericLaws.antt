@@ -8,7 +8,7 @@ use Rattle.ada_rules.specs.Entities.{Region, visible, key}
 use Rattle.ada_rules.specs.Environment.{Interface, no_interface, package_interface, generic_interface, instance_interface, subprogram_interface, World, Env, regions_of}
 use Rattle.ada_rules.specs.Instances.{generic_number, generic_of, generic_or_any, generic_named}
 use Rattle.ada_entities.specs.Answers.{Refuses, refusal, refused_at}
-use Rattle.symbol_table.specs.Generics.{formals_shown}
+use Rattle.program_walk.specs.Generics.{formals_shown}
 
 -- what has formals is a generic
 generic_by : (w : World) (n : ℕ) (i : Interface) → option_map (λ f. n) (formals_shown i) ≡ generic_number w n i

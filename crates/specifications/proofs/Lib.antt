@@ -9,3 +9,15 @@ pub mod GenericLaws
 pub mod PassingLaws
 pub mod CountingLaws
 pub mod FactLaws
+pub mod ObjectLaws
+pub mod ParameterLaws
+pub mod ParameterWalks
+pub mod ResultLaws
+pub mod SpecificationLaws
+pub mod AloneLaws
+pub mod RoutineLaws
+pub mod DeclaredLaws
+pub mod ContextLaws
+pub mod TypedLaws
+pub mod HeadLaws
+pub mod HeadWalks

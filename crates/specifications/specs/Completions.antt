@@ -9,7 +9,7 @@ use Rattle.ada_entities.specs.declared.fault.Refusal.{Refusal}
 use Rattle.ada_entities.specs.Answers.{Refuses}
 use Rattle.ada_entities.specs.EntityViews.{Tables, region_of}
 use Rattle.ada_entities.specs.RegionCode.{innermost}
-use Rattle.symbol_table.specs.declared.symbols.Symbols.{Symbols}
+use Rattle.program_walk.specs.declared.symbols.Symbols.{Symbols}
 use Rattle.specifications.specs.Profiles.{completing}
 
 -- the innermost region is what the rules say, and what is completed stands in it

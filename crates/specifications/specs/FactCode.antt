@@ -12,9 +12,9 @@ use Rattle.ada_demands.specs.FactViews.{facts_of}
 use Rattle.ada_demands.specs.SpanViews.{listed}
 use Rattle.ada_demands.specs.SpanViews as spans
 use Rattle.ada_entities.specs.EntityViews.{Tables}
-use Rattle.symbol_table.specs.declared.symbols.Symbols.{Symbols}
-use Rattle.symbol_table.specs.Sites.{HoldsUnits}
-use Rattle.symbol_table.specs.SymbolViews.{Begins, IsKnown}
+use Rattle.program_walk.specs.declared.symbols.Symbols.{Symbols}
+use Rattle.program_walk.specs.Sites.{HoldsUnits}
+use Rattle.program_walk.specs.SymbolViews.{Begins, IsKnown}
 use Rattle.specifications.specs.declared.actual.InstanceActual.{InstanceActual}
 use Rattle.specifications.specs.declared.facts.Lookup.{Lookup}
 use Rattle.specifications.specs.Actuals.{actuals_of}

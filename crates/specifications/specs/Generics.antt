@@ -12,9 +12,9 @@ use Rattle.ada_entities.specs.Answers.{Answers}
 use Rattle.ada_entities.specs.EntityViews.{Tables, entity_of}
 use Rattle.ada_phrases.specs.declared.scope.Step.{Step}
 use Rattle.ada_phrases.specs.Scopes.{step_of}
-use Rattle.symbol_table.specs.declared.symbols.Symbols.{Symbols}
-use Rattle.symbol_table.specs.declared.site.Site.{Site}
-use Rattle.symbol_table.specs.Sites.{HoldsUnits, StandsAt}
+use Rattle.program_walk.specs.declared.symbols.Symbols.{Symbols}
+use Rattle.program_walk.specs.declared.site.Site.{Site}
+use Rattle.program_walk.specs.Sites.{HoldsUnits, StandsAt}
 
 -- the number of a unit, as it is
 abbrev pub itself : Option ℕ → Option ℕ

@@ -5,3 +5,13 @@ pub mod Matches
 pub mod Generics
 pub mod Passing
 pub mod FactCode
+pub mod Objects
+pub mod Parameters
+pub mod Results
+pub mod EnteringParameters
+pub mod Alone
+pub mod Routines
+pub mod Going
+pub mod Contexts
+pub mod Typed
+pub mod Heads

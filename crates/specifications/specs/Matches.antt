@@ -13,8 +13,8 @@ use Rattle.ada_entities.specs.declared.types.AdaType.{AdaType}
 use Rattle.ada_entities.specs.EntityViews.{Tables, routine_by}
 use Rattle.ada_entities.specs.RoutineViews.{routine_in}
 use Rattle.ada_entities.specs.Views.{type_by, type_of}
-use Rattle.symbol_table.specs.declared.symbols.Symbols.{Symbols}
-use Rattle.symbol_table.specs.SymbolViews.{Begins, IsKnown}
+use Rattle.program_walk.specs.declared.symbols.Symbols.{Symbols}
+use Rattle.program_walk.specs.SymbolViews.{Begins, IsKnown}
 use Rattle.specifications.specs.declared.profiles.Matching.{Matching}
 use Rattle.specifications.specs.Actuals.{actuals_of}
 use Rattle.specifications.specs.Profiles.{parameter_seen, result_seen}

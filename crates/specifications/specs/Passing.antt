@@ -21,7 +21,7 @@ use Rattle.ada_phrases.specs.declared.names.Denoted.{Denoted}
 use Rattle.ada_phrases.specs.declared.scope.Step.{Step as CodeStep}
 use Rattle.ada_phrases.specs.DenotedView.{denotes}
 use Rattle.ada_phrases.specs.Scopes.{step_of}
-use Rattle.static_parts.specs.Places.{StandsAt}
+use Rattle.program_walk.specs.Places.{StandsAt}
 use Rattle.specifications.specs.declared.actual.InstanceActual.{InstanceActual}
 use Rattle.specifications.specs.declared.passing.InstanceWalk.{InstanceWalk}
 use Rattle.specifications.specs.Actuals.{actual_of, actuals_of, actuals_in}

@@ -16,8 +16,8 @@ use Rattle.ada_entities.specs.Answers.{Answers}
 use Rattle.ada_entities.specs.EntityViews.{Tables, routine_of}
 use Rattle.ada_entities.specs.RoutineViews.{parameter_of, result_of}
 use Rattle.ada_phrases.specs.Routines.{parameter_by}
-use Rattle.symbol_table.specs.declared.symbols.Symbols.{Symbols}
-use Rattle.symbol_table.specs.SymbolViews.{Begins, IsKnown}
+use Rattle.program_walk.specs.declared.symbols.Symbols.{Symbols}
+use Rattle.program_walk.specs.SymbolViews.{Begins, IsKnown}
 use Rattle.specifications.specs.declared.conformance.Profile.{Profile}
 
 -- a construct that comes to nothing but that it passes

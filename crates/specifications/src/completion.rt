@@ -5,15 +5,15 @@ ghost use Rattle.ada_syntax.specs.declared.name.Identifier.{Identifier};
 ghost use Rattle.ada_rules.specs.Entities.{Region};
 ghost use Rattle.ada_rules.specs.Subprograms.{to_complete};
 ghost use Rattle.ada_entities.specs.EntityViews.{Tables, entity_of};
-ghost use Rattle.symbol_table.specs.Changes.{ChangesInside, Continues, IsOpen};
+ghost use Rattle.program_walk.specs.Changes.{ChangesInside, Continues, IsOpen};
 ghost use Rattle.specifications.specs.Completions.{Completes, RefusesBody};
 ghost use Rattle.specifications.specs.Profiles.{completing};
 
 use ada_entities::{Completion, Entity, Refusal, RoutineName, refused};
 use ada_syntax::Identifier;
 use cov_base::Failure;
+use program_walk::Symbols;
 use std::alloc::Global;
-use symbol_table::Symbols;
 
 /// The subprogram that an entity is, if it is one that waits for its body.
 fn awaiting_body(entity: Entity) -> Option<RoutineName>

@@ -13,8 +13,8 @@ ghost use Rattle.specifications.specs.Profiles.{parameter_seen, parameters_of, r
 use ada_entities::{Identity, Parameter, Refusal, ResultMark, Routine, RoutineName, refused};
 use ada_tree::{Mode, Owner};
 use cov_base::{Failure, Pos, Seq};
+use program_walk::Symbols;
 use std::alloc::AllocError;
-use symbol_table::Symbols;
 
 /// The parameters of a subprogram, and of a function its result (RM 6.1).
 #[derive(Drop)]

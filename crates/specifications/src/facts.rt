@@ -23,8 +23,8 @@ use ada_tree::{
     Callee, FormalActual, Instance, Owner, Range, ScalarRange, Static, StaticValue, Target,
 };
 use cov_base::{Bytes, Pos, Seq};
+use program_walk::Symbols;
 use std::alloc::{AllocError, Global};
-use symbol_table::Symbols;
 
 /// Where the values of actuals are found: what is declared, what instances have, and the values that
 /// stand for loop parameters.

@@ -6,8 +6,8 @@ use ada_entities::{Entity, Refusal, refused};
 use ada_phrases::Step;
 use ada_syntax::Identifier;
 use cov_base::{Failure, Pos};
+use program_walk::{Site, Symbols};
 use std::alloc::Global;
-use symbol_table::{Site, Symbols};
 
 /// The number of the generic that an entity is, if it is one.
 fn generic_of(symbols: &Symbols, entity: Entity) -> Option<u32>

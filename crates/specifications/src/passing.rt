@@ -8,7 +8,7 @@ ghost use Rattle.ada_rules.specs.Plan.{answer_at};
 ghost use Rattle.ada_syntax.specs.Tree.{expr_pos};
 ghost use Rattle.ada_entities.specs.EntityViews.{Tables, entity_of};
 ghost use Rattle.ada_entities.specs.Views.{subtype_of};
-ghost use Rattle.static_parts.specs.Places.{ComesTo};
+ghost use Rattle.program_walk.specs.Places.{ComesTo};
 ghost use Rattle.specifications.specs.Actuals.{actual_of, actuals_of, actuals_in};
 ghost use Rattle.specifications.specs.Passing.{by_name, by_other, name_plan, plan_for, formals_seen, kept, IsForName, IsNoActual, IsCounted};
 
@@ -19,7 +19,7 @@ use ada_entities::{Entity, Refusal, Region, Subtype, range_seen, refused};
 use ada_phrases::{Denoted, Role, Step};
 use ada_syntax::{Expr, ExprKind, Name};
 use cov_base::{Failure, Pos};
-use static_parts::{Accepted, Asks, Notes, Place};
+use program_walk::{Accepted, Asks, Notes, Place};
 use std::alloc::{AllocError, Global};
 
 /// Where the actuals of an instance stand, and the number of the instance.

@@ -13,8 +13,8 @@ use crate::conformance::same_mode;
 use crate::instantiation::Instantiation;
 use ada_entities::{AdaType, Identity, Parameter, ResultMark, Routine, RoutineName};
 use ada_tree::Owner;
+use program_walk::Symbols;
 use std::alloc::AllocError;
-use symbol_table::Symbols;
 
 /// Where subprograms are compared with formal ones: what is declared, and the instance that is being
 /// made.

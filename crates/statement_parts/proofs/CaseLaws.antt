@@ -18,7 +18,7 @@ use Rattle.ada_rules.specs.Statements.{one, stmts_of, Selector, Arm, alternative
 use Rattle.ada_entities.specs.declared.fault.Refusal.{Refusal}
 use Rattle.ada_entities.specs.Answers.{refusal, Refuses, refused_at, no_memory}
 use Rattle.ada_entities.specs.EntityViews.{Tables}
-use Rattle.type_trees.specs.Trees.{shapes_in_tree}
+use Rattle.ada_entities.specs.Trees.{shapes_in_tree}
 use Rattle.statement_parts.specs.Cases.{arm_in, arms_in, covering}
 
 -- an alternative with `others`

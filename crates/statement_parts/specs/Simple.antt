@@ -15,9 +15,9 @@ use Rattle.ada_rules.specs.Statements.{one, target, call_of, exception_of, typed
 use Rattle.ada_entities.specs.declared.fault.Refusal.{Refusal}
 use Rattle.ada_entities.specs.EntityViews.{Tables}
 use Rattle.ada_phrases.specs.declared.decisions.Decisions.{Decisions}
-use Rattle.symbol_table.specs.declared.site.Site.{Site}
-use Rattle.symbol_table.specs.Sites.{ComesTo}
-use Rattle.type_trees.specs.Trees.{shapes_in_tree}
+use Rattle.program_walk.specs.declared.site.Site.{Site}
+use Rattle.program_walk.specs.Sites.{ComesTo}
+use Rattle.ada_entities.specs.Trees.{shapes_in_tree}
 
 -- a statement of the typed program, whose composite types are unfolded from the checker's table
 abbrev pub in_tree : Tables → tree.Stmt → tree.Stmt

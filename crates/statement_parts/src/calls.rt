@@ -12,8 +12,8 @@ use ada_phrases::{Decisions, Denoted};
 use ada_syntax::Name;
 use ada_tree::{Actual, Callee, Label, Owner, Statement, StatementKind};
 use cov_base::{Failure, Seq};
+use program_walk::{Site, Symbols};
 use std::alloc::{AllocError, Global};
-use symbol_table::{Site, Symbols};
 
 /// What calls name, as it is seen (RM 12.3).
 fn callee_seen(callee: Callee, seen: Owner) -> Callee

@@ -15,8 +15,8 @@ use ada_phrases::{Decisions, Denoted};
 use ada_syntax::Name;
 use ada_tree::{ExceptionName, Label, Statement, StatementKind};
 use cov_base::Failure;
+use program_walk::Site;
 use std::alloc::Global;
-use symbol_table::Site;
 
 /// The exception that a name denotes, where it denotes one.
 pub(crate) fn exception_of(denoted: &Denoted) -> Option<ExceptionName>

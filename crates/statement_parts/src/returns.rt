@@ -14,8 +14,8 @@ use ada_phrases::{Decisions, Role, Step};
 use ada_syntax::Expr;
 use ada_tree::{Label, Statement, StatementKind};
 use cov_base::Failure;
+use program_walk::Site;
 use std::alloc::Global;
-use symbol_table::Site;
 
 /// `return;`, where the subprogram has no result.
 fn returned(label: Label, given: Option<Subtype>) -> Option<Statement>

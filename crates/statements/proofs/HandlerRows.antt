@@ -19,9 +19,9 @@ use Rattle.ada_entities.specs.declared.fault.Refusal.{Refusal}
 use Rattle.ada_entities.specs.Answers.{Refuses, refused_at, no_memory}
 use Rattle.ada_entities.specs.EntityViews.{Tables}
 use Rattle.ada_phrases.proofs.Parts.{passes_on, in_part, refused_as}
-use Rattle.type_trees.specs.Trees.{shapes_in_tree}
+use Rattle.ada_entities.specs.Trees.{shapes_in_tree}
 use Rattle.statement_parts.proofs.CaseLaws.{statements_in}
-use Rattle.symbol_table.specs.Changes.{Grows, UnlessMemory}
+use Rattle.program_walk.specs.Changes.{Grows, UnlessMemory}
 use Rattle.program_walk.specs.declared.context.Context.{Context}
 use Rattle.program_walk.specs.declared.walk.Walk.{Walk}
 use Rattle.program_walk.specs.States.{state_of}

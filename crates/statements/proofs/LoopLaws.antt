@@ -16,11 +16,11 @@ use Rattle.ada_entities.specs.Answers.{Refuses}
 use Rattle.ada_entities.specs.EntityViews.{Tables, region_of}
 use Rattle.ada_entities.specs.RegionCode.{innermost, enclosing}
 use Rattle.ada_phrases.proofs.Parts.{passes_on, in_part, refused_as}
-use Rattle.static_parts.specs.declared.place.Notes.{Notes}
-use Rattle.static_parts.specs.Places.{with_notes}
-use Rattle.symbol_table.specs.declared.symbols.Symbols.{Symbols}
-use Rattle.symbol_table.specs.SymbolViews as symbols
-use Rattle.symbol_table.specs.Changes.{Becomes, ChangesInside, Opens}
+use Rattle.program_walk.specs.declared.place.Notes.{Notes}
+use Rattle.program_walk.specs.Places.{with_notes}
+use Rattle.program_walk.specs.declared.symbols.Symbols.{Symbols}
+use Rattle.program_walk.specs.SymbolViews as symbols
+use Rattle.program_walk.specs.Changes.{Becomes, ChangesInside, Opens}
 use Rattle.program_walk.specs.declared.context.Context.{Context}
 use Rattle.program_walk.specs.declared.context.Level.TheVariants as level
 use Rattle.program_walk.specs.declared.walk.Walk.{Walk}

@@ -22,9 +22,9 @@ use Rattle.ada_entities.specs.Answers.{Refuses}
 use Rattle.ada_entities.specs.EntityViews.{Tables}
 use Rattle.ada_phrases.specs.Answers.{before}
 use Rattle.ada_phrases.proofs.Parts.{passes_on, in_part, refused_as}
-use Rattle.type_trees.specs.Trees.{shapes_in_tree}
+use Rattle.ada_entities.specs.Trees.{shapes_in_tree}
 use Rattle.statement_parts.proofs.Walks.{IsWalk, listed}
-use Rattle.statement_parts.proofs.CaseLaws.{statements_in}
+pub use Rattle.statement_parts.proofs.CaseLaws.{statements_in}
 use Rattle.ada_syntax.specs.declared.declaration.DiscreteRange.{DiscreteRange}
 use Rattle.ada_syntax.specs.declared.declaration.Declaration.{Declaration}
 use Rattle.ada_syntax.specs.declared.name.Identifier.{Identifier}

@@ -9,7 +9,7 @@ use Rattle.ada_entities.specs.EntityViews.{Tables}
 use Rattle.ada_phrases.specs.Answers.{before}
 use Rattle.ada_phrases.proofs.Parts.{refused_as}
 use Rattle.statement_parts.proofs.Walks.{IsWalk, none_before, item_passes, item_refused, items_end}
-use Rattle.symbol_table.specs.Changes.{Grows, UnlessMemory}
+use Rattle.program_walk.specs.Changes.{Grows, UnlessMemory}
 use Rattle.program_walk.specs.declared.context.Context.{Context}
 use Rattle.program_walk.specs.declared.walk.Walk.{Walk}
 use Rattle.program_walk.specs.States.{state_of}

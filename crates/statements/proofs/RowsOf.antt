@@ -15,7 +15,7 @@ use Rattle.ada_entities.specs.EntityViews.{Tables}
 use Rattle.statement_parts.specs.declared.selectors.Selector.{Selector}
 use Rattle.statement_parts.specs.Selectors.{selector_in}
 use Rattle.statement_parts.proofs.Walks.{IsWalk}
-use Rattle.symbol_table.specs.Changes.{Grows}
+use Rattle.program_walk.specs.Changes.{Grows}
 use Rattle.program_walk.specs.declared.context.Context.{Context}
 use Rattle.program_walk.specs.declared.walk.Walk.{Walk}
 use Rattle.program_walk.specs.States.{state_of}

@@ -9,9 +9,9 @@ use Rattle.ada_rules.specs.Expressions.{decision}
 use Rattle.ada_rules.specs.Statements.{where_allowed, typed_stmt}
 use Rattle.ada_entities.specs.Answers.{no_memory}
 use Rattle.ada_entities.specs.EntityViews.{Tables}
-use Rattle.symbol_table.specs.declared.symbols.Symbols.{Symbols}
-use Rattle.symbol_table.specs.Changes.{Grows}
-use Rattle.static_parts.specs.Places.{with_notes}
+use Rattle.program_walk.specs.declared.symbols.Symbols.{Symbols}
+use Rattle.program_walk.specs.Changes.{Grows}
+use Rattle.program_walk.specs.Places.{with_notes}
 use Rattle.program_walk.specs.declared.counts.Counts.{Counts}
 use Rattle.program_walk.specs.declared.walk.Walk.{Walk}
 use Rattle.program_walk.specs.Counting.{Starts}

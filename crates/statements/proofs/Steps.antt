@@ -13,14 +13,14 @@ use Rattle.ada_entities.specs.RegionCode.{enclosing}
 use Rattle.ada_entities.specs.declared.fault.Refusal.{Refusal}
 use Rattle.ada_entities.specs.Answers.{Refuses, no_memory, Answers}
 use Rattle.ada_entities.specs.EntityViews.{Tables}
-use Rattle.symbol_table.specs.declared.symbols.Symbols.{Symbols}
-use Rattle.symbol_table.specs.Changes.{Becomes, Grows, Closes, UnlessMemory}
+use Rattle.program_walk.specs.declared.symbols.Symbols.{Symbols}
+use Rattle.program_walk.specs.Changes.{Becomes, Grows, Closes, UnlessMemory}
 use Rattle.program_walk.specs.declared.counts.Counts.{Counts}
 use Rattle.program_walk.specs.declared.walk.Walk.{Walk}
 use Rattle.program_walk.specs.Counting.{IsLabel, Starts}
 use Rattle.program_walk.specs.States.{state_of}
 use Rattle.program_walk.specs.Walks.{Begins, Continues}
-use Rattle.declarations.specs.Going.{Stays}
+use Rattle.program_walk.specs.Going.{Stays}
 use Rattle.statement_parts.specs.Simple.{in_program}
 use Rattle.statements.specs.Made.{some_in_program, IsMade}
 use Rattle.statements.proofs.SimpleLaws.{behind_label}

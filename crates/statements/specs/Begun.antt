@@ -18,14 +18,14 @@ use Rattle.ada_entities.specs.EntityViews.{Tables, region_of}
 use Rattle.ada_entities.specs.RegionCode.{innermost}
 use Rattle.statement_parts.specs.declared.turns.Turns.{Turns}
 use Rattle.statement_parts.specs.Turns.{turns_in}
-use Rattle.symbol_table.specs.SymbolViews as symbols
-use Rattle.symbol_table.specs.SymbolViews.{IsKnown}
-use Rattle.symbol_table.specs.Changes.{Becomes}
+use Rattle.program_walk.specs.SymbolViews as symbols
+use Rattle.program_walk.specs.SymbolViews.{IsKnown}
+use Rattle.program_walk.specs.Changes.{Becomes}
 use Rattle.program_walk.specs.declared.context.Context.{Context}
 use Rattle.program_walk.specs.declared.walk.Walk.{Walk}
 use Rattle.program_walk.specs.States.{state_of}
 use Rattle.program_walk.specs.Walks.{Begins, StandsAt}
-use Rattle.declarations.specs.Going.{region_in, GoesInside}
+use Rattle.program_walk.specs.Going.{region_in, GoesInside}
 use Rattle.statements.specs.declared.loops.Begun.{Begun as CodeBegun}
 use Rattle.statements.specs.Loops.{Begun, begun_plan}
 

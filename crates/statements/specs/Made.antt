@@ -23,7 +23,7 @@ use Rattle.ada_rules.specs.Environment.{Env, State, Given}
 use Rattle.ada_rules.specs.Statements as rules
 use Rattle.ada_entities.specs.declared.fault.Refusal.{Refusal}
 use Rattle.ada_entities.specs.EntityViews.{Tables}
-use Rattle.type_trees.specs.Trees.{shapes_in_tree}
+use Rattle.ada_entities.specs.Trees.{shapes_in_tree}
 use Rattle.statement_parts.specs.Cases.{arms_in}
 use Rattle.statement_parts.specs.Simple.{in_program}
 use Rattle.statements.specs.declared.nested.Frame.{Frame}

@@ -18,3 +18,4 @@ pub use simple::{
     any_exit_at, any_raise_at, any_return_at, assignment_at, call_at, exit_at, exit_when_at,
     null_at, raise_again_at, raise_at, return_at, return_value_at,
 };
+pub use statement_parts::frame_returns;

@@ -3,20 +3,18 @@
 ghost use Rattle.std.specs.Prelude.{◌≡◌, IfOk, OnOk};
 ghost use Rattle.ada_rules.specs.Statements.{is_reverse};
 ghost use Rattle.ada_tree.specs.View.{is_reversed};
-ghost use Rattle.declarations.specs.Trees.{IsTreeOf};
-ghost use Rattle.symbol_table.specs.Changes.{UnlessMemory};
+ghost use Rattle.program_walk.specs.Trees.{IsTreeOf};
+ghost use Rattle.program_walk.specs.Changes.{UnlessMemory};
 ghost use Rattle.program_walk.specs.Walks.{Continues};
 ghost use Rattle.statements.specs.Begun.{SetsParameter, IsBegun, HasParameter, OpensLoop, IsScheme};
 
-use ada_entities::{Entity, Refusal, Subtype};
+use ada_entities::{Entity, Refusal, Subtype, subtype_in_tree};
 use ada_syntax::{Direction as Source, DiscreteRange, Identifier};
 use ada_tree::{Direction, ForScheme, Subtype as TreeSubtype};
 use cov_base::{Failure, Pos};
-use program_walk::{Context, Walk, Word};
+use program_walk::{Context, Symbols, Walk, Word};
 use statement_parts::{Turns, loop_parameter, turned};
 use std::alloc::{AllocError, Global};
-use symbol_table::Symbols;
-use type_trees::subtype_in_tree;
 
 /// The beginning of a for loop: the number of its parameter among the objects of the subprogram, and its
 /// values.

@@ -12,7 +12,7 @@ ghost use Rattle.statement_parts.specs.Handlers.{may_be_others};
 ghost use Rattle.statement_parts.specs.Cases.{arm_in};
 ghost use Rattle.statement_parts.specs.Selectors.{selector_in};
 ghost use Rattle.statement_parts.specs.Simple.{in_program};
-ghost use Rattle.symbol_table.specs.Changes.{Grows, UnlessMemory};
+ghost use Rattle.program_walk.specs.Changes.{Grows, UnlessMemory};
 ghost use Rattle.program_walk.specs.Walks.{ComesTo, Continues};
 ghost use Rattle.statements.specs.Nested.{branch_in};
 ghost use Rattle.statements.specs.Made.{some_in_program, all_in_program, branches_there, arms_there, handler_in, handlers_there, frame_there, IsMade, AddsStatement, IsBlockOf, conditional_of, loop_of, branch_at, arm_at, handler_at};

@@ -5,7 +5,7 @@ ghost use Rattle.ada_syntax.specs.StatementTree as text;
 ghost use Rattle.ada_tree.specs.View.{statement_at};
 ghost use Rattle.ada_entities.specs.EntityViews.{Tables};
 ghost use Rattle.ada_rules.specs.Statements as rules;
-ghost use Rattle.symbol_table.specs.Changes.{Grows, UnlessMemory};
+ghost use Rattle.program_walk.specs.Changes.{Grows, UnlessMemory};
 ghost use Rattle.statement_parts.specs.Simple.{in_tree, in_program};
 ghost use Rattle.statement_parts.specs.Returns.{returning_of as given_of};
 ghost use Rattle.program_walk.specs.Walks.{returning_of, ComesTo, Continues};

@@ -2,3 +2,5 @@ pub mod Orders
 pub mod Listing
 pub mod Valued
 pub mod Assembling
+pub mod EntryLaws
+pub mod TextLaws

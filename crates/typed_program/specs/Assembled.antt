@@ -12,7 +12,7 @@ use Rattle.ada_rules.specs.Statics.{Facts}
 use Rattle.ada_entities.specs.EntityViews.{Tables}
 use Rattle.ada_entities.specs.TypeTable.{tables}
 use Rattle.ada_library.specs.declared.library.Library.{Library}
-use Rattle.type_trees.specs.Trees.{shapes_in_tree, AreIn}
+use Rattle.ada_entities.specs.Trees.{shapes_in_tree, AreIn}
 use Rattle.program_walk.specs.declared.found.Found.{Found}
 use Rattle.program_walk.specs.declared.walk.Walk.{Walk}
 use Rattle.program_walk.specs.States.{state_of}

@@ -1,3 +1,5 @@
 pub mod Exceptions
 pub mod Instances
 pub mod Assembled
+pub mod Entries
+pub mod TypeTexts

@@ -2,11 +2,16 @@
 //!
 //! The contract that the layers above use: [`program_of`] is the program of the rules: its subprograms,
 //! objects and constants in the order of the text, its instances in the order of their places, each with
-//! the values of its generic's constants, and its exceptions as obligations list them.
+//! the values of its generic's constants, and its exceptions as obligations list them. [`entries`] is what
+//! the limits ask of the units, and [`type_texts`] the generics in whose texts composite types stand.
 #![tactic(auto)]
 
 mod exceptions;
 mod instances;
 mod program;
+mod texts;
+mod unit_entries;
 
-pub use program::program_of;
+pub use program::{discard_program, program_of};
+pub use texts::type_texts;
+pub use unit_entries::entries;

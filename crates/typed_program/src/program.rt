@@ -7,13 +7,12 @@ ghost use Rattle.typed_program.specs.Assembled.{assembled, HasTypes, IsProgramOf
 use crate::exceptions::ordered;
 use crate::instances::completed;
 use ada_demands::{Instances, Statics};
+use ada_entities::type_declarations;
 use ada_library::Library;
 use ada_tree::{GenericConstant, Program, TypeDeclaration, UnitEntry};
 use cov_base::Seq;
-use program_walk::{Found, Walk};
-use static_parts::Notes;
+use program_walk::{Found, Notes, Walk};
 use std::alloc::{AllocError, Global};
-use type_trees::type_declarations;
 
 /// What the typed program has beside what the walk has found.
 #[derive(Drop)]
@@ -89,4 +88,10 @@ pub fn program_of(
         units,
     };
     assembled(alloc, outline, instances, found)
+}
+
+/// Gives back the memory of a program, for who keeps it no longer. What it takes to drop a tree is proved
+/// anew in each crate that drops one, and this crate does it for those above.
+pub fn discard_program(program: Program) {
+    drop(program);
 }

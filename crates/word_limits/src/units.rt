@@ -19,9 +19,8 @@ use ada_entities::Interface;
 use ada_syntax::Unit;
 use ada_tree::Subtype;
 use cov_base::Pos;
-use program_walk::UnitWords;
+use program_walk::{Symbols, UnitWords};
 use std::alloc::{AllocError, Global};
-use symbol_table::Symbols;
 
 /// How many words objects of these subtypes take in an instance.
 fn sum_in(table: &WordTable<'_>, instance: u32, subtypes: &[Subtype]) -> Result<u32, AllocError>

@@ -6,13 +6,13 @@ use Rattle.ada_rules.specs.Declarations.{all_as, with_fields}
 use Rattle.declarations.specs.Fields.{fields_before}
 use Rattle.ada_entities.specs.EntityViews.{region_of}
 use Rattle.ada_entities.specs.RegionCode.{innermost}
-use Rattle.static_parts.specs.Subtypes.{subtype_in}
+use Rattle.program_walk.specs.Subtypes.{subtype_in}
 use Rattle.program_walk.specs.States.{kept_state, state_of}
 use Rattle.declarations.proofs.FieldLaws.{names_refused, subtype_refused, fields_pass}
-use Rattle.declarations.proofs.InsideLaws.{stays_open}
-use Rattle.declarations.proofs.HidingLaws as hiding
-use Rattle.declarations.proofs.HidingLaws.{symbols_stay, names_hidden, stands_behind, place_is}
-use Rattle.symbol_table.proofs.HideLaws.{then_inside}
+use Rattle.program_walk.proofs.InsideLaws.{stays_open}
+use Rattle.program_walk.proofs.HidingLaws as hiding
+use Rattle.program_walk.proofs.HidingLaws.{symbols_stay, names_hidden, stands_behind, place_is}
+use Rattle.program_walk.proofs.HideLaws.{then_inside}
 use Rattle.declarations.proofs.components.add_fields.Goals as goal
 
 pub returns-in_err-hide_all-clause-comes : goal.returns-in_err-hide_all-clause-comes

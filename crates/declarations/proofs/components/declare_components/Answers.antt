@@ -1,8 +1,8 @@
 use Rattle.std.proofs.Common.{refl, sym, ◌∙◌}
 use Rattle.ada_entities.specs.EntityViews.{region_of}
 use Rattle.ada_entities.specs.RegionCode.{innermost}
-use Rattle.symbol_table.proofs.HideLaws.{then_inside}
-use Rattle.declarations.proofs.InsideLaws.{grows_inside, grows_itself}
+use Rattle.program_walk.proofs.HideLaws.{then_inside}
+use Rattle.program_walk.proofs.InsideLaws.{grows_inside, grows_itself}
 use Rattle.declarations.proofs.FieldLaws.{turn_component, all_components}
 use Rattle.declarations.proofs.components.declare_components.Goals as goal
 

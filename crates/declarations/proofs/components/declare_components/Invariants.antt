@@ -4,7 +4,7 @@ use Rattle.ada_rules.specs.Entities.{component}
 use Rattle.ada_rules.specs.Declarations.{all_as}
 use Rattle.ada_entities.specs.EntityViews.{Tables, region_of}
 use Rattle.ada_entities.specs.RegionCode.{innermost}
-use Rattle.symbol_table.specs.Changes.{IsOpen, ChangesInside}
+use Rattle.program_walk.specs.Changes.{IsOpen, ChangesInside}
 use Rattle.declarations.proofs.components.declare_components.Given as goal
 
 abbrev pub invariant-loop-name : goal.invariant-loop-name

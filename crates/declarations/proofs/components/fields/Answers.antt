@@ -1,6 +1,6 @@
 use Rattle.std.proofs.lemmas.Result.{err_from_is_err_and}
-use Rattle.declarations.proofs.GoingLaws.{inside_continues, goes_nowhere, then_goes, stays_behind, refused_behind}
-use Rattle.declarations.proofs.InsideLaws.{stays_open}
+use Rattle.program_walk.proofs.GoingLaws.{inside_continues, goes_nowhere, then_goes, stays_behind, refused_behind}
+use Rattle.program_walk.proofs.InsideLaws.{stays_open}
 use Rattle.declarations.proofs.FieldWalks.{reaches_first, reaches_next, refuses_next, reaches_last}
 use Rattle.declarations.proofs.components.fields.Goals as goal
 

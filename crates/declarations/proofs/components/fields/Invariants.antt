@@ -3,7 +3,7 @@ use Rattle.std.proofs.Common.{drop}
 use Rattle.ada_rules.specs.Environment.{Env}
 use Rattle.ada_entities.specs.EntityViews.{Tables}
 use Rattle.program_walk.specs.Walks.{Begins, StandsAt}
-use Rattle.declarations.specs.Going.{GoesInside, IsWalkOpen}
+use Rattle.program_walk.specs.Going.{GoesInside, IsWalkOpen}
 use Rattle.declarations.proofs.FieldWalks.{Reaches}
 use Rattle.declarations.proofs.components.fields.Given as goal
 

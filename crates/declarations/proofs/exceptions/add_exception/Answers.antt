@@ -1,9 +1,9 @@
 use Rattle.std.proofs.Common.{refl, sym, ◌∙◌}
 use Rattle.ada_meaning.specs.Tree as tree
 use Rattle.ada_rules.specs.Entities.{key, raisable, redefined}
-use Rattle.declarations.specs.Going.{region_in}
-use Rattle.declarations.proofs.StateLaws.{exception_state}
-use Rattle.declarations.proofs.OwnerLaws.{owner_is}
+use Rattle.program_walk.specs.Going.{region_in}
+use Rattle.program_walk.proofs.StateLaws.{exception_state}
+use Rattle.program_walk.proofs.OwnerLaws.{owner_is}
 use Rattle.declarations.proofs.exceptions.add_exception.Goals as goal
 
 pub returns-clause-added : goal.returns-clause-added

@@ -1,8 +1,8 @@
 use Rattle.std.proofs.Common.{refl, ◌∙◌}
 use Rattle.program_walk.specs.States.{state_of}
-use Rattle.declarations.specs.Going.{region_in}
-use Rattle.declarations.proofs.GoingLaws.{goes_nowhere, then_goes}
-use Rattle.declarations.proofs.ObjectLaws.{turn_exception, all_exceptions}
+use Rattle.program_walk.specs.Going.{region_in}
+use Rattle.program_walk.proofs.GoingLaws.{goes_nowhere, then_goes}
+use Rattle.program_walk.proofs.ObjectLaws.{turn_exception, all_exceptions}
 use Rattle.declarations.proofs.exceptions.add_exceptions.Goals as goal
 
 pub loop-name-init : goal.loop-name-init

@@ -4,8 +4,8 @@ use Rattle.ada_rules.specs.Environment.{Env}
 use Rattle.ada_rules.specs.Declarations.{exceptions_from}
 use Rattle.ada_entities.specs.EntityViews.{Tables}
 use Rattle.program_walk.specs.States.{state_of}
-use Rattle.declarations.specs.Contexts.{IsIn}
-use Rattle.declarations.specs.Going.{region_in, GoesInside, IsWalkOpen}
+use Rattle.program_walk.specs.Contexts.{IsIn}
+use Rattle.program_walk.specs.Going.{region_in, GoesInside, IsWalkOpen}
 use Rattle.declarations.proofs.exceptions.add_exceptions.Given as goal
 
 abbrev pub invariant-loop-name : goal.invariant-loop-name

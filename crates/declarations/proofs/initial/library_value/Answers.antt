@@ -6,9 +6,9 @@ use Rattle.ada_rules.specs.Environment.{given}
 use Rattle.ada_rules.specs.Declarations.{value_place}
 use Rattle.ada_phrases.specs.Scopes.{step_of}
 use Rattle.ada_phrases.proofs.Parts.{answers_as}
-use Rattle.static_parts.specs.Places.{with_notes}
-use Rattle.static_parts.specs.Parts.{valued_of}
-use Rattle.static_parts.specs.Subtypes.{subtype_in}
+use Rattle.program_walk.specs.Places.{with_notes}
+use Rattle.program_walk.specs.Parts.{valued_of}
+use Rattle.program_walk.specs.Subtypes.{subtype_in}
 use Rattle.declarations.specs.Within.{StandsWithin}
 use Rattle.declarations.specs.Initials.{with_known, library_value_of}
 use Rattle.declarations.proofs.InitialLaws.{value_refused, value_passes}

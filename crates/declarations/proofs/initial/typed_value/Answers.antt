@@ -2,9 +2,9 @@ use Rattle.std.proofs.Common.{Ok, option_map, sym, ap, ◌∙◌}
 use Rattle.ada_tree.specs.Programs.{initial_of}
 use Rattle.ada_rules.specs.Environment.{given}
 use Rattle.ada_rules.specs.Declarations.{value_place}
-use Rattle.static_parts.specs.Parts.{valued_of}
-use Rattle.static_parts.specs.Subtypes.{subtype_in}
-use Rattle.static_parts.proofs.IndexLaws.{none_refused, some_passes}
+use Rattle.program_walk.specs.Parts.{valued_of}
+use Rattle.program_walk.specs.Subtypes.{subtype_in}
+use Rattle.program_walk.proofs.IndexLaws.{none_refused, some_passes}
 use Rattle.declarations.specs.Within.{initial_within}
 use Rattle.declarations.specs.Initials.{with_known}
 use Rattle.declarations.proofs.initial.typed_value.Goals as goal

@@ -1,6 +1,6 @@
 use Rattle.std.proofs.Common.{refl}
 use Rattle.ada_entities.specs.Views.{subtype_of}
-use Rattle.declarations.proofs.StateLaws.{type_state}
+use Rattle.program_walk.proofs.StateLaws.{type_state}
 use Rattle.declarations.proofs.kinds.count_type.Goals as goal
 
 pub returns : goal.returns

@@ -4,10 +4,10 @@ use Rattle.ada_entities.specs.EntityViews.{region_of}
 use Rattle.ada_entities.specs.RegionCode.{innermost}
 use Rattle.program_walk.specs.declared.walk.Walk.{Walk}
 use Rattle.program_walk.specs.States.{state_of}
-use Rattle.declarations.proofs.GoingLaws.{is_in, then_goes}
-use Rattle.declarations.proofs.InsideLaws.{stays_open}
-use Rattle.declarations.proofs.HidingLaws as hiding
-use Rattle.declarations.proofs.HidingLaws.{symbols_stay, names_hidden}
+use Rattle.program_walk.proofs.GoingLaws.{is_in, then_goes}
+use Rattle.program_walk.proofs.InsideLaws.{stays_open}
+use Rattle.program_walk.proofs.HidingLaws as hiding
+use Rattle.program_walk.proofs.HidingLaws.{symbols_stay, names_hidden}
 use Rattle.declarations.proofs.KindLaws.{exceptions_refused, exceptions_pass}
 use Rattle.declarations.proofs.kinds.exceptions_declared.Goals as goal
 

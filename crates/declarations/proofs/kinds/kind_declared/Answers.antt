@@ -2,7 +2,7 @@ use Rattle.std.proofs.Common.{[], Ok, refl, sym, ap, ◌∙◌}
 use Rattle.program_walk.specs.States.{state_of}
 use Rattle.declarations.specs.Locals.{made_of}
 use Rattle.declarations.specs.Values.{declared_in}
-use Rattle.declarations.proofs.GoingLaws.{goes_nowhere, region_is}
+use Rattle.program_walk.proofs.GoingLaws.{goes_nowhere, region_is}
 use Rattle.declarations.proofs.KindLaws.{answers_behind, made_alone}
 use Rattle.declarations.proofs.kinds.kind_declared.Goals as goal
 

@@ -4,16 +4,16 @@ use Rattle.ada_rules.specs.Environment.{given}
 use Rattle.ada_entities.specs.EntityViews.{region_of}
 use Rattle.ada_entities.specs.RegionCode.{innermost}
 use Rattle.ada_phrases.proofs.Parts.{answers_as}
-use Rattle.static_parts.specs.Subtypes.{subtype_in}
+use Rattle.program_walk.specs.Subtypes.{subtype_in}
 use Rattle.program_walk.specs.declared.walk.Walk.{Walk}
 use Rattle.program_walk.specs.States.{kept_state, state_of}
 use Rattle.declarations.specs.Locals.{made_of}
 use Rattle.declarations.specs.Made.{behind}
 use Rattle.declarations.specs.Values.{declared_in}
-use Rattle.declarations.proofs.GoingLaws.{stands_then, answers_behind_change, then_goes_on}
-use Rattle.declarations.proofs.InsideLaws.{stays_open}
-use Rattle.declarations.proofs.HidingLaws as hiding
-use Rattle.declarations.proofs.HidingLaws.{symbols_stay, names_hidden}
+use Rattle.program_walk.proofs.GoingLaws.{stands_then, answers_behind_change, then_goes_on}
+use Rattle.program_walk.proofs.InsideLaws.{stays_open}
+use Rattle.program_walk.proofs.HidingLaws as hiding
+use Rattle.program_walk.proofs.HidingLaws.{symbols_stay, names_hidden}
 use Rattle.declarations.proofs.KindLaws.{behind_refused, names_refused, indication_refused, objects_pass}
 use Rattle.declarations.proofs.kinds.objects_declared.Goals as goal
 

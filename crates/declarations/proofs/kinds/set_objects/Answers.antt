@@ -4,7 +4,7 @@ use Rattle.ada_entities.specs.Views.{subtype_of}
 use Rattle.ada_phrases.proofs.Parts.{answers_as}
 use Rattle.program_walk.specs.States.{state_of}
 use Rattle.program_walk.specs.Walks.{is_library}
-use Rattle.declarations.specs.Going.{region_in}
+use Rattle.program_walk.specs.Going.{region_in}
 use Rattle.declarations.specs.Locals.{made_of}
 use Rattle.declarations.specs.Made.{behind}
 use Rattle.declarations.specs.Values.{declared_in}

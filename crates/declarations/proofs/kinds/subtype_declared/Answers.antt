@@ -4,15 +4,15 @@ use Rattle.ada_rules.specs.Environment.{given, beginning_state}
 use Rattle.ada_entities.specs.EntityViews.{region_of}
 use Rattle.ada_entities.specs.RegionCode.{innermost}
 use Rattle.ada_entities.specs.Views.{identity_of}
-use Rattle.static_parts.specs.Places.{with_notes}
-use Rattle.static_parts.specs.Subtypes.{subtype_in}
-use Rattle.symbol_table.proofs.HideLaws.{then_inside}
+use Rattle.program_walk.specs.Places.{with_notes}
+use Rattle.program_walk.specs.Subtypes.{subtype_in}
+use Rattle.program_walk.proofs.HideLaws.{then_inside}
 use Rattle.program_walk.specs.declared.walk.Walk.{Walk}
 use Rattle.program_walk.specs.Walks.{Begins}
 use Rattle.program_walk.specs.States.{with_found, kept_state, state_of}
-use Rattle.declarations.proofs.GoingLaws.{is_in, stands_then}
-use Rattle.declarations.proofs.HidingLaws as hiding
-use Rattle.declarations.proofs.HidingLaws.{symbols_stay, name_hidden}
+use Rattle.program_walk.proofs.GoingLaws.{is_in, stands_then}
+use Rattle.program_walk.proofs.HidingLaws as hiding
+use Rattle.program_walk.proofs.HidingLaws.{symbols_stay, name_hidden}
 use Rattle.declarations.proofs.KindLaws.{subtype_name_refused, mark_refused, subtype_passes}
 use Rattle.declarations.proofs.kinds.subtype_declared.Goals as goal
 

@@ -4,15 +4,15 @@ use Rattle.ada_rules.specs.Environment.{given, beginning_state}
 use Rattle.ada_entities.specs.EntityViews.{region_of}
 use Rattle.ada_entities.specs.RegionCode.{innermost}
 use Rattle.ada_entities.specs.Views.{identity_of}
-use Rattle.static_parts.specs.Places.{with_notes}
+use Rattle.program_walk.specs.Places.{with_notes}
 use Rattle.program_walk.specs.declared.walk.Walk.{Walk}
 use Rattle.program_walk.specs.Walks.{Begins}
 use Rattle.program_walk.specs.States.{with_found, state_of}
 use Rattle.declarations.specs.Types.{defined_in}
-use Rattle.declarations.proofs.GoingLaws.{is_in, stands_then, inside_continues, refused_behind, stays_behind, then_goes}
-use Rattle.declarations.proofs.InsideLaws.{stays_open}
-use Rattle.declarations.proofs.HidingLaws as hiding
-use Rattle.declarations.proofs.HidingLaws.{symbols_stay, name_hidden}
+use Rattle.program_walk.proofs.GoingLaws.{is_in, stands_then, inside_continues, refused_behind, stays_behind, then_goes}
+use Rattle.program_walk.proofs.InsideLaws.{stays_open}
+use Rattle.program_walk.proofs.HidingLaws as hiding
+use Rattle.program_walk.proofs.HidingLaws.{symbols_stay, name_hidden}
 use Rattle.declarations.proofs.KindLaws.{name_refused, definition_refused, type_passes}
 use Rattle.declarations.proofs.kinds.type_declared.Goals as goal
 

@@ -1,10 +1,10 @@
 use Rattle.std.proofs.Common.{refl, ap, ◌∙◌}
 use Rattle.ada_meaning.specs.Tree as tree
 use Rattle.ada_rules.specs.Entities.{key, redefined}
-use Rattle.declarations.specs.Going.{region_in}
+use Rattle.program_walk.specs.Going.{region_in}
 use Rattle.declarations.specs.Locals.{subtype_in_form, entity_in_form}
-use Rattle.declarations.proofs.StateLaws.{object_state}
-use Rattle.declarations.proofs.OwnerLaws.{owner_is}
+use Rattle.program_walk.proofs.StateLaws.{object_state}
+use Rattle.program_walk.proofs.OwnerLaws.{owner_is}
 use Rattle.declarations.proofs.library.add_object.Goals as goal
 
 pub returns-clause-added : goal.returns-clause-added

@@ -2,8 +2,8 @@
 use Rattle.std.proofs.Common.{◌≡◌, drop}
 use Rattle.ada_rules.specs.Environment.{Env}
 use Rattle.ada_entities.specs.EntityViews.{Tables}
-use Rattle.declarations.specs.Contexts.{IsIn}
-use Rattle.declarations.specs.Going.{GoesInside, IsWalkOpen}
+use Rattle.program_walk.specs.Contexts.{IsIn}
+use Rattle.program_walk.specs.Going.{GoesInside, IsWalkOpen}
 use Rattle.declarations.specs.Locals.{HasTree}
 use Rattle.declarations.specs.Library.{objects_behind, objects_counted}
 use Rattle.declarations.proofs.library.add_objects.Given as goal

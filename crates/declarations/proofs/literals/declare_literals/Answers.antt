@@ -3,9 +3,9 @@ use Rattle.ada_rules.specs.Entities.{key, redefined}
 use Rattle.ada_entities.specs.Views.{type_of}
 use Rattle.ada_entities.specs.EntityViews.{region_of}
 use Rattle.ada_entities.specs.RegionCode.{innermost}
-use Rattle.symbol_table.proofs.HideLaws.{then_inside}
+use Rattle.program_walk.proofs.HideLaws.{then_inside}
 use Rattle.declarations.proofs.LiteralLaws.{turn_literal, all_literals}
-use Rattle.declarations.proofs.InsideLaws.{grows_inside, grows_itself}
+use Rattle.program_walk.proofs.InsideLaws.{grows_inside, grows_itself}
 use Rattle.declarations.proofs.literals.declare_literals.Goals as goal
 
 pub loop-place-init : goal.loop-place-init

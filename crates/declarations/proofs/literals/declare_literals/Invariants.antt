@@ -4,7 +4,7 @@ use Rattle.ada_rules.specs.Declarations.{literals}
 use Rattle.ada_entities.specs.Views.{type_of}
 use Rattle.ada_entities.specs.EntityViews.{Tables, region_of}
 use Rattle.ada_entities.specs.RegionCode.{innermost}
-use Rattle.symbol_table.specs.Changes.{IsOpen, ChangesInside}
+use Rattle.program_walk.specs.Changes.{IsOpen, ChangesInside}
 use Rattle.declarations.proofs.literals.declare_literals.Given as goal
 
 abbrev pub invariant-loop-place : goal.invariant-loop-place

@@ -1,10 +1,10 @@
 use Rattle.std.proofs.Common.{option_map, refl, sym, ◌∙◌}
 use Rattle.ada_entities.specs.EntityViews.{constant_of}
 use Rattle.program_walk.specs.States.{state_of}
-use Rattle.declarations.specs.Going.{region_in}
+use Rattle.program_walk.specs.Going.{region_in}
 use Rattle.declarations.specs.Locals.{subtype_in_form}
-use Rattle.declarations.proofs.GoingLaws.{goes_nowhere, then_goes}
-use Rattle.declarations.proofs.ObjectLaws.{turn_local, turn_counted, all_locals, all_counted}
+use Rattle.program_walk.proofs.GoingLaws.{goes_nowhere, then_goes}
+use Rattle.program_walk.proofs.ObjectLaws.{turn_local, turn_counted, all_locals, all_counted}
 use Rattle.declarations.proofs.locals.add_locals.Goals as goal
 
 pub loop-name-init : goal.loop-name-init

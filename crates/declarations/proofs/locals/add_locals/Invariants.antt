@@ -1,7 +1,7 @@
 -- What is left of the names, behind what was declared, is all of them behind what there was.
 use Rattle.std.proofs.Common.{◌≡◌, drop}
 use Rattle.ada_entities.specs.EntityViews.{Tables}
-use Rattle.declarations.specs.Going.{GoesInside, IsWalkOpen}
+use Rattle.program_walk.specs.Going.{GoesInside, IsWalkOpen}
 use Rattle.declarations.specs.Locals.{HasTree, locals_behind, locals_counted}
 use Rattle.declarations.proofs.locals.add_locals.Given as goal
 

@@ -1,6 +1,6 @@
 use Rattle.std.proofs.Common.{sym, ◌∙◌}
 use Rattle.ada_rules.specs.Types.{declared_in}
-use Rattle.declarations.proofs.OwnerLaws.{owner_is}
+use Rattle.program_walk.proofs.OwnerLaws.{owner_is}
 use Rattle.declarations.proofs.owners.new_identity.Goals as goal
 
 pub returns-clause-identity : goal.returns-clause-identity

@@ -4,10 +4,10 @@ use Rattle.ada_rules.specs.Environment.{given}
 use Rattle.ada_entities.specs.EntityViews.{region_of}
 use Rattle.ada_entities.specs.RegionCode.{innermost}
 use Rattle.ada_entities.specs.Views.{identity_of}
-use Rattle.static_parts.specs.Subtypes.{subtype_in}
+use Rattle.program_walk.specs.Subtypes.{subtype_in}
 use Rattle.program_walk.specs.States.{kept_state, state_of}
-use Rattle.declarations.proofs.GoingLaws.{region_is}
-use Rattle.declarations.proofs.HidingLaws.{symbols_stay}
+use Rattle.program_walk.proofs.GoingLaws.{region_is}
+use Rattle.program_walk.proofs.HidingLaws.{symbols_stay}
 use Rattle.declarations.proofs.TypeLaws.{index_refused, component_refused, array_passes}
 use Rattle.declarations.proofs.types.array_type.Goals as goal
 

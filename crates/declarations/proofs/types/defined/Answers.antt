@@ -5,8 +5,8 @@ use Rattle.ada_phrases.proofs.Parts.{answers_as}
 use Rattle.ada_rules.specs.Environment.{given}
 use Rattle.program_walk.specs.States.{state_of}
 use Rattle.declarations.specs.Types.{defined_with, enumerating}
-use Rattle.declarations.proofs.GoingLaws.{region_is, keeps_goes}
-use Rattle.declarations.proofs.HidingLaws.{goes_as_symbols}
+use Rattle.program_walk.proofs.GoingLaws.{region_is, keeps_goes}
+use Rattle.declarations.proofs.SymbolLaws.{goes_as_symbols}
 use Rattle.declarations.proofs.TypeLaws.{with_state, enumeration_is, answers_given}
 use Rattle.declarations.proofs.types.defined.Goals as goal
 

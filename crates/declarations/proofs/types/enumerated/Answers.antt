@@ -9,9 +9,9 @@ use Rattle.ada_entities.specs.EntityViews.{region_of}
 use Rattle.ada_entities.specs.RegionCode.{innermost}
 use Rattle.ada_entities.specs.Views.{identity_of}
 use Rattle.ada_phrases.proofs.Parts.{in_part, passes_on}
-use Rattle.symbol_table.proofs.HideLaws.{then_inside}
-use Rattle.declarations.proofs.InsideLaws.{stays_open}
-use Rattle.declarations.proofs.HidingLaws.{symbols_kept}
+use Rattle.program_walk.proofs.HideLaws.{then_inside}
+use Rattle.program_walk.proofs.InsideLaws.{stays_open}
+use Rattle.declarations.proofs.SymbolLaws.{symbols_kept}
 use Rattle.declarations.proofs.types.enumerated.Goals as goal
 
 pub returns-in_err-hide_all-clause-comes : goal.returns-in_err-hide_all-clause-comes

@@ -3,11 +3,11 @@ use Rattle.std.proofs.lemmas.Result.{err_from_is_err_and}
 use Rattle.ada_rules.specs.Types.{integer_type as Integer, of_type, range_in}
 use Rattle.ada_rules.specs.Environment.{given}
 use Rattle.ada_entities.specs.Views.{identity_of}
-use Rattle.static_parts.specs.Subtypes.{range_of}
+use Rattle.program_walk.specs.Subtypes.{range_of}
 use Rattle.program_walk.specs.States.{kept_state, state_of}
-use Rattle.declarations.proofs.GoingLaws.{region_is}
-use Rattle.declarations.proofs.InsideLaws.{grows_itself}
-use Rattle.declarations.proofs.HidingLaws.{symbols_stay}
+use Rattle.program_walk.proofs.GoingLaws.{region_is}
+use Rattle.program_walk.proofs.InsideLaws.{grows_itself}
+use Rattle.program_walk.proofs.HidingLaws.{symbols_stay}
 use Rattle.declarations.proofs.TypeLaws.{integer_refused, integer_passes}
 use Rattle.declarations.proofs.types.integer_type.Goals as goal
 

@@ -10,9 +10,9 @@ use Rattle.program_walk.specs.Walks.{Begins}
 use Rattle.program_walk.specs.States.{state_of}
 use Rattle.program_walk.proofs.Following.{opened_inside}
 use Rattle.declarations.specs.Components.{fields_in}
-use Rattle.declarations.proofs.GoingLaws.{region_is, inside_continues, refused_behind, stays_behind}
-use Rattle.declarations.proofs.InsideLaws.{region_gone}
-use Rattle.declarations.proofs.HidingLaws.{with_symbols}
+use Rattle.program_walk.proofs.GoingLaws.{region_is, inside_continues, refused_behind, stays_behind}
+use Rattle.program_walk.proofs.InsideLaws.{region_gone}
+use Rattle.program_walk.proofs.HidingLaws.{with_symbols}
 use Rattle.declarations.proofs.TypeLaws.{fields_refused, record_passes}
 use Rattle.declarations.proofs.types.record_type.Goals as goal
 

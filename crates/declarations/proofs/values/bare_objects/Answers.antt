@@ -7,11 +7,11 @@ use Rattle.ada_phrases.specs.Scopes.{step_of}
 use Rattle.ada_phrases.proofs.Parts.{refused_as}
 use Rattle.program_walk.specs.States.{state_of}
 use Rattle.program_walk.specs.Walks.{is_library}
-use Rattle.declarations.specs.Going.{region_in}
+use Rattle.program_walk.specs.Going.{region_in}
 use Rattle.declarations.specs.Locals.{made_of}
 use Rattle.declarations.specs.Made.{behind, behind_made}
-use Rattle.declarations.proofs.HidingLaws.{stays_there}
-use Rattle.declarations.proofs.GoingLaws.{is_in, is_in_local}
+use Rattle.program_walk.proofs.HidingLaws.{stays_there}
+use Rattle.program_walk.proofs.GoingLaws.{is_in, is_in_local}
 use Rattle.declarations.proofs.KindLaws.{behind_refused, made_alone}
 use Rattle.declarations.proofs.ValueLaws.{at_level, broken_at, bare_at_library, bare_inside}
 use Rattle.declarations.proofs.values.bare_objects.Goals as goal

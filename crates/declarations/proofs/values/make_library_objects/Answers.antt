@@ -3,7 +3,7 @@ use Rattle.ada_entities.specs.EntityViews.{constant_of}
 use Rattle.ada_entities.specs.Views.{subtype_of}
 use Rattle.ada_phrases.specs.Answers.{counted}
 use Rattle.program_walk.specs.States.{kept_state, state_of}
-use Rattle.declarations.specs.Going.{region_in}
+use Rattle.program_walk.specs.Going.{region_in}
 use Rattle.declarations.specs.Initials.{library_value_of}
 use Rattle.declarations.proofs.ValueLaws.{declared_known}
 use Rattle.declarations.proofs.values.make_library_objects.Goals as goal

@@ -5,9 +5,9 @@ use Rattle.ada_entities.specs.EntityViews.{constant_of}
 use Rattle.ada_entities.specs.Views.{subtype_of}
 use Rattle.ada_phrases.specs.Answers.{counted}
 use Rattle.object_values.specs.NewValues.{new_value_of}
-use Rattle.static_parts.specs.Places.{with_notes}
+use Rattle.program_walk.specs.Places.{with_notes}
 use Rattle.program_walk.specs.States.{with_found, kept_state, state_of}
-use Rattle.declarations.specs.Going.{region_in}
+use Rattle.program_walk.specs.Going.{region_in}
 use Rattle.declarations.specs.Made.{behind_made}
 use Rattle.declarations.specs.Locals.{made_of}
 use Rattle.declarations.proofs.ValueLaws.{set_known}

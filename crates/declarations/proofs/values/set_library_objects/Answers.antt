@@ -6,10 +6,10 @@ use Rattle.ada_entities.specs.Views.{subtype_of}
 use Rattle.ada_phrases.specs.Scopes.{step_of}
 use Rattle.ada_phrases.proofs.Parts.{refused_as}
 use Rattle.program_walk.specs.States.{kept_state, state_of}
-use Rattle.declarations.specs.Going.{region_in}
+use Rattle.program_walk.specs.Going.{region_in}
 use Rattle.declarations.specs.Initials.{library_value_of}
-use Rattle.declarations.proofs.GoingLaws.{is_in, is_in_local, goes_noted}
-use Rattle.declarations.proofs.HidingLaws.{symbols_stay}
+use Rattle.program_walk.proofs.GoingLaws.{is_in, is_in_local, goes_noted}
+use Rattle.program_walk.proofs.HidingLaws.{symbols_stay}
 use Rattle.declarations.proofs.ValueLaws.{library_refused, library_passes}
 use Rattle.declarations.proofs.values.set_library_objects.Goals as goal
 

@@ -5,7 +5,7 @@ use Rattle.ada_rules.specs.Expressions.{Valued}
 use Rattle.ada_rules.specs.Declarations.{innermost, initial_for}
 use Rattle.ada_entities.specs.Views.{subtype_of}
 use Rattle.ada_entities.specs.EntityViews.{Tables}
-use Rattle.symbol_table.specs.SymbolViews.{Begins, IsKnown}
+use Rattle.program_walk.specs.SymbolViews.{Begins, IsKnown}
 use Rattle.declarations.proofs.within.component_within.Given as goal
 
 abbrev pub invariant-loop : goal.invariant-loop

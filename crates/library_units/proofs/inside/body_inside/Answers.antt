@@ -13,15 +13,15 @@ use Rattle.program_walk.specs.States.{types_in, state_of}
 use Rattle.program_walk.specs.Walks.{Begins}
 use Rattle.declarations.specs.Locals.{made_of}
 use Rattle.declarations.specs.Values.{declared_in}
-use Rattle.declarations.proofs.GoingLaws.{stands_then, stays_behind, inside_continues, refused_behind}
-use Rattle.declarations.proofs.HidingLaws.{stays_there}
-use Rattle.declarations.proofs.InsideLaws.{stays_open}
+use Rattle.program_walk.proofs.GoingLaws.{stands_then, stays_behind, inside_continues, refused_behind}
+use Rattle.program_walk.proofs.HidingLaws.{stays_there}
+use Rattle.program_walk.proofs.InsideLaws.{stays_open}
 use Rattle.statements.specs.Made.{frame_there}
 use Rattle.statements.specs.declared.nested.Frame.{Frame}
 use Rattle.library_units.specs.Inside.{ending}
 use Rattle.library_units.proofs.GoingLaws.{inside_advances, then_advances, grows_advances, memory_stays}
 use Rattle.library_units.proofs.InsideLaws.{declarations_refused, statements_refused, statements_pass, block_is}
-use Rattle.library_units.proofs.RecordingLaws.{body_is_made}
+use Rattle.unit_walk.proofs.RecordingLaws.{body_is_made}
 use Rattle.library_units.proofs.inside.body_inside.Goals as goal
 
 pub returns-in_err-made-clause-comes : goal.returns-in_err-made-clause-comes

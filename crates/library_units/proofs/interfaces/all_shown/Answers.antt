@@ -4,7 +4,7 @@ use Rattle.ada_rules.specs.Units.{Walked}
 use Rattle.ada_entities.proofs.LookupLaws.{copied_get}
 use Rattle.ada_phrases.specs.Scopes.{step_of}
 use Rattle.program_walk.specs.States.{state_of}
-use Rattle.declarations.proofs.GoingLaws.{stays_behind, refused_behind}
+use Rattle.program_walk.proofs.GoingLaws.{stays_behind, refused_behind}
 use Rattle.library_units.proofs.InterfaceLaws.{goes_nowhere, then_behind, still_idle, reached_first, reached_next, reached_none, reached_refused, reached_last, in_order, refused_in_order, unit_there}
 use Rattle.library_units.proofs.interfaces.all_shown.Goals as goal
 use Rattle.library_units.proofs.interfaces.all_shown.Goals.{in-Some+in_ok-unit_shown, in_default}

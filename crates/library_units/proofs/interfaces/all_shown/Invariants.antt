@@ -7,9 +7,9 @@ use Rattle.ada_entities.specs.EntityViews.{Tables}
 use Rattle.ada_phrases.specs.Scopes.{step_of}
 use Rattle.program_walk.specs.States.{state_of}
 use Rattle.program_walk.specs.Walks.{Begins}
-use Rattle.library_units.specs.Standing.{StandsBefore}
-use Rattle.library_units.specs.Interfaces.{IsIdle}
-use Rattle.library_units.specs.Walked.{GoesBehind}
+use Rattle.unit_walk.specs.Standing.{StandsBefore}
+use Rattle.unit_walk.specs.Interfaces.{IsIdle}
+use Rattle.unit_walk.specs.Walked.{GoesBehind}
 use Rattle.library_units.proofs.InterfaceLaws.{Reached}
 use Rattle.library_units.proofs.interfaces.all_shown.Given as goal
 

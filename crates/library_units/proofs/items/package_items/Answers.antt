@@ -1,8 +1,8 @@
 use Rattle.std.proofs.Common.{refl}
 use Rattle.std.proofs.lemmas.Result.{err_from_is_err_and}
 use Rattle.ada_rules.specs.Units.{package_item, package_items}
-use Rattle.declarations.proofs.GoingLaws.{inside_continues, goes_nowhere, then_goes, stays_behind, refused_behind}
-use Rattle.declarations.proofs.InsideLaws.{stays_open}
+use Rattle.program_walk.proofs.GoingLaws.{inside_continues, goes_nowhere, then_goes, stays_behind, refused_behind}
+use Rattle.program_walk.proofs.InsideLaws.{stays_open}
 use Rattle.library_units.proofs.GoingLaws.{inside_advances}
 use Rattle.library_units.proofs.ItemLaws.{reaches_first, reaches_next, refuses_next, reaches_last}
 use Rattle.library_units.proofs.items.package_items.Goals as goal

@@ -4,8 +4,8 @@ use Rattle.ada_rules.specs.Environment.{Env}
 use Rattle.ada_rules.specs.Units.{package_items}
 use Rattle.ada_entities.specs.EntityViews.{Tables}
 use Rattle.program_walk.specs.Walks.{Begins, StandsAt}
-use Rattle.declarations.specs.Going.{IsWalkOpen}
-use Rattle.declarations.specs.Going.{GoesInside}
+use Rattle.program_walk.specs.Going.{IsWalkOpen}
+use Rattle.program_walk.specs.Going.{GoesInside}
 use Rattle.library_units.proofs.ItemLaws.{Reaches}
 use Rattle.library_units.proofs.items.package_items.Given as goal
 

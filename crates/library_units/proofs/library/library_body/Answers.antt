@@ -8,16 +8,16 @@ use Rattle.program_walk.specs.declared.context.Level.TheVariants as level
 use Rattle.program_walk.specs.States.{state_of}
 use Rattle.program_walk.specs.Walks.{Begins, StandsAt}
 use Rattle.program_walk.proofs.Following.{grown, reopened_inside}
-use Rattle.declarations.specs.Going.{region_in}
-use Rattle.declarations.proofs.GoingLaws.{stays_behind, refused_behind}
-use Rattle.declarations.proofs.InsideLaws.{grows_itself}
+use Rattle.program_walk.specs.Going.{region_in}
+use Rattle.program_walk.proofs.GoingLaws.{stays_behind, refused_behind}
+use Rattle.program_walk.proofs.InsideLaws.{grows_itself}
 use Rattle.ada_entities.specs.RegionCode.{innermost}
 use Rattle.specifications.specs.Profiles.{profile_of}
-use Rattle.library_units.proofs.AloneLaws.{emptied_walk, emptied_continues, enters_continues, restored}
-use Rattle.library_units.specs.Contexts.{IsBodyContext}
-use Rattle.library_units.proofs.ContextLaws.{in_subprogram, stands_in_body}
+use Rattle.specifications.proofs.AloneLaws.{emptied_walk, emptied_continues, enters_continues, restored}
+use Rattle.specifications.specs.Contexts.{IsBodyContext}
+use Rattle.specifications.proofs.ContextLaws.{in_subprogram, stands_in_body}
 use Rattle.library_units.proofs.GoingLaws.{region_left, into_open}
-use Rattle.library_units.proofs.HeadLaws.{specified_alike}
+use Rattle.specifications.proofs.HeadLaws.{specified_alike}
 use Rattle.library_units.proofs.LibraryLaws.{profile_refused, body_refused, body_passes, bare, opens_into}
 use Rattle.library_units.proofs.library.library_body.Goals as goal
 

@@ -8,13 +8,13 @@ use Rattle.ada_entities.specs.RegionCode.{innermost, enclosing}
 use Rattle.program_walk.specs.States.{state_of}
 use Rattle.program_walk.specs.Walks.{Begins}
 use Rattle.program_walk.proofs.Following.{grown}
-use Rattle.declarations.proofs.GoingLaws.{stays_behind, refused_behind}
-use Rattle.declarations.proofs.InsideLaws.{grows_itself}
-use Rattle.library_units.proofs.AloneLaws.{emptied_walk, emptied_continues, restored}
-use Rattle.library_units.specs.Contexts.{IsBodyContext}
-use Rattle.library_units.specs.Going.{IsSound}
+use Rattle.program_walk.proofs.GoingLaws.{stays_behind, refused_behind}
+use Rattle.program_walk.proofs.InsideLaws.{grows_itself}
+use Rattle.specifications.proofs.AloneLaws.{emptied_walk, emptied_continues, restored}
+use Rattle.specifications.specs.Contexts.{IsBodyContext}
+use Rattle.specifications.specs.Going.{IsSound}
 use Rattle.library_units.proofs.GoingLaws.{region_left, into_open}
-use Rattle.library_units.proofs.HeadLaws.{body_refused, body_passes}
+use Rattle.specifications.proofs.HeadLaws.{body_refused, body_passes}
 use Rattle.library_units.proofs.packaged.packaged_body.Goals as goal
 
 pub returns-in_err-head-clause-comes : goal.returns-in_err-head-clause-comes

@@ -1,4 +1,4 @@
-use Rattle.library_units.proofs.BetweenLaws.{reopened_innermost}
+use Rattle.unit_walk.proofs.BetweenLaws.{reopened_innermost}
 use Rattle.library_units.proofs.shown_packages.innermost_copied.Goals as goal
 
 pub returns-clause-kept : goal.returns-clause-kept

@@ -3,10 +3,10 @@ use Rattle.std.proofs.lemmas.Result.{err_from_is_err_and}
 use Rattle.ada_demands.specs.SpanViews.{listed}
 use Rattle.program_walk.specs.declared.walk.Walk.{Walk}
 use Rattle.program_walk.specs.Walks.{Begins}
-use Rattle.declarations.specs.Going.{region_in}
+use Rattle.program_walk.specs.Going.{region_in}
 use Rattle.ada_entities.specs.EntityViews.{region_of}
-use Rattle.library_units.specs.Walked.{env_at}
-use Rattle.library_units.proofs.BetweenLaws.{is_entered, entered_open, entered_stays, kept_open, items_stay, text_left, shown_behind, goes_behind, text_known, goes_stay}
+use Rattle.unit_walk.specs.Walked.{env_at}
+use Rattle.unit_walk.proofs.BetweenLaws.{is_entered, entered_open, entered_stays, kept_open, items_stay, text_left, shown_behind, goes_behind, text_known, goes_stay}
 use Rattle.library_units.proofs.PackageLaws.{refused_at_formals, refused_at_items, refused_at_end, passes_end, package_walked, seen_as, passes_in}
 use Rattle.library_units.proofs.shown_packages.package_shown.Goals as goal
 

@@ -4,7 +4,7 @@ use Rattle.ada_rules.specs.Units.{all_bodies_judged}
 use Rattle.ada_entities.specs.Answers.{Refuses}
 use Rattle.ada_phrases.specs.Scopes.{step_of}
 use Rattle.program_walk.specs.States.{state_of}
-use Rattle.declarations.proofs.GoingLaws.{refused_behind}
+use Rattle.program_walk.proofs.GoingLaws.{refused_behind}
 use Rattle.library_units.proofs.UnitBodyLaws.{goes_nowhere, then_bodies, then_stays, still_idle, stands_still, all_passed, turn_refused, turn_passes}
 use Rattle.library_units.proofs.unit_bodies.all_bodies.Goals as goal
 

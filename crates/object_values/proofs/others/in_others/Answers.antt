@@ -3,7 +3,7 @@ use Rattle.object_values.specs.declared.single.Single.TheVariants as single
 use Rattle.object_values.specs.Values.{single_of, single_in, in_indices}
 use Rattle.object_values.proofs.ValueLaws.{unfolded_by}
 use Rattle.object_values.proofs.others.in_others.Goals as goal
-use Rattle.type_trees.specs.Trees.{shapes_in_tree}
+use Rattle.ada_entities.specs.Trees.{shapes_in_tree}
 
 pub returns-in-Some-Scalar : goal.returns-in-Some-Scalar
 returns-in-Some-Scalar c k =

@@ -3,7 +3,7 @@ use Rattle.std.proofs.Common.{◌≡◌, drop}
 use Rattle.ada_rules.specs.Declarations.{value_place}
 use Rattle.ada_entities.specs.Views.{subtype_of}
 use Rattle.ada_entities.specs.EntityViews.{Tables}
-use Rattle.symbol_table.specs.SymbolViews.{Begins, IsKnown}
+use Rattle.program_walk.specs.SymbolViews.{Begins, IsKnown}
 use Rattle.object_values.proofs.place.value_place.Given as goal
 
 abbrev pub invariant-loop-other : goal.invariant-loop-other

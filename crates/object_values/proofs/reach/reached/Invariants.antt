@@ -5,7 +5,7 @@ use Rattle.ada_rules.specs.Denoted as rules
 use Rattle.ada_rules.specs.Declarations.{value_for}
 use Rattle.ada_entities.specs.Views.{subtype_of}
 use Rattle.ada_entities.specs.EntityViews.{Tables}
-use Rattle.symbol_table.specs.SymbolViews.{Begins, IsKnown}
+use Rattle.program_walk.specs.SymbolViews.{Begins, IsKnown}
 use Rattle.object_values.proofs.reach.reached.Given as goal
 
 abbrev pub invariant-loop : goal.invariant-loop

@@ -8,10 +8,10 @@ use Rattle.ada_entities.specs.RegionCode.{innermost, declaration}
 use Rattle.ada_entities.specs.Answers.{Refuses}
 use Rattle.ada_phrases.specs.Answers.{counted}
 use Rattle.statement_parts.specs.Turns.{turns_in}
-use Rattle.symbol_table.proofs.HideLaws.{then_inside}
+use Rattle.program_walk.proofs.HideLaws.{then_inside}
 use Rattle.program_walk.specs.declared.walk.Walk.{Walk}
 use Rattle.program_walk.specs.States.{state_of}
-use Rattle.declarations.proofs.GoingLaws.{inside_continues}
+use Rattle.program_walk.proofs.GoingLaws.{inside_continues}
 use Rattle.statements.specs.Words.{undecided}
 use Rattle.statements.proofs.LoopLaws.{redefined_alone, name_refused, range_refused, begun_passes, stands_hidden, opened_changed}
 use Rattle.statements.proofs.loops.begin_for.Goals as goal

@@ -1,7 +1,7 @@
 use Rattle.std.proofs.Common.{refl, ap, ◌∙◌}
 use Rattle.ada_rules.specs.Entities.{key, redefined}
 use Rattle.statement_parts.specs.Turns.{turns_in}
-use Rattle.declarations.specs.Going.{region_in}
+use Rattle.program_walk.specs.Going.{region_in}
 use Rattle.statements.proofs.LoopLaws.{parameter_state}
 use Rattle.statements.proofs.loops.set_parameter.Goals as goal
 

@@ -3,7 +3,7 @@ use Rattle.ada_tree.specs.Programs.{types_of}
 use Rattle.std.proofs.lemmas.Result.{IfOk-weaker}
 use Rattle.ada_rules.specs.Subprograms.{place_among}
 use Rattle.ada_entities.specs.TypeTable.{tables}
-use Rattle.type_trees.specs.Trees.{shapes_in_tree, AreIn}
+use Rattle.ada_entities.specs.Trees.{shapes_in_tree, AreIn}
 use Rattle.typed_program.specs.declared.program.Outline.{Outline}
 use Rattle.typed_program.proofs.Assembling.{assembled_is}
 use Rattle.typed_program.proofs.program.program_of.Goals as goal

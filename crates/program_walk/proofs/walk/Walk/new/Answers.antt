@@ -1,8 +1,8 @@
 use Rattle.std.proofs.Common.{reverse, ap, ◌∙◌}
 use Rattle.ada_rules.specs.Environment.{beginning_state}
 use Rattle.ada_phrases.specs.Answers.{counted}
-use Rattle.static_parts.specs.declared.place.Notes.{Notes}
-use Rattle.static_parts.specs.Places.{with_notes}
+use Rattle.program_walk.specs.declared.place.Notes.{Notes}
+use Rattle.program_walk.specs.Places.{with_notes}
 use Rattle.program_walk.specs.States.{with_found}
 use Rattle.program_walk.proofs.walk.Walk.new.Goals as goal
 

@@ -7,7 +7,7 @@ use Rattle.ada_rules.specs.Instances.{actual_plan}
 use Rattle.ada_rules.specs.Plan.{Plan, answer_at}
 use Rattle.ada_entities.specs.EntityViews.{entity_of}
 use Rattle.ada_phrases.proofs.Parts.{answers_as}
-use Rattle.static_parts.specs.Places.{with_notes}
+use Rattle.program_walk.specs.Places.{with_notes}
 use Rattle.specifications.specs.Actuals.{actual_of, actuals_of}
 use Rattle.specifications.proofs.PassingLaws.{formal_plan}
 use Rattle.specifications.proofs.passing.InstanceWalk.actual.Goals as goal

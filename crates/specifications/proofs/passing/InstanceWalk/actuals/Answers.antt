@@ -6,7 +6,7 @@ use Rattle.ada_rules.specs.Environment.{given}
 use Rattle.ada_rules.specs.Plan.{answer_at}
 use Rattle.ada_entities.specs.EntityViews.{entity_of}
 use Rattle.ada_phrases.proofs.Parts.{answers_as, refused_as}
-use Rattle.static_parts.specs.Places.{with_notes}
+use Rattle.program_walk.specs.Places.{with_notes}
 use Rattle.specifications.specs.Actuals.{actual_of, actuals_of, actuals_in}
 use Rattle.specifications.specs.Passing.{plan_for, formals_seen, counted_rule}
 use Rattle.specifications.proofs.CountingLaws.{whole, from_start, turn_refused, turn_passes, all_counted, kept_seen}

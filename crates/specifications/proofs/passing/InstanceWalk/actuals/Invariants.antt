@@ -3,7 +3,7 @@ use Rattle.std.proofs.Common.{◌≡◌, []}
 use Rattle.ada_rules.specs.Environment.{State, Env}
 use Rattle.ada_rules.specs.Instances.{actuals_judged}
 use Rattle.ada_entities.specs.EntityViews.{Tables}
-use Rattle.static_parts.specs.Places.{StandsAt, with_notes}
+use Rattle.program_walk.specs.Places.{StandsAt, with_notes}
 use Rattle.specifications.specs.Actuals.{actuals_of}
 use Rattle.specifications.specs.Passing.{formals_seen}
 use Rattle.specifications.proofs.CountingLaws.{whole}

@@ -7,7 +7,7 @@ use Rattle.ada_judged.specs.JudgedView.{judged_of}
 use Rattle.ada_phrases.specs.DenotedView.{denotes}
 use Rattle.ada_phrases.proofs.Parts.{answers_as}
 use Rattle.ada_demands.specs.StaticsViews.{noted}
-use Rattle.static_parts.specs.Places.{with_notes}
+use Rattle.program_walk.specs.Places.{with_notes}
 use Rattle.specifications.specs.Actuals.{actual_of}
 use Rattle.specifications.proofs.PassingLaws.{is_named, no_name, any_named, any_unnamed}
 use Rattle.specifications.proofs.passing.InstanceWalk.any_actual.Goals as goal

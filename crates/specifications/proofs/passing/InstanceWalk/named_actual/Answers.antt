@@ -5,7 +5,7 @@ use Rattle.ada_phrases.specs.Answers.{counted}
 use Rattle.ada_phrases.specs.DenotedView.{denotes}
 use Rattle.ada_phrases.proofs.Parts.{answers_as}
 use Rattle.ada_demands.specs.StaticsViews.{noted}
-use Rattle.static_parts.specs.Places.{with_notes}
+use Rattle.program_walk.specs.Places.{with_notes}
 use Rattle.specifications.specs.Actuals.{actual_of, actuals_of}
 use Rattle.specifications.proofs.PassingLaws.{name_refused, name_passes}
 use Rattle.specifications.proofs.passing.InstanceWalk.named_actual.Goals as goal

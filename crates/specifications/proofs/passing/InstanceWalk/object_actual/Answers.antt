@@ -4,10 +4,10 @@ use Rattle.ada_rules.specs.Environment.{given}
 use Rattle.ada_rules.specs.Entities.{subtype_seen}
 use Rattle.ada_rules.specs.Declarations.{in_range}
 use Rattle.ada_entities.specs.Views.{type_of, subtype_of}
-use Rattle.static_parts.specs.Parts.{accepts_of, asks_of, valued_of}
-use Rattle.static_parts.specs.Places.{with_notes}
-use Rattle.static_parts.specs.declared.asks.Accepted.TheVariants as accepted
-use Rattle.static_parts.specs.declared.asks.Asks.TheVariants as asks
+use Rattle.program_walk.specs.Parts.{accepts_of, asks_of, valued_of}
+use Rattle.program_walk.specs.Places.{with_notes}
+use Rattle.program_walk.specs.declared.asks.Accepted.TheVariants as accepted
+use Rattle.program_walk.specs.declared.asks.Asks.TheVariants as asks
 use Rattle.specifications.specs.Actuals.{actuals_of}
 use Rattle.specifications.proofs.ActualLaws.{fits_same}
 use Rattle.specifications.proofs.PassingLaws.{object_refused, object_passes}

@@ -2,7 +2,7 @@ use Rattle.ada_syntax.specs.Tree.{expr_pos}
 use Rattle.ada_judged.specs.JudgedView.{judged_of}
 use Rattle.ada_demands.specs.StaticsViews.{noted}
 use Rattle.ada_phrases.specs.Scopes.{step_of}
-use Rattle.static_parts.specs.Places.{with_notes}
+use Rattle.program_walk.specs.Places.{with_notes}
 use Rattle.specifications.specs.Actuals.{actual_of}
 use Rattle.specifications.proofs.PassingLaws.{other_given}
 use Rattle.specifications.proofs.passing.InstanceWalk.other_actual.Goals as goal

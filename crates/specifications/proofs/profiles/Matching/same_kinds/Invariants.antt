@@ -2,7 +2,7 @@
 use Rattle.std.proofs.Common.{◌≡◌, drop}
 use Rattle.ada_tree.specs.View.{owner_of}
 use Rattle.ada_entities.specs.EntityViews.{Tables}
-use Rattle.symbol_table.specs.SymbolViews.{Begins, IsKnown}
+use Rattle.program_walk.specs.SymbolViews.{Begins, IsKnown}
 use Rattle.specifications.proofs.MatchLaws.{are_kinds}
 use Rattle.specifications.proofs.profiles.Matching.same_kinds.Given as goal
 

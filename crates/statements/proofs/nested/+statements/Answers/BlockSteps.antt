@@ -6,7 +6,7 @@ use Rattle.ada_rules.specs.Environment.{given, opened}
 use Rattle.ada_rules.specs.Declarations.{all_declared}
 use Rattle.ada_rules.specs.Statements.{one, declarations_in}
 use Rattle.ada_entities.specs.Answers.{Refuses}
-use Rattle.type_trees.specs.Trees.{shapes_in_tree}
+use Rattle.ada_entities.specs.Trees.{shapes_in_tree}
 use Rattle.statement_parts.proofs.CaseLaws.{statements_in}
 use Rattle.program_walk.specs.declared.walk.Walk.{Walk}
 use Rattle.program_walk.specs.States.{state_of}
@@ -16,8 +16,8 @@ use Rattle.ada_entities.specs.RegionCode.{innermost}
 use Rattle.ada_tree.specs.Programs.{unfolded_block}
 use Rattle.declarations.specs.Locals.{made_of}
 use Rattle.declarations.specs.Values.{declared_in}
-use Rattle.declarations.proofs.GoingLaws.{inside_continues, stands_then}
-use Rattle.declarations.proofs.GoingLaws as going
+use Rattle.program_walk.proofs.GoingLaws.{inside_continues, stands_then}
+use Rattle.program_walk.proofs.GoingLaws as going
 use Rattle.statements.proofs.LoopLaws.{opened_changed}
 use Rattle.statements.specs.Made.{frame_there, handlers_in}
 use Rattle.statements.proofs.Steps.{stays_continue, failure_continues, refused_behind, region_gone}

@@ -9,7 +9,7 @@ use Rattle.ada_rules.specs.Environment.{given, in_loop}
 use Rattle.ada_rules.specs.Statements.{one, is_reverse, all_stated}
 use Rattle.ada_phrases.specs.DecisionView.{decision_of}
 use Rattle.ada_phrases.proofs.Parts.{passes_on, in_part, refused_as}
-use Rattle.type_trees.specs.Trees.{shapes_in_tree}
+use Rattle.ada_entities.specs.Trees.{shapes_in_tree}
 use Rattle.statement_parts.proofs.CaseLaws.{statements_in}
 use Rattle.program_walk.specs.declared.walk.Walk.{Walk}
 use Rattle.program_walk.specs.States.{state_of}

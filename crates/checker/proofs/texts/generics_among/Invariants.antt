@@ -1,6 +1,0 @@
--- What was noted goes on with the declarations that are left.
-use Rattle.checker.proofs.TextLaws.{AreSoFar}
-use Rattle.checker.proofs.texts.generics_among.Given as goal
-
-abbrev pub invariant-loop-declared : goal.invariant-loop-declared
-invariant-loop-declared l = AreSoFar l.types l.declared-index l.generics.items

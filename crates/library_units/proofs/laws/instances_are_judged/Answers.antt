@@ -1,5 +1,0 @@
-use Rattle.library_units.proofs.InstantiatingLaws.{judged}
-use Rattle.library_units.proofs.laws.instances_are_judged.Goals as goal
-
-pub returns : goal.returns
-returns c env s p n k i = judged env s p n k i

@@ -1,0 +1,28 @@
+use Rattle.std.proofs.Common.{Ok, unwrap_or, option_map, sym, ap, ◌∙◌}
+use Rattle.std.specs.Option.{ok_or, option_and_then}
+use Rattle.ada_rules.specs.Plan.{answer_at}
+use Rattle.ada_rules.specs.Environment.{typed_rule, given}
+use Rattle.ada_rules.specs.Expressions.{any_mark, marked, scalar_only}
+use Rattle.ada_phrases.specs.DenotedView.{denotes}
+use Rattle.ada_phrases.specs.Scopes.{step_of}
+use Rattle.ada_phrases.proofs.Parts.{answers_as}
+use Rattle.program_walk.specs.Marks.{marked_of}
+use Rattle.program_walk.proofs.MarkLaws.{asked_for}
+use Rattle.program_walk.proofs.marks.scalar_mark.Goals as goal
+
+pub returns-in-Naming : goal.returns-in-Naming
+returns-in-Naming c k s =
+    let o = marked (denotes k c.args.denoted.now) in
+    ap (λ st. answer_at c.args.pos (typed_rule (step_of st) (given (unwrap_or o any_mark) s) (option_map (λ m. given m s) (option_and_then scalar_only o))).outcome)
+    c.in-Naming.is
+    ∙ ap (λ m. Ok (given m s)) (sym (c.or_any.ensures k ∙ ap (λ x. unwrap_or x any_mark) (c.of.ensures k)))
+
+pub returns-in-Typing : goal.returns-in-Typing
+returns-in-Typing c k s =
+    let o = marked (denotes k c.args.denoted.now) in
+    let found = c.scalar_of.result in
+    answers_as (λ m. given (marked_of k m) s) _ _ c.ok_or.result
+    (ap (λ st. answer_at c.args.pos (typed_rule (step_of st) (given (unwrap_or o any_mark) s) (option_map (λ m. given m s) (option_and_then scalar_only o))).outcome)
+    c.in-Typing.is)
+    (asked_for (marked_of k) s c.args.pos found (option_and_then scalar_only o) c.ok_or.result (c.scalar_of.ensures k)
+    (c.ok_or.ensures.value ∙ ap (ok_or found) c.refused.ensures))

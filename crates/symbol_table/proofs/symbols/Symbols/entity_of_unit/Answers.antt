@@ -1,4 +1,0 @@
-use Rattle.symbol_table.proofs.symbols.Symbols.entity_of_unit.Goals as goal
-
-pub returns : goal.returns
-returns c k w h = c.entity.ensures k h.actuals w h.interfaces

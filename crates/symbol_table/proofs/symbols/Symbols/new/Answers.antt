@@ -1,5 +1,0 @@
-use Rattle.symbol_table.proofs.ChangeLaws.{fresh}
-use Rattle.symbol_table.proofs.symbols.Symbols.new.Goals as goal
-
-pub returns : goal.returns
-returns c = fresh _ c.args.units c.in_ok-types.ensures c.in_ok-routines.ensures c.new-5.ensures c.in_ok-units.ensures c.in_ok-extent.ensures

@@ -1,3 +1,0 @@
-mod Seen
-pub mod Unfolding
-pub mod TableLaws

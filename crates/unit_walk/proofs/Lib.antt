@@ -1,0 +1,11 @@
+pub mod SeenLaws
+pub mod StandingLaws
+pub mod EnteringLaws
+pub mod InstantiatingLaws
+pub mod ShowingLaws
+pub mod FormalLaws
+pub mod FormalWalks
+pub mod RecordingLaws
+pub mod BetweenLaws
+pub mod InstanceLaws
+pub mod SubprogramLaws

@@ -1,0 +1,10 @@
+pub mod Instances
+pub mod Standing
+pub mod Entering
+pub mod Instantiating
+pub mod Formals
+pub mod Recording
+pub mod Walked
+pub mod Subprograms
+pub mod Interfaces
+pub mod Bodies
