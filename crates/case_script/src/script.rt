@@ -2,17 +2,13 @@
 
 ghost use Rattle.std.specs.Prelude.{◌≡◌, ◌++◌, ◌∷◌, [], OnOk, string_bytes};
 
+use crate::answer::put_line;
 use crate::change::{closed, spliced};
-use crate::detail::put_without_details;
 use crate::line::{Line, Making, Opening, Place, Shown, word_of};
 use anyhow::{Result, bail};
-use commands::{Status, gnatcov};
-use cov_io::{FileFault, Files, MemSink, Sink, SinkFailed};
+use cov_io::{FileFault, Files, Sink};
 use sha2::{Digest, Sha256};
 use std::alloc::{AllocError, Global};
-
-/// How many bytes of output a call may put from which details are left out.
-const ROOM: usize = 65536;
 
 /// A file whose lines are being read: what it has so far, and what will stand behind those to come.
 #[derive(Drop)]
@@ -77,6 +73,29 @@ fn add_line(text: &mut String, line: &str) -> Result<(), AllocError>
     text.push('\n')
 }
 
+/// A call of gnatcov that a line asks for.
+#[derive(Drop)]
+pub struct Call {
+    /// The command words, the program's name first.
+    pub words: Vec<String>,
+    /// Whether lines of digests, and of counts of instructions and of traces, are left out of its output.
+    pub are_details_left_out: bool,
+}
+
+impl Call {
+    /// A call with these words after the program's name.
+    fn of(
+        alloc: Global,
+        words: Option<&str>,
+        are_details_left_out: bool,
+    ) -> Result<Self, AllocError> {
+        Ok(Call {
+            words: words_of(alloc, words)?,
+            are_details_left_out,
+        })
+    }
+}
+
 /// A script that is being played.
 #[derive(Drop)]
 pub struct Script {
@@ -90,33 +109,39 @@ impl Script {
         Script { alloc, open: None }
     }
 
-    /// Plays the next line, over the files and the sink of the transcript.
+    /// Plays the next line, over the files and the sink of the transcript. The call that it asks for, if
+    /// it asks for one, is left to be made.
     pub fn play<F: Files, S: Sink>(
         &mut self,
         line: &str,
         files: &mut F,
         out: &mut S,
-    ) -> Result<()> {
+    ) -> Result<Option<Call>> {
         match &mut self.open {
             Some(file) if line == "end" => file.close(files)?,
-            Some(file) => return Ok(add_line(&mut file.text, line)?),
+            Some(file) => {
+                add_line(&mut file.text, line)?;
+                return Ok(None);
+            }
             None => return self.begin(line, files, out),
         }
         self.open = None;
-        Ok(())
+        Ok(None)
     }
 
     /// Plays a line that stands in no file.
-    fn begin<F: Files, S: Sink>(&mut self, line: &str, files: &mut F, out: &mut S) -> Result<()> {
+    fn begin<F: Files, S: Sink>(
+        &mut self,
+        line: &str,
+        files: &mut F,
+        out: &mut S,
+    ) -> Result<Option<Call>> {
         let alloc = self.alloc;
         match Line::of(line) {
             None => bail!("no line of a script: {line}"),
-            Some(Line::Remark) => Ok(put_line(line, out)?),
-            Some(Line::Open(opening)) => {
-                self.open = Some(opened(alloc, opening, files)?);
-                Ok(())
-            }
-            Some(Line::Make(making)) => make(alloc, making, files),
+            Some(Line::Remark) => put_line(line, out)?,
+            Some(Line::Open(opening)) => self.open = Some(opened(alloc, opening, files)?),
+            Some(Line::Make(making)) => make(alloc, making, files)?,
             Some(
                 Line::Call {
                     words,
@@ -124,10 +149,11 @@ impl Script {
                 },
             ) => {
                 put_line(line, out)?;
-                call(alloc, words, are_details_left_out, files, out)
+                return Ok(Some(Call::of(alloc, words, are_details_left_out)?));
             }
-            Some(Line::Show { what, name }) => show(alloc, what, name, files, out),
+            Some(Line::Show { what, name }) => show(alloc, what, name, files, out)?,
         }
+        Ok(None)
     }
 }
 
@@ -213,59 +239,6 @@ fn read<F: Files>(alloc: Global, name: &str, files: &mut F) -> Result<Vec<u8>, F
     let mut bytes = Vec::new(alloc);
     files.read(name, &mut bytes)?;
     Ok(bytes)
-}
-
-/// Puts a line, with its line feed.
-fn put_line<S: Sink>(line: &str, out: &mut S) -> Result<(), SinkFailed>
-    ensures { OnOk result (S.failures out.new ≡ S.failures out.old) }
-{
-    out.put(line.as_bytes())?;
-    out.put(b"\n")
-}
-
-/// Calls gnatcov with these words after its name, and puts its status.
-fn call<F: Files, S: Sink>(
-    alloc: Global,
-    words: Option<&str>,
-    are_details_left_out: bool,
-    files: &mut F,
-    out: &mut S,
-) -> Result<()> {
-    let words = words_of(alloc, words)?;
-    let status = if are_details_left_out {
-        call_without_details(alloc, words.as_slice(), files, out)?
-    } else {
-        gnatcov(alloc, words.as_slice(), files, out)
-    };
-    put_status(alloc, status, out)
-}
-
-/// Calls gnatcov, and puts of its output what are no details.
-fn call_without_details<F: Files, S: Sink>(
-    alloc: Global,
-    words: &[String],
-    files: &mut F,
-    out: &mut S,
-) -> Result<Status> {
-    let mut kept = MemSink::new(alloc, ROOM, Vec::new(alloc))?;
-    let status = gnatcov(alloc, words, files, &mut kept);
-    put_kept(alloc, kept.as_slice(), out)?;
-    Ok(status)
-}
-
-/// Puts of an output what are no details.
-fn put_kept<S: Sink>(alloc: Global, kept: &[u8], out: &mut S) -> Result<()> {
-    let text = String::from_utf8_lossy(alloc, kept)?;
-    put_without_details(text.as_str(), out)?;
-    Ok(())
-}
-
-/// Puts a status.
-fn put_status<S: Sink>(alloc: Global, status: Status, out: &mut S) -> Result<()> {
-    let number = status.number();
-    let line = format!(in alloc; "status {number}")?;
-    put_line(line.as_str(), out)?;
-    Ok(())
 }
 
 /// The command words, the program's name first.
