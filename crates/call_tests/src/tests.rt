@@ -1,9 +1,6 @@
-//! A program, its object and its trace in memory, and commands over them; and the files and sinks
-//! below.
+//! A program, its object and its trace in memory, and commands over them.
 
-mod faltering;
 mod faults;
-mod outside;
 
 use commands::{FileRef, Status, gnatcov};
 use cov_io::{Entry, Files, MemFiles, MemSink};
