@@ -171,6 +171,7 @@ impl TraceReader {
     }
 
     /// What stands next, where so many blocks are left.
+    #[inline(never)]
     fn among_blocks<F: Files>(
         &mut self,
         files: &mut F,
@@ -199,6 +200,7 @@ impl TraceReader {
     }
 
     /// What stands next, where so many entries of the history are left.
+    #[inline(always)]
     fn in_history<F: Files>(
         &mut self,
         files: &mut F,
@@ -281,6 +283,7 @@ impl TraceReader {
     }
 
     /// The next entry of the history, behind which so many are left.
+    #[inline(always)]
     fn next_history<F: Files>(
         &mut self,
         files: &mut F,
@@ -315,6 +318,7 @@ impl TraceReader {
 
     /// The closing digest, where the file ends behind it, it is that of the bytes before, and no entry
     /// failed its checks.
+    #[inline(never)]
     fn close<F: Files>(&mut self, files: &mut F) -> Result<Entry, Failure<ReaderFault>>
         ensures gives { (bytes : List ℕ) (given : List Entry) → AreTold (F.held files.old) (file_name self.old) bytes
             → InHistory self.old bytes given 0 → Gives result self.new bytes given }
@@ -380,6 +384,7 @@ fn closing(tail: &[u8], wanted: &Digest) -> Result<Digest, LayerFault>
 }
 
 /// Takes as many bytes as `into` has room for, or answers `short`.
+#[inline(always)]
 fn take<F: Files>(
     stream: &mut Stream,
     files: &mut F,

@@ -41,6 +41,7 @@ impl Stream {
 
     /// Takes the next bytes into `into`, and answers how many there were: fewer than it has room for
     /// only at the end of the file.
+    #[inline(always)]
     pub fn fill<F: Files>(&mut self, files: &mut F, into: &mut [u8]) -> Result<usize, FileFault>
         ensures takes { (bytes : List ℕ) (taken : ℕ) → AreTold (F.held files.old) (string_bytes self.old.name) bytes
             → StandsAt self.old bytes taken → taken < 2 ^ 40 → length into.old < 2 ^ 16
@@ -60,6 +61,28 @@ impl Stream {
         if self.take_ahead(into) {
             return Ok(into.len());
         }
+        self.fill_across(files, into)
+    }
+
+    /// Takes the next bytes into `into`, also where the part in memory ends before.
+    #[cold]
+    #[inline(never)]
+    fn fill_across<F: Files>(&mut self, files: &mut F, into: &mut [u8]) -> Result<usize, FileFault>
+        ensures takes { (bytes : List ℕ) (taken : ℕ) → AreTold (F.held files.old) (string_bytes self.old.name) bytes
+            → StandsAt self.old bytes taken → taken < 2 ^ 40 → length into.old < 2 ^ 16
+            → IfOk result (λ n. (take n into.new ≡ take (length into.old) (drop taken bytes))
+            × StandsAt self.new bytes (taken + n)) }
+        ensures count { IfOk result (λ n. n ≤ length into.old) }
+        ensures len { length into.new ≡ length into.old }
+        ensures name { string_bytes self.new.name ≡ string_bytes self.old.name }
+        ensures same { F.held files.new ≡ F.held files.old }
+        ensures failed { IsErrOf result FileFault.Failed
+            → Rose (F.reads_failed files.old) (F.reads_failed files.new)
+            ⊎ IsAbsent (F.held files.old) (string_bytes self.old.name) }
+        ensures stays { result ≢ Err FileFault.Failed → F.reads_failed files.new ≡ F.reads_failed files.old }
+        ensures later { F.reads_failed files.old ≤ F.reads_failed files.new }
+        ensures writes { F.writes_failed files.new ≡ F.writes_failed files.old }
+    {
         for place in 0..into.len() {
             let Some(byte) = self.byte(files)? else {
                 return Ok(place);
@@ -70,6 +93,7 @@ impl Stream {
     }
 
     /// Takes as many bytes as `into` has room for out of the part in memory, where that many are left in it.
+    #[inline(always)]
     fn take_ahead(&mut self, into: &mut [u8]) -> bool
         ensures takes { (bytes : List ℕ) (taken : ℕ) → StandsAt self.old bytes taken
             → TookAhead result self.new into.new bytes taken (length into.old) }
@@ -81,7 +105,8 @@ impl Stream {
         if end > self.part.len() {
             return false;
         }
-        into.copy_from_slice(&self.part[self.at..end]);
+        // Of two steps the second has the length that is asked for, so a short one is copied in place.
+        into.copy_from_slice(&self.part[self.at..][..room]);
         self.at = end;
         true
     }

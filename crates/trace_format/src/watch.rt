@@ -31,6 +31,7 @@ impl<T: Copy + Drop, C: Check<T>> Watch<T, C> {
     }
 
     /// Takes the next entry, of fewer than 2^32.
+    #[inline(always)]
     pub fn see(&mut self, entry: &T)
         ensures { (seen : List T) → Watched C.passes self.old.before self.old.at self.old.failing seen
             → length seen < 2 ^ 32 - 1

@@ -1,7 +1,7 @@
 -- The bytes taken so far stand at the front of what is filled.
 use Rattle.std.proofs.Common.{◌≡◌, ℕ, ◌+◌, ◌^◌, ◌<◌, List, length, take, drop, string_bytes}
 use Rattle.trace_format.specs.Stream.{AreTold, StandsAt}
-use Rattle.trace_format.proofs.stream.Stream.fill.Given as goal
+use Rattle.trace_format.proofs.stream.Stream.fill_across.Given as goal
 
 abbrev pub invariant-loop-place : goal.invariant-loop-place
 invariant-loop-place g l =
