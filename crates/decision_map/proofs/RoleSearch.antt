@@ -1,5 +1,5 @@
 -- A role is found by its address among roles whose addresses rise.
-use Rattle.std.proofs.Common.{◌≡◌, ℕ, suc, zero, ◌<◌, ◌≤◌, ◌≢◌, Bool, ◌==◌, List, [], ◌∷◌, length, get_or, find, Option, Some, None, Result, Ok, Err, refl, sym, ap, eq-eqb, ne_eqb, arith, AllPairs, inl, inr}
+use Rattle.std.proofs.Common.{◌≡◌, ◌∙◌, ℕ, suc, zero, ◌<◌, ◌≤◌, ◌≢◌, Bool, ◌==◌, List, [], ◌∷◌, length, get_or, find, Option, Some, None, Result, Ok, Err, refl, sym, ap, eq-eqb, ne_eqb, arith, AllPairs, inl, inr}
 use Rattle.std.proofs.lemmas.Bool.Decides.{leb_tells}
 use Rattle.std.specs.List.Sorted.{IsSearchInRange, IsBinarySearchResult, IsNonDecreasingBy}
 use Rattle.std.specs.Ordering.{nat_cmp, ordering_index}
@@ -27,6 +27,12 @@ found_first (role ∷ roles) (suc at) pc d rise within is =
     let before : role.address < (get_or roles at d).address = rise zero (suc at) d (omega arith) within in
     let other : role.address ≢ pc = λ same. absurd (omega arith) in
     rw (ne_eqb role.address pc other) (found_first roles at pc d (rise_behind role roles rise) (omega arith) is)
+
+-- the role that stands at a place, where it has the address
+pub found_hinted : (roles : List Role) (at : ℕ) (pc : ℕ) (role : Role) → Rise roles → at < length roles → role ≡ get_or roles at role → role.address ≡ pc
+    → Some role ≡ find (stands_at pc) roles
+found_hinted roles at pc role rise within is same =
+    ap (λ (r : Role). Some r) is ∙ sym (found_first roles at pc role rise within (ap (λ (r : Role). r.address) (sym is) ∙ same))
 
 -- no role is found where none has the address
 pub found_none : (roles : List Role) (pc : ℕ) → ((k : ℕ) (d : Role) → k < length roles → (get_or roles k d).address ≢ pc)

@@ -18,6 +18,7 @@ mod keep;
 mod kind;
 mod map;
 mod places;
+mod role_hints;
 
 pub use checked::checked_objects_have_maps;
 pub use condition::Condition;
@@ -25,3 +26,4 @@ pub use fault::FitFault;
 pub use fit_state::FitState;
 pub use kind::WordKind;
 pub use map::DecisionMap;
+pub use role_hints::RoleHints;

@@ -20,6 +20,7 @@ use crate::graphs::{DecisionGraph, graphs_of};
 use crate::keep::{keep_histories, role_at};
 use crate::kind::{WordKind, kinds_of};
 use crate::places::kind_in;
+use crate::role_hints::RoleHints;
 use condition_graph::Graph;
 use cov_base::DecId;
 use object_format::Object;
@@ -114,6 +115,14 @@ impl<'a> DecisionMap<'a> {
         ensures { result ≡ condition_at self.now pc }
     {
         condition_of(role_at(self.object.roles.as_slice(), pc)?)
+    }
+
+    /// The same, with what was found before at hand.
+    #[inline(always)]
+    pub fn condition_by(&self, hints: &mut RoleHints, pc: u32) -> Option<Condition>
+        ensures { result ≡ condition_at self.now pc }
+    {
+        condition_of(hints.role_at(self.object.roles.as_slice(), pc)?)
     }
 
     /// The graph of a decision.
