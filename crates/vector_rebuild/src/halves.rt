@@ -46,6 +46,7 @@ impl Halves {
     }
 
     /// The evaluation of a key.
+    #[inline(always)]
     pub fn find(&self, key: Key) -> Option<Half>
         ensures { result ≡ half_in self.now key }
     {
@@ -59,6 +60,7 @@ impl Halves {
     }
 
     /// Lets the table have what was kept last, unless that is of this key.
+    #[inline(always)]
     fn settle(&mut self, key: Key) -> Result<(), AllocError>
         ensures rest { OnOk result ((k : KeptKey) → same key k ≡ false → get same self.new.table k ≡ half_in self.old k) }
         ensures err { OnErr result (AreAlike self.old self.new) }
@@ -83,6 +85,7 @@ impl Halves {
     }
 
     /// Keeps the evaluation of a key, or that none is under way.
+    #[inline(always)]
     pub fn put(&mut self, key: Key, half: Option<Half>) -> Result<(), AllocError>
         ensures after { OnOk result ((k : KeptKey) → half_in self.new k ≡ (if same key k then half else half_in self.old k)) }
         ensures err { OnErr result (AreAlike self.old self.new) }

@@ -23,15 +23,16 @@ use crate::halves::Halves;
 use crate::visit::{Key, Visit, visit_of};
 use condition_graph::Next;
 use cov_base::{CondIx, Event, Failure, Vector};
-use decision_map::DecisionMap;
+use decision_map::{DecisionMap, RoleHints};
 use std::alloc::{AllocError, Global};
 use trace_format::HistoryEntry;
 
-/// What is kept while a history is fed: of each key the evaluation that is under way, and how many
-/// entries were fed.
+/// What is kept while a history is fed: of each key the evaluation that is under way, where roles were
+/// found, and how many entries were fed.
 #[derive(Drop)]
 pub struct Rebuild {
     halves: Halves,
+    hints: RoleHints,
     fed: u32,
 }
 
@@ -43,6 +44,7 @@ impl Rebuild {
     {
         Rebuild {
             halves: Halves::new(alloc),
+            hints: RoleHints::new(),
             fed: 0,
         }
     }
@@ -66,6 +68,7 @@ impl Rebuild {
 
     /// The vector with which an evaluation of a key comes to a node, if one does. To the root a new one
     /// comes, so nothing is looked up for it.
+    #[inline(always)]
     fn coming(&self, key: Key, node: CondIx) -> Option<Vector>
         ensures { result ≡ begun (option_map half_as (half_in self.now.halves key)) node.0 }
     {
@@ -77,6 +80,7 @@ impl Rebuild {
 
     /// Keeps an evaluation that has come to a node, or answers its vector where it has come to an
     /// outcome, and keeps nothing.
+    #[inline(always)]
     fn keep(&mut self, key: Key, next: Next, vector: Vector) -> Result<Option<Vector>, AllocError>
         ensures answer { IfOk result (λ completed. completed ≡ over_by (place_of next) vector) }
         ensures after { OnOk result ((k : Activation) → kept_of self.new k
@@ -102,6 +106,7 @@ impl Rebuild {
 
     /// Takes a step whose edge leads to `next`, and answers the vector of the evaluation that it
     /// completes.
+    #[inline(always)]
     fn take(&mut self, visit: &Visit, next: Next) -> Result<Option<Vector>, Failure<BrokenHistory>>
         requires node { visit.now.step.node.0 < 32 }
         requires few { count_of self.old < 2 ^ 32 - 1 }
@@ -160,7 +165,7 @@ impl Rebuild {
         ensures roomy { 0 < room_of self.old → result ≢ Err WantOfMemory }
         ensures room { room_of self.old ≤ room_of self.new + 1 }
     {
-        let visit = visit_of(map, entry);
+        let visit = visit_of(map, &mut self.hints, entry);
         let next = map
             .graph(visit.decision)
             .next(visit.step.node, visit.step.value);

@@ -10,7 +10,7 @@ ghost use Rattle.vector_rebuild.specs.Entries.{branched_of};
 ghost use Rattle.vector_rebuild.specs.Rebuilt.{visit_as};
 
 use cov_base::{CondIx, DecId, Event, InstId, Vector};
-use decision_map::{Condition, DecisionMap};
+use decision_map::{Condition, DecisionMap, RoleHints};
 use trace_format::HistoryEntry;
 
 /// What tells one evaluation from others that are under way, by the numbers of the decision and the
@@ -71,8 +71,9 @@ pub fn value_by(condition: Condition, taken: bool) -> bool
     }
 }
 
-/// The step that an entry of a history is.
-pub fn visit_of(map: &DecisionMap<'_>, entry: HistoryEntry) -> Visit
+/// The step that an entry of a history is, with the places at hand where roles were found before.
+#[inline(always)]
+pub fn visit_of(map: &DecisionMap<'_>, hints: &mut RoleHints, entry: HistoryEntry) -> Visit
     requires sound { IsSound map.now }
     requires needed { needs_history map.now entry.address ≡ true }
     ensures visit { visit_in (facts_of map.now) (branched_of entry) ≡ Some (visit_as result) }
@@ -80,7 +81,7 @@ pub fn visit_of(map: &DecisionMap<'_>, entry: HistoryEntry) -> Visit
     ensures node { result.step.node.0 < length (graph_at map.now result.decision.0) }
     ensures few { result.step.node.0 < 32 }
 {
-    let Some(condition) = map.condition(entry.address) else {
+    let Some(condition) = map.condition_by(hints, entry.address) else {
         unreachable!()
     };
     let value = value_by(condition, entry.edge == 1);
