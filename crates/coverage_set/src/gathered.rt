@@ -81,6 +81,7 @@ impl<T: Exact + Drop> Gathered<T> {
     }
 
     /// Drops doubled items.
+    #[inline(never)]
     fn thin(&mut self)
         ensures { (x : T) → Somewhere (λ y. y ≡ x) self.new ↔ Somewhere (λ y. y ≡ x) self.old }
     {

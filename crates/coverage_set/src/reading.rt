@@ -124,6 +124,7 @@ impl<'a> Reading<'a> {
 }
 
 /// The next entry of a trace, in front of the end or at it.
+#[inline(always)]
 fn next_of<F: Files>(files: &mut F, reader: &mut TraceReader) -> Result<Entry, Failure<AddFault>>
     requires unclosed { reader.old.stage ≢ Closed }
     requires unfailed { (failure : Failure ReaderFault) → reader.old.stage ≢ Failed failure }
