@@ -1,73 +1,62 @@
 //! The commands, and which module answers each.
 
+ghost use Rattle.std.specs.Prelude.{◌≡◌};
 ghost use Rattle.object_format.specs.Checked.{IsSound};
 
 use crate::blobs::Blobs;
-use crate::fault::{Answer, CaseFault};
-use crate::objects::object_named;
+use crate::decisions::Question;
+use crate::reply::Reply;
+use crate::sources::Reading;
 use crate::words::split_word;
 use crate::{
     consolidated, decisions, generics, instructions, lists, objects, pieces, runs, sources,
 };
-use cov_base::Failure;
-use object_format::Object;
+use decision_map::{DecisionMap, checked_objects_have_maps};
+use object_format::{Object, read_whole_object};
 use std::alloc::Global;
 
-/// Adds to `out` what a line is answered.
-pub(crate) fn answer(alloc: Global, blobs: &mut Blobs, out: &mut String, line: &str) -> Answer {
+/// Puts what a line is answered.
+pub(crate) fn answer(alloc: Global, blobs: &mut Blobs, out: &mut Reply, line: &str) {
     let (command, words) = split_word(line);
+    if blobs.add_piece(alloc, out, command, words) {
+        return;
+    }
+    out.put(format_args!("{line}\n"));
     match command {
-        "" | "#" => echo(out, line),
-        "blob" => {
-            echo(out, line)?;
-            blobs.begin(alloc, words)
-        }
-        _ => of_blobs(alloc, blobs, out, line),
+        "" | "#" => {}
+        "blob" => blobs.begin(alloc, out, words),
+        _ => asked(alloc, blobs, out, command, words),
     }
 }
 
-/// Adds the line.
-fn echo(out: &mut String, line: &str) -> Answer {
-    writeln!(out, "{line}")?;
-    Ok(())
-}
-
-/// Adds a piece to the latest blob, or what a line that asks is answered.
-fn of_blobs(alloc: Global, blobs: &mut Blobs, out: &mut String, line: &str) -> Answer {
-    let (command, words) = split_word(line);
-    if blobs.add_piece(alloc, command, words)? {
-        return Ok(());
-    }
-    echo(out, line)?;
-    asked(alloc, blobs, out, line)
-}
-
-/// Adds what a line that asks is answered.
-fn asked(alloc: Global, blobs: &Blobs, out: &mut String, line: &str) -> Answer {
-    let (command, words) = split_word(line);
+/// Puts what a line that asks is answered.
+fn asked(alloc: Global, blobs: &Blobs, out: &mut Reply, command: &str, words: &str) {
     match command {
         "word" => instructions::word(out, words),
-        "graph" => decisions::graph(alloc, out, words),
-        "edges" => decisions::edges(alloc, out, words),
-        "pairs" => decisions::pairs(alloc, out, words),
+        "graph" => decisions::answer(alloc, out, Question::Graph, words),
+        "edges" => decisions::answer(alloc, out, Question::Edges, words),
+        "pairs" => decisions::answer(alloc, out, Question::Pairs, words),
         "longs" => lists::longs(alloc, out, words),
         "generic" => generics::generic(alloc, out, words),
         "run" | "words" | "fit" | "events" | "covered" | "fitting" | "added" | "rebuilt" => {
-            of_object(alloc, blobs, out, command, words)
+            of_object(alloc, blobs, out, command, words);
         }
-        _ => of_latest(alloc, out, command, words, blobs.latest()?),
+        _ => {
+            let blob = blobs.latest(out);
+            of_latest(alloc, out, command, words, blob);
+        }
     }
 }
 
-/// Adds what a line that asks about the latest blob is answered.
-fn of_latest(alloc: Global, out: &mut String, command: &str, words: &str, blob: &[u8]) -> Answer {
+/// Puts what a line that asks about the latest blob is answered.
+fn of_latest(alloc: Global, out: &mut Reply, command: &str, words: &str, blob: &[u8]) {
     match command {
-        "lex" => sources::lex_blob(alloc, out, blob),
-        "nested" => sources::nested_blob(alloc, out, blob),
-        "parse" => sources::parse_blob(alloc, out, blob, words),
-        "beginnings" => sources::beginnings_of_blob(alloc, out, blob, words),
-        "regions" => sources::regions_of_blob(alloc, out, blob),
-        "exempt" => sources::exempt_in_blob(alloc, out, blob, words),
+        "lex" => sources::answer(alloc, out, Reading::Tokens, words, blob),
+        "nested" => sources::answer(alloc, out, Reading::Nesting, words, blob),
+        "parse" => sources::answer(alloc, out, Reading::Syntax, words, blob),
+        "beginnings" => sources::answer(alloc, out, Reading::Beginnings, words, blob),
+        "regions" => sources::answer(alloc, out, Reading::Regions, words, blob),
+        "exempt" => sources::answer(alloc, out, Reading::Exemption, words, blob),
         "object" => objects::object(alloc, out, blob),
         "plain" => objects::plain(alloc, out, blob),
         "input" => objects::input(alloc, out, blob),
@@ -75,36 +64,65 @@ fn of_latest(alloc: Global, out: &mut String, command: &str, words: &str, blob: 
         "pieces" => pieces::pieces(alloc, out, words, blob),
         "portion" => pieces::portion(alloc, out, words, blob),
         "consolidated" => consolidated::consolidated(alloc, out, blob),
-        _ => Err(Failure::Fault(CaseFault::Command)),
+        _ => out.refuse("no such command"),
     }
 }
 
-/// Adds what a line that asks about an object is answered.
-fn of_object(alloc: Global, blobs: &Blobs, out: &mut String, command: &str, words: &str) -> Answer {
+/// Puts what a line that asks about an object is answered.
+fn of_object(alloc: Global, blobs: &Blobs, out: &mut Reply, command: &str, words: &str) {
     let (name, words) = split_word(words);
-    let object = object_named(alloc, blobs, name)?;
-    asked_of_object(alloc, blobs, out, command, words, &object)
+    match read_whole_object(alloc, blobs.named(out, name)) {
+        Ok(object) => of_map(alloc, blobs, out, command, words, &object),
+        Err(failure) => out.refuse_file("object", failure),
+    }
 }
 
 /// The same, where the object is there.
-fn asked_of_object(
+fn of_map(
     alloc: Global,
     blobs: &Blobs,
-    out: &mut String,
+    out: &mut Reply,
     command: &str,
     words: &str,
     object: &Object,
-) -> Answer
+)
     requires { IsSound object.now }
 {
+    checked_objects_have_maps();
+    match DecisionMap::of(alloc, object) {
+        Ok(map) => asked_of_object(alloc, blobs, out, command, words, object, &map),
+        Err(_) => out.lack_memory(),
+    }
+}
+
+/// The same, where its map is there.
+fn asked_of_object(
+    alloc: Global,
+    blobs: &Blobs,
+    out: &mut Reply,
+    command: &str,
+    words: &str,
+    object: &Object,
+    map: &DecisionMap<'_>,
+)
+    requires sound { IsSound object.now }
+    requires map { map.now ≡ object.now }
+{
+    if command == "events" {
+        runs::events(alloc, blobs, out, object, map, words);
+        return;
+    }
+    if command == "words" {
+        objects::words_at(out, map, words);
+        return;
+    }
+    let blob = blobs.latest(out);
     match command {
-        "run" => objects::run_on_latest(alloc, blobs, out, object, words),
-        "words" => objects::words_at(alloc, out, object, words),
-        "fit" => runs::fit_latest(alloc, blobs, out, object),
-        "covered" => consolidated::covered(alloc, out, object, blobs.latest()?),
-        "fitting" => pieces::fitting(alloc, out, object, words, blobs.latest()?),
-        "added" => pieces::added(alloc, out, object, words, blobs.latest()?),
-        "rebuilt" => pieces::rebuilt(alloc, out, object, words, blobs.latest()?),
-        _ => runs::events(alloc, blobs, out, object, words),
+        "run" => objects::run_on(alloc, out, object, words, blob),
+        "fit" => runs::fit(out, map, blob),
+        "covered" => consolidated::covered(alloc, out, map, blob),
+        "fitting" => pieces::fitting(alloc, out, map, words, blob),
+        "added" => pieces::added(alloc, out, object, map, words, blob),
+        _ => pieces::rebuilt(alloc, out, map, words, blob),
     }
 }

@@ -6,17 +6,14 @@
 //! | `covered OBJECT` | how many runs of the object the latest blob tells of, their events, and whether they are written as it, or why it is refused |
 
 ghost use Rattle.std.specs.Prelude.{◌≡◌, IfOk};
-ghost use Rattle.object_format.specs.Checked.{IsSound};
 ghost use Rattle.trace_format.specs.ConsolidatedChecks.{IsOrdered};
 
-use crate::fault::Answer;
-use crate::objects::{map_of, sameness};
-use crate::runs::{add_coverage, add_event};
-use crate::words::add_hex;
-use cov_base::{Digest, Event, Failure};
+use crate::objects::sameness;
+use crate::reply::Reply;
+use crate::runs::{put_coverage, put_event};
+use cov_base::{Digest, Event};
 use coverage_set::{Coverage, read_consolidated};
 use decision_map::DecisionMap;
-use object_format::Object;
 use std::alloc::{AllocError, Global};
 use trace_format::{
     ConsolidatedParts, ConsolidatedView, StartEntry, VectorEntry, write_consolidated,
@@ -55,49 +52,39 @@ fn vectors_of(alloc: Global, view: &ConsolidatedView<'_>) -> Result<Vec<VectorEn
     Ok(vectors)
 }
 
-/// Adds a digest behind a word, and ends the line.
-fn add_digest(out: &mut String, word: &str, digest: &Digest) -> Result<(), AllocError> {
-    write!(out, "{word} ")?;
-    add_hex(out, digest.as_slice())?;
-    out.push_str("\n")
+/// Puts a digest behind a word, and ends the line.
+fn put_digest(out: &mut Reply, word: &str, digest: &Digest) {
+    out.put(format_args!("{word} "));
+    out.put_hex(digest.as_slice());
 }
 
-/// Adds what a consolidated file lists.
-fn add_lists(out: &mut String, parts: &ConsolidatedParts<'_>) -> Result<(), AllocError> {
-    add_digest(out, "object", &parts.object)?;
+/// Puts whether what was written again is what was read.
+fn put_sameness(out: &mut Reply, again: Result<Vec<u8>, AllocError>, bytes: &[u8]) {
+    match again {
+        Ok(again) => out.put(format_args!("{} again\n", sameness(again.as_slice(), bytes))),
+        Err(_) => out.lack_memory(),
+    }
+}
+
+/// Puts what a consolidated file lists.
+fn put_lists(out: &mut Reply, parts: &ConsolidatedParts<'_>) {
+    put_digest(out, "object", &parts.object);
     for run in parts.runs {
-        add_digest(out, "run", run)?;
+        put_digest(out, "run", run);
     }
     for start in parts.starts {
-        add_event(out, Event::Start(start.statement, start.instance))?;
+        put_event(out, Event::Start(start.statement, start.instance));
     }
     for done in parts.vectors {
-        add_event(out, Event::Done(done.decision, done.instance, done.vector))?;
+        put_event(out, Event::Done(done.decision, done.instance, done.vector));
     }
-    Ok(())
 }
 
-/// Adds what a consolidated file lists, and whether it is written again.
-fn add_parts(
-    alloc: Global,
-    out: &mut String,
-    parts: &ConsolidatedParts<'_>,
-    closing: &Digest,
-    bytes: &[u8],
-) -> Result<(), AllocError>
-    requires { IsOrdered parts.now }
-{
-    add_lists(out, parts)?;
-    add_digest(out, "closed by", closing)?;
-    let again = write_consolidated(alloc, parts)?;
-    writeln!(out, "{} again", sameness(again.as_slice(), bytes))
-}
-
-/// Adds what a consolidated file holds, and whether it is written again.
+/// Puts what a consolidated file holds, and whether it is written again.
 #[tactic(auto, using(crate::proofs::Ordered::ordered_again))]
-fn add_view(
+fn put_view(
     alloc: Global,
-    out: &mut String,
+    out: &mut Reply,
     view: &ConsolidatedView<'_>,
     bytes: &[u8],
 ) -> Result<(), AllocError> {
@@ -110,49 +97,37 @@ fn add_view(
         starts: starts.as_slice(),
         vectors: vectors.as_slice(),
     };
-    add_parts(alloc, out, &parts, &view.closing(), bytes)
+    put_lists(out, &parts);
+    put_digest(out, "closed by", &view.closing());
+    put_sameness(out, write_consolidated(alloc, &parts), bytes);
+    Ok(())
 }
 
-/// Answers what a consolidated file holds.
-pub(crate) fn consolidated(alloc: Global, out: &mut String, bytes: &[u8]) -> Answer {
-    let added = match ConsolidatedView::view(bytes) {
-        Ok(view) => add_view(alloc, out, &view, bytes),
-        Err(fault) => writeln!(out, "{fault}"),
-    };
-    Ok(added?)
-}
-
-/// Adds what a coverage covers, and whether it is written as the file that was read.
-fn add_covering(
-    alloc: Global,
-    out: &mut String,
-    coverage: &Coverage<'_>,
-    bytes: &[u8],
-) -> Result<(), AllocError> {
-    add_coverage(out, coverage)?;
-    let again = coverage_set::write_consolidated(alloc, coverage)?;
-    writeln!(out, "{} again", sameness(again.as_slice(), bytes))
-}
-
-/// Adds what a consolidated file says of an object.
-fn add_covered(
-    alloc: Global,
-    out: &mut String,
-    map: &DecisionMap<'_>,
-    bytes: &[u8],
-) -> Result<(), AllocError> {
-    match read_consolidated(alloc, map, bytes) {
-        Ok(coverage) => add_covering(alloc, out, &coverage, bytes),
-        Err(Failure::Fault(fault)) => writeln!(out, "{fault}"),
-        Err(Failure::WantOfMemory) => Err(AllocError),
+/// Puts what a consolidated file holds.
+pub(crate) fn consolidated(alloc: Global, out: &mut Reply, bytes: &[u8]) {
+    match ConsolidatedView::view(bytes) {
+        Ok(view) => {
+            let done = put_view(alloc, out, &view, bytes);
+            out.note(done);
+        }
+        Err(fault) => out.put(format_args!("{fault}\n")),
     }
 }
 
-/// Answers what a consolidated file says of an object.
-pub(crate) fn covered(alloc: Global, out: &mut String, object: &Object, bytes: &[u8]) -> Answer
-    requires { IsSound object.now }
-{
-    let map = map_of(alloc, object)?;
-    add_covered(alloc, out, &map, bytes)?;
-    Ok(())
+/// Puts what a coverage covers, and whether it is written as the file that was read.
+fn put_covered(alloc: Global, out: &mut Reply, coverage: &Coverage<'_>, bytes: &[u8]) {
+    put_coverage(out, coverage);
+    put_sameness(
+        out,
+        coverage_set::write_consolidated(alloc, coverage),
+        bytes,
+    );
+}
+
+/// Puts what a consolidated file says of the object of a map.
+pub(crate) fn covered(alloc: Global, out: &mut Reply, map: &DecisionMap<'_>, bytes: &[u8]) {
+    match read_consolidated(alloc, map, bytes) {
+        Ok(coverage) => put_covered(alloc, out, &coverage, bytes),
+        Err(failure) => out.put_failure(failure),
+    }
 }

@@ -15,12 +15,20 @@ ghost use Rattle.cov_base.specs.Expr.{Expr, IsPostfixOf};
 ghost use Rattle.cov_base.specs.Lists.{Everywhere};
 ghost use Rattle.cov_base.specs.Path.{IsPathVector};
 
-use crate::fault::{Answer, CaseFault};
+use crate::reply::Reply;
 use crate::words::split_word;
 use condition_graph::{Graph, Next};
-use cov_base::{Bytes, CondIx, DecisionExpr, Failure, Vector};
+use cov_base::{Bytes, CondIx, DecisionExpr, Vector};
 use mcdc_verdicts::{all_edges, decision, masking, unique_cause};
-use std::alloc::{AllocError, Global};
+use std::alloc::Global;
+
+/// What is asked of a decision.
+#[derive(Clone, Copy)]
+pub(crate) enum Question {
+    Graph,
+    Edges,
+    Pairs,
+}
 
 /// Whether the bytes are the postfix bytes of a decision's expression.
 fn are_postfix(bytes: &[u8]) -> bool
@@ -61,23 +69,22 @@ fn byte_of(sign: u8) -> u8 {
     }
 }
 
-/// The postfix bytes that signs stand for.
-fn postfix_of(alloc: Global, signs: &str) -> Result<Vec<u8>, AllocError> {
+/// The graph of the decision that signs spell; none where they spell none, and the line is refused.
+fn graph_of(alloc: Global, out: &mut Reply, signs: &str) -> Option<Graph> {
     let mut postfix = Vec::new(alloc);
     for sign in signs.bytes() {
-        postfix.push(byte_of(sign))?;
+        out.note(postfix.push(byte_of(sign)));
     }
-    Ok(postfix)
-}
-
-/// The graph of a decision.
-fn graph_of(alloc: Global, signs: &str) -> Result<Graph, Failure<CaseFault>> {
-    let postfix = postfix_of(alloc, signs)?;
     if !are_postfix(postfix.as_slice()) {
-        return Err(Failure::Fault(CaseFault::Decision));
+        out.refuse("no decision");
+        return None;
     }
     let postfix = Bytes::from(postfix);
-    Ok(Graph::of(alloc, &DecisionExpr { postfix })?)
+    let graph = Graph::of(alloc, &DecisionExpr { postfix });
+    if graph.is_err() {
+        out.lack_memory();
+    }
+    graph.ok()
 }
 
 /// The vector that a word stands for.
@@ -94,15 +101,6 @@ fn vector_of(word: &str) -> Vector {
     v
 }
 
-/// The vectors that words stand for.
-fn vectors_of(alloc: Global, words: &str) -> Result<Vec<Vector>, AllocError> {
-    let mut vectors = Vec::new(alloc);
-    for word in words.split_ascii_whitespace() {
-        vectors.push(vector_of(word))?;
-    }
-    Ok(vectors)
-}
-
 /// Whether each vector is of a path of the graph.
 fn are_paths(graph: &Graph, vectors: &[Vector]) -> bool
     ensures { IsTrue result → Everywhere (IsPathVector graph.now) vectors.now }
@@ -115,65 +113,49 @@ fn are_paths(graph: &Graph, vectors: &[Vector]) -> bool
     true
 }
 
-/// Whether the bit of a condition is set.
-fn is_set(bits: u32, c: u8) -> bool {
-    bits.wrapping_shr(u32::from(c)) & 1 == 1
-}
-
-/// Adds a sign for each condition.
-fn add_vector(out: &mut String, graph: &Graph, v: Vector) -> Result<(), AllocError> {
+/// Puts a sign for each condition.
+fn put_vector(out: &mut Reply, graph: &Graph, v: Vector) {
     for c in 0..graph.conditions() as u8 {
-        out.push_str(if !is_set(v.seen, c) {
+        let bit = 1u32.wrapping_shl(u32::from(c));
+        out.put(if v.seen & bit == 0 {
             "-"
-        } else if is_set(v.value, c) {
-            "T"
         } else {
-            "F"
-        })?;
+            sign(v.value & bit != 0)
+        });
     }
-    Ok(())
 }
 
-/// Adds the two vectors of a pair, or that there is none.
-fn add_pair(
-    out: &mut String,
-    graph: &Graph,
-    pair: Option<(Vector, Vector)>,
-) -> Result<(), AllocError> {
+/// Puts the two vectors of a pair, or that there is none.
+fn put_pair(out: &mut Reply, graph: &Graph, pair: Option<(Vector, Vector)>) {
     match pair {
-        None => out.push_str("none"),
+        None => out.put("none"),
         Some((first, second)) => {
-            add_vector(out, graph, first)?;
-            out.push_str(" ")?;
-            add_vector(out, graph, second)
+            put_vector(out, graph, first);
+            out.put(" ");
+            put_vector(out, graph, second);
         }
     }
 }
 
 /// The sign of a value.
-fn sign(value: bool) -> char {
-    if value { 'T' } else { 'F' }
+fn sign(value: bool) -> &'static str {
+    if value { "T" } else { "F" }
 }
 
-/// Adds where the edge of a node for a value leads, and the path that ends there.
-fn add_edge(out: &mut String, graph: &Graph, c: u8, value: bool) -> Result<(), AllocError>
+/// Puts where the edge of a node for a value leads, and the path that ends there, and ends the line.
+fn put_edge(out: &mut Reply, graph: &Graph, c: u8, value: bool)
     requires { c < length graph.now }
 {
-    write!(out, "{c} {} to ", sign(value))?;
+    out.put(format_args!("{c} {} to ", sign(value)));
     match graph.next(CondIx(c), value) {
-        Next::Node(CondIx(node)) => write!(out, "{node}")?,
-        Next::Leaf(outcome) => write!(out, "{}", sign(outcome))?,
+        Next::Node(CondIx(node)) => out.put(node),
+        Next::Leaf(outcome) => out.put(sign(outcome)),
     }
-    add_path(out, graph, graph.path_of_leaf(CondIx(c), value))
-}
-
-/// Adds a path, if there is one, and ends the line.
-fn add_path(out: &mut String, graph: &Graph, path: Option<Vector>) -> Result<(), AllocError> {
-    if let Some(path) = path {
-        out.push_str(", path ")?;
-        add_vector(out, graph, path)?;
+    if let Some(path) = graph.path_of_leaf(CondIx(c), value) {
+        out.put(", path ");
+        put_vector(out, graph, path);
     }
-    out.push_str("\n")
+    out.put("\n");
 }
 
 /// Whether a graph is a tree, in words.
@@ -181,21 +163,13 @@ fn shape(graph: &Graph) -> &'static str {
     if graph.is_tree() { "tree" } else { "no tree" }
 }
 
-/// Adds what a graph is.
-fn add_graph(out: &mut String, graph: &Graph) -> Result<(), AllocError> {
-    writeln!(out, "{}", shape(graph))?;
+/// Puts what a graph is.
+fn put_graph(out: &mut Reply, graph: &Graph) {
+    out.put(format_args!("{}\n", shape(graph)));
     for c in 0..graph.conditions() as u8 {
-        add_edge(out, graph, c, false)?;
-        add_edge(out, graph, c, true)?;
+        put_edge(out, graph, c, false);
+        put_edge(out, graph, c, true);
     }
-    Ok(())
-}
-
-/// Answers what the graph of a decision is.
-pub(crate) fn graph(alloc: Global, out: &mut String, words: &str) -> Answer {
-    let graph = graph_of(alloc, words)?;
-    add_graph(out, &graph)?;
-    Ok(())
 }
 
 /// Whether paths of vectors take all edges, in words.
@@ -207,79 +181,65 @@ fn taken(graph: &Graph, vectors: &[Vector]) -> &'static str {
     }
 }
 
-/// Adds whether paths of the vectors that words stand for take all edges.
-fn add_taken(
-    alloc: Global,
-    out: &mut String,
-    graph: &Graph,
-    words: &str,
-) -> Result<(), AllocError> {
-    let vectors = vectors_of(alloc, words)?;
-    writeln!(out, "{}", taken(graph, vectors.as_slice()))
-}
-
-/// Answers whether paths of vectors take all edges.
-pub(crate) fn edges(alloc: Global, out: &mut String, words: &str) -> Answer {
-    let (signs, vectors) = split_word(words);
-    let graph = graph_of(alloc, signs)?;
-    add_taken(alloc, out, &graph, vectors)?;
-    Ok(())
-}
-
-/// Adds the outcomes and the unmasked conditions of vectors.
-fn add_outcomes(out: &mut String, graph: &Graph, vectors: &[Vector]) -> Result<(), AllocError>
+/// Puts the outcomes and the unmasked conditions of vectors.
+fn put_outcomes(out: &mut Reply, graph: &Graph, vectors: &[Vector])
     requires { Everywhere (IsPathVector graph.now) vectors.now }
 {
-    out.push_str("outcomes ")?;
+    out.put("outcomes ");
     for v in vectors {
-        write!(out, "{}", sign(graph.outcome(*v)))?;
+        out.put(sign(graph.outcome(*v)));
     }
-    out.push_str("\nunmasked")?;
+    out.put("\nunmasked");
     for v in vectors {
-        write!(out, " {:x}", graph.unmasked(*v))?;
+        out.put(format_args!(" {:x}", graph.unmasked(*v)));
     }
     let given = decision(graph, vectors);
-    writeln!(
-        out,
-        "\ngiven F {} T {}",
-        given.given_false, given.given_true
-    )
+    out.put(format_args!("\ngiven F {} T {}\n", given.given_false, given.given_true));
 }
 
-/// Adds the least pairs of each condition, by unique cause and by masking.
-fn add_pairs(out: &mut String, graph: &Graph, vectors: &[Vector]) -> Result<(), AllocError>
+/// Puts the least pairs of each condition, by unique cause and by masking.
+fn put_pairs(out: &mut Reply, graph: &Graph, vectors: &[Vector])
     requires { Everywhere (IsPathVector graph.now) vectors.now }
 {
     for c in 0..graph.conditions() as u8 {
-        write!(out, "{c}: ")?;
-        add_pair(out, graph, unique_cause(graph, vectors, CondIx(c)))?;
-        out.push_str(", ")?;
-        add_pair(out, graph, masking(graph, vectors, CondIx(c)))?;
-        out.push_str("\n")?;
+        out.put(format_args!("{c}: "));
+        put_pair(out, graph, unique_cause(graph, vectors, CondIx(c)));
+        out.put(", ");
+        put_pair(out, graph, masking(graph, vectors, CondIx(c)));
+        out.put("\n");
     }
-    Ok(())
 }
 
-/// Adds what vectors show of a decision.
-fn add_shown(out: &mut String, graph: &Graph, vectors: &[Vector]) -> Answer {
+/// Puts what vectors show of a decision.
+fn put_shown(out: &mut Reply, graph: &Graph, vectors: &[Vector]) {
     if !are_paths(graph, vectors) {
-        return Err(Failure::Fault(CaseFault::Path));
+        out.refuse("a vector of no path");
+        return;
     }
-    writeln!(out, "{}, {}", shape(graph), taken(graph, vectors))?;
-    add_outcomes(out, graph, vectors)?;
-    add_pairs(out, graph, vectors)?;
-    Ok(())
+    out.put(format_args!("{}, {}\n", shape(graph), taken(graph, vectors)));
+    put_outcomes(out, graph, vectors);
+    put_pairs(out, graph, vectors);
 }
 
-/// Adds what the vectors that words stand for show of a decision.
-fn add_shown_by(alloc: Global, out: &mut String, graph: &Graph, words: &str) -> Answer {
-    let vectors = vectors_of(alloc, words)?;
-    add_shown(out, graph, vectors.as_slice())
+/// Puts what a decision is, beside the vectors that words stand for.
+fn put_answer(alloc: Global, out: &mut Reply, question: Question, graph: &Graph, words: &str) {
+    let mut vectors = Vec::new(alloc);
+    for word in words.split_ascii_whitespace() {
+        out.note(vectors.push(vector_of(word)));
+    }
+    match question {
+        Question::Graph => put_graph(out, graph),
+        Question::Edges => {
+            out.put(format_args!("{}\n", taken(graph, vectors.as_slice())));
+        }
+        Question::Pairs => put_shown(out, graph, vectors.as_slice()),
+    }
 }
 
-/// Answers what vectors show of a decision.
-pub(crate) fn pairs(alloc: Global, out: &mut String, words: &str) -> Answer {
+/// Puts what is asked of the decision and the vectors that words stand for.
+pub(crate) fn answer(alloc: Global, out: &mut Reply, question: Question, words: &str) {
     let (signs, vectors) = split_word(words);
-    let graph = graph_of(alloc, signs)?;
-    add_shown_by(alloc, out, &graph, vectors)
+    if let Some(graph) = graph_of(alloc, out, signs) {
+        put_answer(alloc, out, question, &graph, vectors);
+    }
 }

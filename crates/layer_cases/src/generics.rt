@@ -12,15 +12,15 @@
 //! One object of the array's type is declared in the generic, one integer in no generic, and the words of
 //! both are told, by instance and in all.
 
-use crate::fault::Answer;
-use crate::words::{integer, number, split_word};
+use crate::reply::Reply;
+use crate::words::{capped, integer, split_word};
 use ada_resolved::{TypeSizes, bounds_in, constants_in, number_in};
 use ada_tree::{
     CompositeType, FormalActual, GenericConstant, Initial, Instance, LibraryObject, Operator,
     Owner, Program, Range, ScalarRange, Static, StaticValue, Subtype, TypeDeclaration,
 };
 use cov_base::{Bytes, Pos, Seq};
-use std::alloc::{AllocError, Global};
+use std::alloc::Global;
 use typed_program::discard_program;
 
 const INTEGER: ScalarRange = ScalarRange::Known(Range {
@@ -35,20 +35,20 @@ const OBJECT: StaticValue = StaticValue::Formal(0);
 const TYPE: ScalarRange = ScalarRange::Formal(Owner::Here, 1);
 
 /// The formal object, doubled by so many constants.
-fn doublings(alloc: Global, count: u32) -> Result<Vec<GenericConstant>, AllocError> {
+fn doublings(alloc: Global, out: &mut Reply, count: u32) -> Vec<GenericConstant> {
     let mut constants = Vec::new(alloc);
     for place in 0..count {
         let before = match place.checked_sub(1) {
             None => OBJECT,
             Some(place) => StaticValue::Constant(place),
         };
-        constants.push(GenericConstant {
+        out.note(constants.push(GenericConstant {
             generic: 0,
             value: Static::Operation(Operator::Add, before, before),
             range: INTEGER,
-        })?;
+        }));
     }
-    Ok(constants)
+    constants
 }
 
 /// The declaration of a composite type in the generic.
@@ -60,20 +60,23 @@ fn declared(definition: CompositeType) -> TypeDeclaration {
 }
 
 /// A record of two of the type with this number.
-fn twice(alloc: Global, number: u32) -> Result<CompositeType, AllocError> {
+fn twice(alloc: Global, out: &mut Reply, number: u32) -> CompositeType {
+    let mut parts = Vec::new(alloc);
     let part = Subtype::Composite(Owner::Here, number);
-    Ok(CompositeType::Record(Seq::from(vec![in alloc; part, part]?)))
+    out.note(parts.extend_from_slice(&[part, part]));
+    CompositeType::Record(Seq::from(parts))
 }
 
 /// An array over the formal type, doubled by so many records.
-fn types(alloc: Global, count: u32) -> Result<Vec<TypeDeclaration>, AllocError> {
+fn types(alloc: Global, out: &mut Reply, count: u32) -> Vec<TypeDeclaration> {
     let mut types = Vec::new(alloc);
     let array = CompositeType::Array(TYPE, Subtype::Scalar(INTEGER));
-    types.push(declared(array))?;
+    out.note(types.push(declared(array)));
     for number in 0..count {
-        types.push(declared(twice(alloc, number)?))?;
+        let record = twice(alloc, out, number);
+        out.note(types.push(declared(record)));
     }
-    Ok(types)
+    types
 }
 
 /// An object that is declared in a package of this generic.
@@ -87,20 +90,22 @@ fn object(declaration: u32, generic: Option<u32>, subtype: Subtype) -> LibraryOb
 }
 
 /// An object of the array's type in the generic, and an integer in no generic.
-fn objects(alloc: Global) -> Result<Vec<LibraryObject>, AllocError> {
+fn objects(alloc: Global, out: &mut Reply) -> Vec<LibraryObject> {
     let array = Subtype::Composite(Owner::Here, 0);
     let integer = Subtype::Scalar(INTEGER);
-    Ok(vec![in alloc; object(0, Some(0), array), object(1, None, integer)]?)
+    let mut objects = Vec::new(alloc);
+    out.note(objects.push(object(0, Some(0), array)));
+    out.note(objects.push(object(1, None, integer)));
+    objects
 }
 
 /// The instance that has this object and this range.
-fn instance(alloc: Global, object: i32, range: Range) -> Result<Instance, AllocError> {
+fn instance(alloc: Global, out: &mut Reply, object: i32, range: Range) -> Instance {
     let value = Static::Value(Owner::Here, StaticValue::Number(object));
-    let actuals = vec![in alloc;
-        FormalActual::Object(value, object),
-        FormalActual::Type(ScalarRange::Known(range), range, range),
-    ]?;
-    Ok(Instance {
+    let mut actuals = Vec::new(alloc);
+    out.note(actuals.push(FormalActual::Object(value, object)));
+    out.note(actuals.push(FormalActual::Type(ScalarRange::Known(range), range, range)));
+    Instance {
         name: Bytes::from(Vec::new(alloc)),
         place: Pos {
             file: 0,
@@ -110,23 +115,20 @@ fn instance(alloc: Global, object: i32, range: Range) -> Result<Instance, AllocE
         generic: 0,
         actuals: Seq::from(actuals),
         constants: Seq::from(Vec::new(alloc)),
-    })
+    }
 }
 
-/// A program that has these and nothing else.
-fn program_of(
-    alloc: Global,
-    types: Vec<TypeDeclaration>,
-    objects: Vec<LibraryObject>,
-    constants: Vec<GenericConstant>,
-    instances: Vec<Instance>,
-) -> Program {
+/// The program of the generic and its instance.
+fn program(alloc: Global, out: &mut Reply, object: i32, range: Range, count: u32) -> Program {
+    let mut instances = Vec::new(alloc);
+    let instance = instance(alloc, out, object, range);
+    out.note(instances.push(instance));
     Program {
         subprograms: Seq::from(Vec::new(alloc)),
         main: 0,
-        types: Seq::from(types),
-        objects: Seq::from(objects),
-        constants: Seq::from(constants),
+        types: Seq::from(types(alloc, out, count)),
+        objects: Seq::from(objects(alloc, out)),
+        constants: Seq::from(doublings(alloc, out, count)),
         instances: Seq::from(instances),
         declared: Seq::from(Vec::new(alloc)),
         exceptions: Seq::from(Vec::new(alloc)),
@@ -134,135 +136,88 @@ fn program_of(
     }
 }
 
-/// The program of the generic and its instance.
-fn program(alloc: Global, object: i32, range: Range, count: u32) -> Result<Program, AllocError> {
-    let types = types(alloc, count)?;
-    let objects = objects(alloc)?;
-    let constants = doublings(alloc, count)?;
-    let instances = vec![in alloc; instance(alloc, object, range)?]?;
-    Ok(program_of(alloc, types, objects, constants, instances))
-}
-
-/// Adds a number, or that there is none.
-fn add_number(out: &mut String, number: Option<i64>) -> Result<(), AllocError> {
+/// Puts a number, or that there is none.
+fn put_number(out: &mut Reply, number: Option<i64>) {
     match number {
-        Some(number) => write!(out, " {number}"),
-        None => out.push_str(" none"),
+        Some(number) => out.put(format_args!(" {number}")),
+        None => out.put(" none"),
     }
 }
 
-/// Adds bounds, and ends the line.
-fn add_bounds(out: &mut String, bounds: Option<Range>) -> Result<(), AllocError> {
-    match bounds {
-        Some(Range { first, last }) => writeln!(out, ", range {first} to {last}"),
-        None => out.push_str(", no range\n"),
-    }
-}
-
-/// Adds what the formals are in an instance.
-fn add_formals(out: &mut String, program: &Program, instance: u32) -> Result<(), AllocError> {
+/// Puts what the formals are in an instance.
+fn put_formals(out: &mut Reply, program: &Program, instance: u32) {
     let object = number_in(program, instance, Static::Value(Owner::Here, OBJECT));
     let length = number_in(program, instance, Static::Length(TYPE));
-    write!(out, "in {instance}: object")?;
-    add_number(out, object.map(i64::from))?;
-    out.push_str(", length")?;
-    add_number(out, length.map(i64::from))?;
-    add_bounds(out, bounds_in(program, instance, TYPE))
-}
-
-/// Adds the values of constants.
-fn add_values(out: &mut String, values: &[Option<i32>]) -> Result<(), AllocError> {
-    out.push_str("constants:")?;
-    for value in values {
-        add_number(out, value.map(i64::from))?;
+    out.put(format_args!("in {instance}: object"));
+    put_number(out, object.map(i64::from));
+    out.put(", length");
+    put_number(out, length.map(i64::from));
+    match bounds_in(program, instance, TYPE) {
+        Some(Range { first, last }) => out.put(format_args!(", range {first} to {last}\n")),
+        None => out.put(", no range\n"),
     }
-    out.push_str("\n")
 }
 
-/// Adds the values of the constants in the instance.
-fn add_constants(alloc: Global, out: &mut String, program: &Program) -> Result<(), AllocError> {
-    let values = constants_in(alloc, program, 1, 0)?;
-    add_values(out, values.as_slice())
+/// Puts the values of the constants in the instance.
+fn put_constants(alloc: Global, out: &mut Reply, program: &Program) {
+    match constants_in(alloc, program, 1, 0) {
+        Ok(values) => {
+            out.put("constants:");
+            for value in values.as_slice() {
+                put_number(out, value.map(i64::from));
+            }
+            out.put("\n");
+        }
+        Err(_) => out.lack_memory(),
+    }
 }
 
-/// Adds the sizes of so many types of an owner, seen from an instance.
-fn add_sizes(
-    out: &mut String,
-    sizes: &TypeSizes<'_>,
-    instance: u32,
-    owner: Owner,
-    count: u32,
-) -> Result<(), AllocError> {
-    write!(out, "sizes in {instance}:")?;
+/// Puts the sizes of so many types of an owner, seen from an instance.
+fn put_sizes(out: &mut Reply, sizes: &TypeSizes<'_>, instance: u32, owner: Owner, count: u32) {
+    out.put(format_args!("sizes in {instance}:"));
     for number in 0..count {
         let size = sizes.size_in(instance, Subtype::Composite(owner, number));
-        add_number(out, size.map(i64::from))?;
+        put_number(out, size.map(i64::from));
     }
-    out.push_str("\n")
+    out.put("\n");
 }
 
-/// Adds how many words objects take in the instance, in no generic, and in all.
-fn add_words(out: &mut String, sizes: &TypeSizes<'_>) -> Result<(), AllocError> {
-    out.push_str("words in 1, in 0, in all:")?;
-    add_number(out, sizes.instance_size(1).map(i64::from))?;
-    add_number(out, sizes.instance_size(0).map(i64::from))?;
-    add_number(out, sizes.program_size().map(i64::from))?;
-    out.push_str("\n")
+/// Puts the sizes of so many types, in the instance, in no generic, and in the instance from outside; and
+/// how many words objects take in the instance, in no generic, and in all.
+fn put_all_sizes(out: &mut Reply, sizes: &TypeSizes<'_>, count: u32) {
+    put_sizes(out, sizes, 1, Owner::Here, count);
+    put_sizes(out, sizes, 0, Owner::Here, count);
+    put_sizes(out, sizes, 0, Owner::Instance(1), count);
+    out.put("words in 1, in 0, in all:");
+    put_number(out, sizes.instance_size(1).map(i64::from));
+    put_number(out, sizes.instance_size(0).map(i64::from));
+    put_number(out, sizes.program_size().map(i64::from));
+    out.put("\n");
 }
 
-/// Adds the sizes of so many types, in the instance, in no generic, and in the instance from outside; and
-/// how many words objects take.
-fn add_all_sizes(
-    alloc: Global,
-    out: &mut String,
-    program: &Program,
-    count: u32,
-) -> Result<(), AllocError> {
-    let sizes = TypeSizes::of(alloc, program)?;
-    add_sizes(out, &sizes, 1, Owner::Here, count)?;
-    add_sizes(out, &sizes, 0, Owner::Here, count)?;
-    add_sizes(out, &sizes, 0, Owner::Instance(1), count)?;
-    add_words(out, &sizes)
+/// Puts what everything in the program comes to.
+fn put_program(alloc: Global, out: &mut Reply, program: &Program, count: u32) {
+    put_formals(out, program, 1);
+    put_formals(out, program, 0);
+    put_constants(alloc, out, program);
+    match TypeSizes::of(alloc, program) {
+        Ok(sizes) => put_all_sizes(out, &sizes, count.saturating_add(1)),
+        Err(_) => out.lack_memory(),
+    }
 }
 
-/// Adds what everything in the program comes to.
-fn add_program(
-    alloc: Global,
-    out: &mut String,
-    program: &Program,
-    count: u32,
-) -> Result<(), AllocError> {
-    add_formals(out, program, 1)?;
-    add_formals(out, program, 0)?;
-    add_constants(alloc, out, program)?;
-    add_all_sizes(alloc, out, program, count.saturating_add(1))
-}
-
-/// Adds what the generic comes to in its instance.
-fn add_generic(
-    alloc: Global,
-    out: &mut String,
-    object: i32,
-    range: Range,
-    count: u32,
-) -> Result<(), AllocError> {
-    let program = program(alloc, object, range, count)?;
-    let added = add_program(alloc, out, &program, count);
-    discard_program(program);
-    added
-}
-
-/// Answers what a generic comes to in an instance.
-pub(crate) fn generic(alloc: Global, out: &mut String, words: &str) -> Answer {
+/// Puts what a generic comes to in an instance.
+pub(crate) fn generic(alloc: Global, out: &mut Reply, words: &str) {
     let (object, words) = split_word(words);
     let (first, words) = split_word(words);
     let (last, count) = split_word(words);
-    let object = integer(object)?;
+    let object = integer(out, object);
     let range = Range {
-        first: integer(first)?,
-        last: integer(last)?,
+        first: integer(out, first),
+        last: integer(out, last),
     };
-    let count = u32::try_from(number(count)?).unwrap_or(u32::MAX);
-    add_generic(alloc, out, object, range, count)?;
-    Ok(())
+    let count = capped(out, count);
+    let program = program(alloc, out, object, range, count);
+    put_program(alloc, out, &program, count);
+    discard_program(program);
 }

@@ -1,25 +1,24 @@
 //! `word HEX`: the instruction that a word holds, and the word that holds that instruction.
 
-use crate::fault::Answer;
+use crate::reply::Reply;
 use crate::words::address;
 use rv_isa::{Instr, Reg, decode, encode};
-use std::alloc::AllocError;
 
-/// Adds the name of an instruction.
-fn add_name(out: &mut String, i: Instr) -> Result<(), AllocError> {
+/// Puts the name of an instruction.
+fn put_name(out: &mut Reply, i: Instr) {
     match i {
-        Instr::Upper { op, .. } => write!(out, "{op:?}"),
-        Instr::Jal { .. } => out.push_str("Jal"),
-        Instr::Jalr { .. } => out.push_str("Jalr"),
-        Instr::Branch { op, .. } => write!(out, "{op:?}"),
-        Instr::Load { op, .. } => write!(out, "{op:?}"),
-        Instr::Store { op, .. } => write!(out, "{op:?}"),
-        Instr::Immediate { op, .. } => write!(out, "{op:?}"),
-        Instr::Shift { op, .. } => write!(out, "{op:?}"),
-        Instr::Register { op, .. } => write!(out, "{op:?}"),
-        Instr::Fence { .. } => out.push_str("Fence"),
-        Instr::Ecall => out.push_str("Ecall"),
-        Instr::Ebreak => out.push_str("Ebreak"),
+        Instr::Upper { op, .. } => out.put(format_args!("{op:?}")),
+        Instr::Jal { .. } => out.put("Jal"),
+        Instr::Jalr { .. } => out.put("Jalr"),
+        Instr::Branch { op, .. } => out.put(format_args!("{op:?}")),
+        Instr::Load { op, .. } => out.put(format_args!("{op:?}")),
+        Instr::Store { op, .. } => out.put(format_args!("{op:?}")),
+        Instr::Immediate { op, .. } => out.put(format_args!("{op:?}")),
+        Instr::Shift { op, .. } => out.put(format_args!("{op:?}")),
+        Instr::Register { op, .. } => out.put(format_args!("{op:?}")),
+        Instr::Fence { .. } => out.put("Fence"),
+        Instr::Ecall => out.put("Ecall"),
+        Instr::Ebreak => out.put("Ebreak"),
     }
 }
 
@@ -40,46 +39,44 @@ fn registers(i: Instr) -> [Option<Reg>; 3] {
     }
 }
 
-/// Adds the numbers of registers.
-fn add_registers(out: &mut String, registers: &[Option<Reg>]) -> Result<(), AllocError> {
+/// Puts the numbers of registers.
+fn put_registers(out: &mut Reply, registers: &[Option<Reg>]) {
     for register in registers {
         if let Some(register) = register {
-            write!(out, " {}", register.number())?;
+            out.put(format_args!(" {}", register.number()));
         }
     }
-    Ok(())
 }
 
-/// Adds the immediate of an instruction: the amount of a shift, and else its raw bits.
-fn add_immediate(out: &mut String, i: Instr) -> Result<(), AllocError> {
+/// Puts the immediate of an instruction: the amount of a shift, and else its raw bits.
+fn put_immediate(out: &mut Reply, i: Instr) {
     match i {
         Instr::Upper { imm, .. } | Instr::Jal { halves: imm, .. } => {
-            write!(out, " {:#x}", imm.bits())
+            out.put(format_args!(" {:#x}", imm.bits()))
         }
         Instr::Branch { halves: imm, .. }
         | Instr::Jalr { imm, .. }
         | Instr::Load { imm, .. }
         | Instr::Store { imm, .. }
         | Instr::Immediate { imm, .. }
-        | Instr::Fence { imm, .. } => write!(out, " {:#x}", imm.bits()),
-        Instr::Shift { by, .. } => write!(out, " {}", by.amount()),
-        Instr::Register { .. } | Instr::Ecall | Instr::Ebreak => Ok(()),
+        | Instr::Fence { imm, .. } => out.put(format_args!(" {:#x}", imm.bits())),
+        Instr::Shift { by, .. } => out.put(format_args!(" {}", by.amount())),
+        Instr::Register { .. } | Instr::Ecall | Instr::Ebreak => {}
     }
 }
 
-/// Adds an instruction: its name, its registers, its immediate and its word.
-fn add_instruction(out: &mut String, i: Instr) -> Result<(), AllocError> {
-    add_name(out, i)?;
-    add_registers(out, &registers(i))?;
-    add_immediate(out, i)?;
-    writeln!(out, " {:08x}", encode(&i))
+/// Puts an instruction: its name, its registers, its immediate and its word.
+fn put_instruction(out: &mut Reply, i: Instr) {
+    put_name(out, i);
+    put_registers(out, &registers(i));
+    put_immediate(out, i);
+    out.put(format_args!(" {:08x}\n", encode(&i)));
 }
 
 /// What the layer of instructions says of a word.
-pub(crate) fn word(out: &mut String, digits: &str) -> Answer {
-    match decode(address(digits)?) {
-        Some(i) => add_instruction(out, i)?,
-        None => out.push_str("none\n")?,
+pub(crate) fn word(out: &mut Reply, digits: &str) {
+    match decode(address(out, digits)) {
+        Some(i) => put_instruction(out, i),
+        None => out.put("none\n"),
     }
-    Ok(())
 }

@@ -24,20 +24,19 @@ mod asking;
 mod blobs;
 mod consolidated;
 mod decisions;
-mod fault;
 mod generics;
 mod instructions;
 mod laws;
 mod lists;
 mod objects;
 mod pieces;
+mod reply;
 mod runs;
 mod sources;
 mod words;
 
 use blobs::Blobs;
-use cov_base::Failure;
-use fault::Answer;
+use reply::Reply;
 use std::alloc::Global;
 use std::io;
 use std::io::{BufRead, BufReader, BufWriter, Write};
@@ -62,16 +61,7 @@ fn put_answer<W: Write>(
     line: io::Result<String>,
 ) -> io::Result<()> {
     let line = line?;
-    let mut answer = String::new(alloc);
-    let outcome = asking::answer(alloc, blobs, &mut answer, line.as_str());
-    put_outcome(out, line.as_str(), answer.as_str(), outcome)
-}
-
-/// Puts an answer, or why there is none.
-fn put_outcome<W: Write>(out: &mut W, line: &str, answer: &str, outcome: Answer) -> io::Result<()> {
-    match outcome {
-        Ok(()) => out.write_all(answer.as_bytes()),
-        Err(Failure::Fault(fault)) => writeln!(out, "? {line}: {fault}"),
-        Err(Failure::WantOfMemory) => writeln!(out, "? {line}: want of memory"),
-    }
+    let mut reply = Reply::new(alloc);
+    asking::answer(alloc, blobs, &mut reply, line.as_str());
+    reply.write(out, line.as_str())
 }

@@ -8,21 +8,19 @@
 //! | `added OBJECT MOST CALL..` | what a coverage of the object has once the latest blob, so read, is added |
 //! | `rebuilt OBJECT MORE` | the evaluations of the latest blob's history, where there is room for so many at first |
 
-ghost use Rattle.std.specs.Prelude.{IfOk};
-ghost use Rattle.coverage_set.specs.Read.{IsOpened};
+ghost use Rattle.std.specs.Prelude.{◌≡◌};
 ghost use Rattle.object_format.specs.Checked.{IsSound};
 
-use crate::fault::{Answer, CaseFault};
-use crate::objects::map_of;
-use crate::runs::{add_block, add_coverage, add_entry, add_event, view_of};
-use crate::words::{add_hex, number, split_word};
-use cov_base::{Digest, Failure};
+use crate::reply::Reply;
+use crate::runs::{put_block, put_coverage, put_entry, put_event};
+use crate::words::{capped, number, numbers, split_word};
+use cov_base::Failure;
 use cov_io::{Entry as File, FileFault, Files, MemFiles};
-use coverage_set::{AddFault, Coverage};
+use coverage_set::Coverage;
 use decision_map::{DecisionMap, FitState};
 use object_format::Object;
-use std::alloc::{AllocError, Global};
-use trace_format::{Block, Entry, HistoryEntry, ReaderFault, TraceReader, TraceView};
+use std::alloc::Global;
+use trace_format::{Block, Entry, HistoryEntry, TraceReader, TraceView};
 use vector_rebuild::Rebuild;
 
 /// The name of the file that is read.
@@ -72,244 +70,202 @@ impl Files for Cut {
 
 /// Files that hold these bytes as the trace. The words tell how many bytes a part has at most, and the
 /// numbers of the reads that fail.
-fn cut_by(alloc: Global, bytes: &[u8], words: &str) -> Result<Cut, Failure<CaseFault>> {
+fn cut_by(alloc: Global, out: &mut Reply, bytes: &[u8], words: &str) -> Cut {
     let (most, calls) = split_word(words);
-    let most = number(most)?;
-    let mut failing = Vec::new(alloc);
-    for call in calls.split_ascii_whitespace() {
-        failing.push(number(call)? as u64)?;
-    }
+    let most = number(out, most);
+    let failing = numbers(alloc, out, calls);
+    let mut name = String::new(alloc);
+    out.note(name.push_str(NAME));
+    let mut held = Vec::new(alloc);
+    out.note(held.extend_from_slice(bytes));
     let mut contents = Vec::new(alloc);
-    contents.push(File {
-        name: String::from_str(alloc, NAME)?,
-        bytes: Vec::from_slice(alloc, bytes)?,
-    })?;
-    Ok(Cut {
-        files: MemFiles::new(contents, failing),
-        most,
-    })
+    out.note(contents.push(File { name, bytes: held }));
+    let files = MemFiles::new(contents, failing);
+    Cut { files, most }
 }
 
-/// Adds why a file is not read further.
-fn add_failure(out: &mut String, failure: Failure<ReaderFault>) -> Answer {
-    match failure {
-        Failure::Fault(fault) => {
-            writeln!(out, "{fault}")?;
-            Ok(())
-        }
-        Failure::WantOfMemory => Err(Failure::WantOfMemory),
-    }
-}
-
-/// Adds an entry of a trace.
-fn add_given(out: &mut String, entry: Entry) -> Result<(), AllocError> {
+/// Puts an entry of a trace.
+fn put_given(out: &mut Reply, entry: Entry) {
     match entry {
-        Entry::Head { ending, .. } => writeln!(out, "ending {ending}"),
-        Entry::Block { start, last, flags } => add_block(out, Block { start, last, flags }),
-        Entry::History { address, x8, edge } => add_entry(out, HistoryEntry { address, x8, edge }),
-        Entry::Close { digest } => add_closing(out, &digest),
-    }
-}
-
-/// Adds the digest that closes a trace.
-fn add_closing(out: &mut String, digest: &Digest) -> Result<(), AllocError> {
-    out.push_str("closed by ")?;
-    add_hex(out, digest.as_slice())?;
-    out.push_str("\n")
-}
-
-/// Adds what a reader gives, up to the end or to a fault, and what it answers when it is asked again.
-fn add_entries(out: &mut String, files: &mut Cut, reader: &mut TraceReader) -> Answer {
-    for _ in 0..u64::MAX {
-        match reader.next(files) {
-            Ok(Some(entry)) => add_given(out, entry)?,
-            Ok(None) => return add_again(out, files, reader),
-            Err(failure) => {
-                add_failure(out, failure)?;
-                return add_again(out, files, reader);
-            }
+        Entry::Head { ending, .. } => out.put(format_args!("ending {ending}\n")),
+        Entry::Block { start, last, flags } => put_block(out, Block { start, last, flags }),
+        Entry::History { address, x8, edge } => put_entry(out, HistoryEntry { address, x8, edge }),
+        Entry::Close { digest } => {
+            out.put("closed by ");
+            out.put_hex(digest.as_slice());
         }
     }
-    Ok(())
 }
 
-/// Adds what a reader answers behind its end.
-fn add_again(out: &mut String, files: &mut Cut, reader: &mut TraceReader) -> Answer {
+/// Puts what a reader gives next: an entry, this text at the end, or a fault. Says whether it is an entry.
+fn put_next(out: &mut Reply, files: &mut Cut, reader: &mut TraceReader, end: &str) -> bool {
     match reader.next(files) {
-        Ok(Some(entry)) => add_given(out, entry)?,
-        Ok(None) => out.push_str("end\n")?,
-        Err(failure) => return add_failure(out, failure),
-    }
-    Ok(())
-}
-
-/// Answers what a reader gives of the latest blob.
-pub(crate) fn pieces(alloc: Global, out: &mut String, words: &str, blob: &[u8]) -> Answer {
-    let mut files = cut_by(alloc, blob, words)?;
-    match TraceReader::open(alloc, &mut files, NAME) {
-        Ok(mut reader) => add_entries(out, &mut files, &mut reader),
-        Err(failure) => add_failure(out, failure),
-    }
-}
-
-/// Adds a part of a file, or that it could not be read.
-fn add_portion(out: &mut String, read: Result<(), FileFault>, part: &[u8]) -> Answer {
-    match read {
-        Ok(()) => {
-            add_hex(out, part)?;
-            out.push_str("\n")?;
+        Ok(Some(entry)) => {
+            put_given(out, entry);
+            true
         }
-        Err(FileFault::Failed) => out.push_str("failed\n")?,
-        Err(FileFault::NoMemory) => return Err(Failure::WantOfMemory),
+        Ok(None) => {
+            out.put(end);
+            false
+        }
+        Err(failure) => {
+            out.put_failure(failure);
+            false
+        }
     }
-    Ok(())
 }
 
-/// Answers a part of the latest blob.
-pub(crate) fn portion(alloc: Global, out: &mut String, words: &str, blob: &[u8]) -> Answer {
+/// Puts what a reader gives, up to the end or to a fault, and what it answers when it is asked again.
+fn put_entries(out: &mut Reply, files: &mut Cut, reader: &mut TraceReader) {
+    for _ in 0..u64::MAX {
+        if !put_next(out, files, reader, "") {
+            break;
+        }
+    }
+    put_next(out, files, reader, "end\n");
+}
+
+/// Puts what a reader gives of the latest blob.
+pub(crate) fn pieces(alloc: Global, out: &mut Reply, words: &str, blob: &[u8]) {
+    let mut files = cut_by(alloc, out, blob, words);
+    match TraceReader::open(alloc, &mut files, NAME) {
+        Ok(mut reader) => put_entries(out, &mut files, &mut reader),
+        Err(failure) => out.put_failure(failure),
+    }
+}
+
+/// Puts a part of a file, or that it could not be read.
+fn put_portion(out: &mut Reply, read: Result<(), FileFault>, part: &[u8]) {
+    match read {
+        Ok(()) => out.put_hex(part),
+        Err(FileFault::Failed) => out.put("failed\n"),
+        Err(FileFault::NoMemory) => out.lack_memory(),
+    }
+}
+
+/// Puts a part of the latest blob.
+pub(crate) fn portion(alloc: Global, out: &mut Reply, words: &str, blob: &[u8]) {
     let (from, most) = split_word(words);
-    let mut files = cut_by(alloc, blob, most)?;
+    let mut files = cut_by(alloc, out, blob, most);
     let mut part = Vec::new(alloc);
-    let from = number(from)? as u64;
+    let from = number(out, from) as u64;
     let most = files.most.max(1);
     let read = files.read_part(NAME, from, most, &mut part);
-    add_portion(out, read, part.as_slice())?;
+    put_portion(out, read, part.as_slice());
     let read = files.read_part("another", from, 1, &mut part);
-    add_portion(out, read, part.as_slice())
+    put_portion(out, read, part.as_slice());
 }
 
-/// A reader of the trace.
-fn opened(alloc: Global, files: &mut Cut) -> Result<TraceReader, Failure<CaseFault>>
-    ensures { IfOk result (IsOpened (⟦<Cut as Files>⟧.held files.new)) }
-{
-    match TraceReader::open(alloc, files, NAME) {
-        Ok(reader) => Ok(reader),
-        Err(Failure::Fault(fault)) => Err(Failure::Fault(CaseFault::Reader(fault))),
-        Err(Failure::WantOfMemory) => Err(Failure::WantOfMemory),
-    }
-}
-
-/// What the checks beside the object find of the entries of a trace.
-fn add_fitting(
-    out: &mut String,
+/// Puts what the checks beside the object find of the entries of a trace.
+fn put_fitting(
+    out: &mut Reply,
     files: &mut Cut,
     reader: &mut TraceReader,
     state: &mut FitState<'_>,
-) -> Answer {
+) {
     for _ in 0..u64::MAX {
         match reader.next(files) {
             Ok(Some(entry)) => state.see(&entry),
             Ok(None) => break,
-            Err(failure) => return add_failure(out, failure),
+            Err(failure) => return out.put_failure(failure),
         }
     }
     match state.end() {
-        Ok(()) => out.push_str("fits\n")?,
-        Err(fault) => writeln!(out, "{fault}")?,
+        Ok(()) => out.put("fits\n"),
+        Err(fault) => out.put(format_args!("{fault}\n")),
     }
-    Ok(())
 }
 
-/// Answers whether the latest blob, read in pieces, can be a trace of an object.
+/// Puts whether the latest blob, read in pieces, can be a trace of the object of a map.
 pub(crate) fn fitting(
     alloc: Global,
-    out: &mut String,
-    object: &Object,
+    out: &mut Reply,
+    map: &DecisionMap<'_>,
     words: &str,
     blob: &[u8],
-) -> Answer
-    requires { IsSound object.now }
-{
-    let map = map_of(alloc, object)?;
-    let mut files = cut_by(alloc, blob, words)?;
-    let mut reader = opened(alloc, &mut files)?;
-    let mut state = FitState::new(alloc, &map)?;
-    add_fitting(out, &mut files, &mut reader, &mut state)
-}
-
-/// Adds why a trace is not added.
-fn add_refusal(out: &mut String, failure: Failure<AddFault>) -> Answer {
-    match failure {
-        Failure::Fault(fault) => {
-            writeln!(out, "{fault}")?;
-            Ok(())
-        }
-        Failure::WantOfMemory => Err(Failure::WantOfMemory),
+) {
+    let mut files = cut_by(alloc, out, blob, words);
+    match TraceReader::open(alloc, &mut files, NAME) {
+        Ok(mut reader) => match FitState::new(alloc, map) {
+            Ok(mut state) => put_fitting(out, &mut files, &mut reader, &mut state),
+            Err(_) => out.lack_memory(),
+        },
+        Err(failure) => out.refuse_file("trace", failure),
     }
 }
 
-/// Answers what a coverage of an object has once the latest blob, read in pieces, is added to it.
+/// Puts what a coverage of an object has once the latest blob, read in pieces, is added to it.
 pub(crate) fn added(
     alloc: Global,
-    out: &mut String,
+    out: &mut Reply,
     object: &Object,
+    map: &DecisionMap<'_>,
     words: &str,
     blob: &[u8],
-) -> Answer
-    requires { IsSound object.now }
+)
+    requires sound { IsSound map.now }
+    requires map { map.now ≡ object.now }
 {
-    let map = map_of(alloc, object)?;
     let mut coverage = Coverage::new(alloc, object);
-    let mut files = cut_by(alloc, blob, words)?;
-    let mut reader = opened(alloc, &mut files)?;
-    if let Err(failure) = coverage.add_read(&map, &mut files, &mut reader) {
-        add_refusal(out, failure)?;
+    let mut files = cut_by(alloc, out, blob, words);
+    match TraceReader::open(alloc, &mut files, NAME) {
+        Ok(mut reader) => {
+            if let Err(failure) = coverage.add_read(map, &mut files, &mut reader) {
+                out.put_failure(failure);
+            }
+            put_coverage(out, &coverage);
+        }
+        Err(failure) => out.refuse_file("trace", failure),
     }
-    add_coverage(out, &coverage)?;
-    Ok(())
 }
 
-/// Feeds an entry of a history, if its executions are kept, and adds the evaluation that it completes.
-fn add_fed(
-    out: &mut String,
-    map: &DecisionMap<'_>,
-    rebuild: &mut Rebuild,
-    entry: HistoryEntry,
-) -> Answer
+/// Feeds an entry of a history, if its executions are kept, and puts the evaluation that it completes.
+fn put_fed(out: &mut Reply, map: &DecisionMap<'_>, rebuild: &mut Rebuild, entry: HistoryEntry)
     requires { IsSound map.now }
 {
     if rebuild.fed() == u32::MAX || !map.needs_history(entry.address) {
-        return Err(Failure::Fault(CaseFault::Path));
+        out.refuse("a vector of no path");
+        return;
     }
     match rebuild.feed(map, entry) {
-        Ok(Some(event)) => add_event(out, event)?,
+        Ok(Some(event)) => put_event(out, event),
         Ok(None) => {}
-        Err(Failure::Fault(broken)) => writeln!(out, "{broken}")?,
-        Err(Failure::WantOfMemory) => return Err(Failure::WantOfMemory),
+        Err(failure) => out.put_failure(failure),
     }
-    Ok(())
 }
 
-/// Feeds the entries of a history, of which so many have room.
-fn add_history(
+/// Puts the evaluations of a trace's history, where there is room for so many entries at first.
+fn put_rebuilt(
     alloc: Global,
-    out: &mut String,
+    out: &mut Reply,
     map: &DecisionMap<'_>,
     view: &TraceView<'_>,
     more: u32,
-) -> Answer
+)
     requires { IsSound map.now }
 {
     let mut rebuild = Rebuild::new(alloc);
-    rebuild.reserve(more)?;
+    out.note(rebuild.reserve(more));
     for at in 0..view.history() {
-        add_fed(out, map, &mut rebuild, view.entry(at))?;
+        put_fed(out, map, &mut rebuild, view.entry(at));
     }
-    Ok(())
 }
 
-/// Answers the evaluations of the latest blob's history, where there is room for some entries at first.
+/// Puts the evaluations of the latest blob's history, where there is room for some entries at first.
 pub(crate) fn rebuilt(
     alloc: Global,
-    out: &mut String,
-    object: &Object,
+    out: &mut Reply,
+    map: &DecisionMap<'_>,
     words: &str,
     blob: &[u8],
-) -> Answer
-    requires { IsSound object.now }
+)
+    requires { IsSound map.now }
 {
-    let map = map_of(alloc, object)?;
-    let view = view_of(blob)?;
-    let more = number(words)?.min(1 << 16) as u32;
-    add_history(alloc, out, &map, &view, more)
+    match TraceView::view(blob) {
+        Ok(view) => {
+            let more = capped(out, words).min(1 << 16);
+            put_rebuilt(alloc, out, map, &view, more);
+        }
+        Err(fault) => out.refuse(format_args!("trace: {fault}")),
+    }
 }

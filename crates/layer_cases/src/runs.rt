@@ -6,219 +6,161 @@
 //! | `fit OBJECT` | whether the latest blob can be a trace of the object |
 //! | `events OBJECT TRACE..` | how many runs the traces are, and their events, each once |
 
-ghost use Rattle.std.specs.Prelude.{◌≡◌, IfOk};
+ghost use Rattle.std.specs.Prelude.{◌≡◌};
 ghost use Rattle.object_format.specs.Checked.{IsSound};
 
 use crate::blobs::Blobs;
-use crate::fault::{Answer, CaseFault};
-use crate::objects::map_of;
-use cov_base::{Event, Failure};
+use crate::reply::Reply;
+use cov_base::Event;
 use coverage_set::{Coverage, Join};
 use decision_map::DecisionMap;
 use object_format::Object;
-use std::alloc::{AllocError, Global};
+use std::alloc::Global;
 use trace_format::{Block, HistoryEntry, TraceView};
 
-/// Adds a block.
-pub(crate) fn add_block(out: &mut String, block: Block) -> Result<(), AllocError> {
+/// Puts a block.
+pub(crate) fn put_block(out: &mut Reply, block: Block) {
     let Block { start, last, flags } = block;
-    writeln!(out, "block {start:x} to {last:x} flags {flags}")
+    out.put(format_args!("block {start:x} to {last:x} flags {flags}\n"));
 }
 
-/// Adds an entry of a history.
-pub(crate) fn add_entry(out: &mut String, entry: HistoryEntry) -> Result<(), AllocError> {
+/// Puts an entry of a history.
+pub(crate) fn put_entry(out: &mut Reply, entry: HistoryEntry) {
     let HistoryEntry { address, x8, edge } = entry;
-    writeln!(out, "entry {address:x} frame {x8:x} edge {edge}")
+    out.put(format_args!("entry {address:x} frame {x8:x} edge {edge}\n"));
 }
 
-/// Adds what a trace holds.
-fn add_trace(out: &mut String, view: &TraceView<'_>) -> Result<(), AllocError> {
-    writeln!(out, "ending {}", view.ending())?;
+/// Puts what a trace holds.
+fn put_trace(out: &mut Reply, view: &TraceView<'_>) {
+    out.put(format_args!("ending {}\n", view.ending()));
     for at in 0..view.blocks() {
-        add_block(out, view.block(at))?;
+        put_block(out, view.block(at));
     }
     for at in 0..view.history() {
-        add_entry(out, view.entry(at))?;
+        put_entry(out, view.entry(at));
     }
-    Ok(())
 }
 
-/// Answers what a trace file holds.
-pub(crate) fn trace(out: &mut String, bytes: &[u8]) -> Answer {
+/// Puts what a trace file holds.
+pub(crate) fn trace(out: &mut Reply, bytes: &[u8]) {
     match TraceView::view(bytes) {
-        Err(fault) => writeln!(out, "{fault}")?,
-        Ok(view) => add_trace(out, &view)?,
+        Err(fault) => out.put(format_args!("{fault}\n")),
+        Ok(view) => put_trace(out, &view),
     }
-    Ok(())
 }
 
-/// A view of a trace file.
-pub(crate) fn view_of(bytes: &[u8]) -> Result<TraceView<'_>, Failure<CaseFault>> {
+/// Puts whether a trace file can be one of the object of a map.
+pub(crate) fn fit(out: &mut Reply, map: &DecisionMap<'_>, bytes: &[u8]) {
     match TraceView::view(bytes) {
-        Ok(view) => Ok(view),
-        Err(fault) => Err(Failure::Fault(CaseFault::Trace(fault))),
+        Err(fault) => out.refuse(format_args!("trace: {fault}")),
+        Ok(view) => match map.fit(&view) {
+            Err(fault) => out.put(format_args!("{fault}\n")),
+            Ok(()) => out.put("fits\n"),
+        },
     }
 }
 
-/// Adds whether a trace can be one of an object.
-fn add_fit(alloc: Global, out: &mut String, object: &Object, trace: &[u8]) -> Answer
-    requires { IsSound object.now }
-{
-    let view = view_of(trace)?;
-    let map = map_of(alloc, object)?;
-    put_fit(out, &map, &view)?;
-    Ok(())
-}
-
-/// Adds whether a trace fits the map of an object.
-fn put_fit(
-    out: &mut String,
-    map: &DecisionMap<'_>,
-    view: &TraceView<'_>,
-) -> Result<(), AllocError> {
-    match map.fit(view) {
-        Ok(()) => out.push_str("fits\n"),
-        Err(fault) => writeln!(out, "{fault}"),
-    }
-}
-
-/// Answers whether the latest blob can be a trace of an object.
-pub(crate) fn fit_latest(alloc: Global, blobs: &Blobs, out: &mut String, object: &Object) -> Answer
-    requires { IsSound object.now }
-{
-    add_fit(alloc, out, object, blobs.latest()?)
-}
-
-/// Offers a trace to a coverage.
-fn offer(
-    map: &DecisionMap<'_>,
-    coverage: &mut Coverage<'_>,
-    view: &TraceView<'_>,
-) -> Result<(), Failure<CaseFault>>
+/// Adds a trace to a coverage, or refuses the line where it can't be one of the object.
+fn cover(out: &mut Reply, map: &DecisionMap<'_>, coverage: &mut Coverage<'_>, view: &TraceView<'_>)
     requires sound { IsSound map.now }
     requires object { map.now ≡ coverage.old.object }
     ensures { coverage.new.object ≡ coverage.old.object }
 {
     match map.fit(view) {
-        Ok(()) => match coverage.add_trace(map, view) {
-            Ok(()) => Ok(()),
-            Err(Failure::Fault(broken)) => Err(Failure::Fault(CaseFault::Broken(broken))),
-            Err(Failure::WantOfMemory) => Err(Failure::WantOfMemory),
-        },
-        Err(fault) => Err(Failure::Fault(CaseFault::Fit(fault))),
+        Err(fault) => out.refuse(format_args!("trace: {fault}")),
+        Ok(()) => {
+            if let Err(failure) = coverage.add_trace(map, view) {
+                out.refuse_file("trace", failure);
+            }
+        }
     }
 }
 
-/// What one trace of an object covers.
-fn covered<'a>(
-    alloc: Global,
-    map: &DecisionMap<'_>,
-    object: &'a Object,
-    trace: &[u8],
-) -> Result<Coverage<'a>, Failure<CaseFault>>
-    requires sound { IsSound map.now }
-    requires object { map.now ≡ object.now }
-    ensures { IfOk result (λ coverage. coverage.object ≡ object.now) }
-{
-    let view = view_of(trace)?;
-    let mut coverage = Coverage::new(alloc, object);
-    offer(map, &mut coverage, &view)?;
-    Ok(coverage)
-}
-
-/// Joins what one trace of an object covers to what others do.
+/// Joins what one trace file of an object covers to what others do.
 fn join_trace<'a>(
     alloc: Global,
+    out: &mut Reply,
     map: &DecisionMap<'_>,
     object: &'a Object,
     trace: &[u8],
     all: &mut Coverage<'a>,
-) -> Answer
+)
     requires sound { IsSound map.now }
     requires map { map.now ≡ object.now }
     requires all { all.old.object ≡ object.now }
     ensures { all.new.object ≡ all.old.object }
 {
-    let one = covered(alloc, map, object, trace)?;
-    all.join(&one)?;
-    Ok(())
+    match TraceView::view(trace) {
+        Err(fault) => out.refuse(format_args!("trace: {fault}")),
+        Ok(view) => {
+            let mut one = Coverage::new(alloc, object);
+            cover(out, map, &mut one, &view);
+            let joined = all.join(&one);
+            out.note(joined);
+        }
+    }
 }
 
 /// Joins what each of the named traces of an object covers. Each is covered alone.
 fn join_traces<'a>(
     alloc: Global,
     blobs: &Blobs,
+    out: &mut Reply,
     map: &DecisionMap<'_>,
     object: &'a Object,
     names: &str,
     all: &mut Coverage<'a>,
-) -> Answer
+)
     requires sound { IsSound map.now }
     requires map { map.now ≡ object.now }
     requires all { all.old.object ≡ object.now }
     ensures { all.new.object ≡ all.old.object }
 {
     for name in names.split_ascii_whitespace() {
-        join_trace(alloc, map, object, blobs.named(name)?, all)?;
+        let trace = blobs.named(out, name);
+        join_trace(alloc, out, map, object, trace, all);
     }
-    Ok(())
 }
 
-/// What traces of an object cover together.
-fn covered_by_all<'a>(
-    alloc: Global,
-    blobs: &Blobs,
-    object: &'a Object,
-    names: &str,
-) -> Result<Coverage<'a>, Failure<CaseFault>>
-    requires { IsSound object.now }
-    ensures { IfOk result (λ coverage. coverage.object ≡ object.now) }
-{
-    let map = map_of(alloc, object)?;
-    let mut all = Coverage::new(alloc, object);
-    join_traces(alloc, blobs, &map, object, names, &mut all)?;
-    Ok(all)
-}
-
-/// Adds an event.
-pub(crate) fn add_event(out: &mut String, event: Event) -> Result<(), AllocError> {
+/// Puts an event.
+pub(crate) fn put_event(out: &mut Reply, event: Event) {
     match event {
         Event::Start(statement, instance) => {
-            writeln!(out, "start {} instance {}", statement.0, instance.0)
+            out.put(format_args!("start {} instance {}\n", statement.0, instance.0));
         }
         Event::Done(decision, instance, vector) => {
-            write!(out, "done {} instance {} ", decision.0, instance.0)?;
-            writeln!(out, "seen {:b} true {:b}", vector.seen, vector.value)
+            out.put(format_args!("done {} instance {} ", decision.0, instance.0));
+            out.put(format_args!("seen {:b} true {:b}\n", vector.seen, vector.value));
         }
     }
 }
 
-/// Adds how many runs there were, and their events.
-fn add_runs(out: &mut String, runs: u64, events: &[Event]) -> Result<(), AllocError> {
-    writeln!(out, "{runs} runs")?;
-    for event in events {
-        add_event(out, *event)?;
+/// Puts how many runs were covered, and their events.
+pub(crate) fn put_coverage(out: &mut Reply, coverage: &Coverage<'_>) {
+    match coverage.events() {
+        Ok(events) => {
+            out.put(format_args!("{} runs\n", coverage.runs()));
+            for event in events.as_slice() {
+                put_event(out, *event);
+            }
+        }
+        Err(_) => out.lack_memory(),
     }
-    Ok(())
 }
 
-/// Adds what was covered.
-pub(crate) fn add_coverage(out: &mut String, coverage: &Coverage<'_>) -> Result<(), AllocError> {
-    let events = coverage.events()?;
-    add_runs(out, coverage.runs(), events.as_slice())
-}
-
-/// Answers the events of traces of an object.
+/// Puts the events of traces of an object.
 pub(crate) fn events(
     alloc: Global,
     blobs: &Blobs,
-    out: &mut String,
+    out: &mut Reply,
     object: &Object,
+    map: &DecisionMap<'_>,
     names: &str,
-) -> Answer
-    requires { IsSound object.now }
+)
+    requires sound { IsSound map.now }
+    requires map { map.now ≡ object.now }
 {
-    let coverage = covered_by_all(alloc, blobs, object, names)?;
-    add_coverage(out, &coverage)?;
-    Ok(())
+    let mut all = Coverage::new(alloc, object);
+    join_traces(alloc, blobs, out, map, object, names, &mut all);
+    put_coverage(out, &all);
 }
