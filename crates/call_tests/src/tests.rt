@@ -2,8 +2,8 @@
 
 mod faults;
 
-use commands::{FileRef, Status, gnatcov};
 use cov_io::{Entry, Files, MemFiles, MemSink};
+use public_call::{FileRef, Status, gnatcov};
 use std::alloc::{AllocError, Global};
 
 /// A statement that puts, and one behind a return.

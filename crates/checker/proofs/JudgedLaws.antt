@@ -1,6 +1,6 @@
 -- All units in one of the steps, of the rules' definitions, and where the walk over them begins and ends.
 use Rattle.std.proofs.Common.{◌≡◌, ℕ, Bool, true, false, if◌then◌else◌, List, [], ◌∷◌, length, map, reverse, replicate, Some, None, Result, Ok, Err, refl, sym, ap, ◌∙◌, subst}
-use Rattle.std.proofs.lemmas.List.{reverse-reverse, append-nil}
+use Rattle.std.proofs.lemmas.List.{reverse-reverse}
 use Rattle.cov_base.specs.declared.position.Pos.{Pos}
 use Rattle.cov_base.specs.declared.failure.Failure.{Failure}
 use Rattle.ada_syntax.specs.declared.unit.Unit.{Unit as LibraryUnit}
@@ -21,19 +21,17 @@ use Rattle.ada_library.specs.LibraryView.{IsLibrary}
 use Rattle.ada_phrases.specs.declared.scope.Step.{Step}
 use Rattle.ada_phrases.specs.Scopes.{step_of}
 use Rattle.ada_phrases.proofs.Parts.{passes_on, in_part, refused_as}
-use Rattle.ada_demands.specs.SpanEntries.{listed_of}
-use Rattle.ada_demands.specs.SpanViews.{listed}
 use Rattle.program_walk.specs.Changes.{Becomes}
-use Rattle.program_walk.specs.Exact.{exact}
-use Rattle.program_walk.proofs.WalkLaws.{exact_begins, fresh_holds}
+use Rattle.program_walk.proofs.WalkLaws.{fresh_holds}
 use Rattle.program_walk.specs.declared.walk.Walk.{Walk}
 use Rattle.program_walk.specs.States.{state_of}
 use Rattle.program_walk.specs.Walks.{Begins, IsBeginning}
 use Rattle.library_units.proofs.Grown.{grown}
 use Rattle.program_walk.proofs.GoingLaws.{refused_behind}
 use Rattle.library_units.specs.Words.{StandsBefore, PassesBodies, ComesToAllBodies, IsIdle, PassesUnits, ComesToUnits, GoesBehind, IsWalked}
-use Rattle.checker.specs.declared.steps.WholeWalk.{WholeWalk}
-use Rattle.checker.specs.Judging.{IsWholeLibrary, IsMainThere, EndsAs, IsEnd, IsJudged}
+use Rattle.walked_program.specs.declared.whole_walk.WholeWalk.{WholeWalk}
+use Rattle.walked_program.proofs.Tables.{tables_there, begins_there}
+use Rattle.walked_program.specs.Judging.{IsWholeLibrary, IsMainThere, EndsAs, IsEnd, IsJudged}
 
 -- the parts of a step, each where those before it pass
 abbrev pub behind_bodies : Walked → State → Walked
@@ -79,16 +77,6 @@ module _ (step : rules.Step) (l : RulesLibrary) (main : List ℕ) where
           → (judged_in step l main).answer ≡ answer_at nowhere (then_main l main x s).outcome
       main_decides s h =
           at_bodies ∙ passes_on nowhere (all_bodies_judged step l x.world x.next 0 l.units).answer (then_main l main x) s h
-
--- the tables that have just what a walk has declared and listed
-abbrev pub tables_there : Walk → Tables
-tables_there w = exact w.symbols (map listed_of (listed w.spans))
-
-pub begins_there : (w : Walk) → Begins w (tables_there w)
-begins_there w = record {
-  symbols = exact_begins w.symbols (map listed_of (listed w.spans));
-  spans = record { more = []; is = sym (append-nil (map listed_of (listed w.spans))) };
-}
 
 -- before any unit the walk stands in the rules' first world
 none_seen : (us : List LibraryUnit) → map (λ u. no_interface) us ≡ replicate (length us) no_interface

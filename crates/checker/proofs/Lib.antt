@@ -1,4 +1,1 @@
 pub mod JudgedLaws
-pub mod WeightLaws
-pub mod CheckedLaws
-pub mod LimitLaws

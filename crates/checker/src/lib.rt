@@ -2,22 +2,20 @@
 //!
 //! The contract that the layers above use: [`check`] answers the typed program of the rules, or else the
 //! first of the rules' steps that refuses the units, and the rules' own place; that each refusal has a
-//! reason there is [`a_refusal_is_of_a_broken_rule`]. `specs/Checking.antt` says what a refusal is,
-//! `typed_program/specs/Entries.antt` what the limits ask of the units, `specs/TypeWeights.antt` that the typed program's
-//! composite types weigh no more than what the text declares.
+//! reason there is [`a_refusal_is_of_a_broken_rule`]. `walked_program/specs/Checking.antt` says what a
+//! refusal is, and `program_weights` what the limits ask of the units and what the typed program's composite
+//! types weigh.
 //!
 //! The steps are those of the rules: [`judged`] walks over all units, once for the rules on names and once
-//! for those on types, and leaves all that it has declared and found (`specs/Judging.antt`); the demands
-//! on static values, the counted limits and the typed program stand on what the second walk has left.
+//! for those on types, and leaves all that it has declared and found (`walked_program/specs/Judging.antt`);
+//! the demands on static values, the counted limits and the typed program stand on what the second walk has
+//! left.
 #![tactic(auto)]
 
-mod fault;
-mod laws;
 mod steps;
 mod whole;
 
-pub use fault::CheckFault;
-pub use laws::a_refusal_is_of_a_broken_rule;
-pub use steps::{WholeWalk, judged};
+pub use steps::judged;
 pub use typed_program::discard_program;
+pub use walked_program::{CheckFault, WholeWalk, a_refusal_is_of_a_broken_rule};
 pub use whole::check;

@@ -2,7 +2,7 @@
 
 ghost use Rattle.std.specs.Prelude.{◌≡◌};
 ghost use Rattle.ada_rules.specs.Denoted as rules;
-ghost use Rattle.checker.specs.Judging.{IsMainThere, ComesToEnd, ComesToJudged};
+ghost use Rattle.walked_program.specs.Judging.{IsMainThere, ComesToEnd, ComesToJudged};
 
 use ada_demands::Instances;
 use ada_entities::{Refusal, refused};
@@ -13,14 +13,7 @@ use cov_base::{Failure, Pos};
 use library_units::{all_bodies, all_shown, instances_before};
 use program_walk::Walk;
 use std::alloc::Global;
-
-/// What the walk over all units leaves: what it has declared and found, and what instances have for the
-/// formals and the constants of their generics.
-#[derive(Drop)]
-pub struct WholeWalk {
-    pub walk: Walk,
-    pub instances: Instances,
-}
+use walked_program::WholeWalk;
 
 /// Where the first file begins: there a program without its main unit is refused.
 fn nowhere() -> Pos

@@ -1,12 +1,12 @@
-//! Plays a script of commands, and prints the transcript: what each call of [`commands::gnatcov`]
+//! Plays a script of commands, and prints the transcript: what each call of [`public_call::gnatcov`]
 //! over real files put, and its status. The script comes from standard input; [`case_script::Line`] has
 //! its language.
 #![tactic(auto)]
 
 use anyhow::Result;
 use case_script::{Call, Script, put_answer};
-use commands::gnatcov;
 use cov_io::{Files, HostFiles, HostSink, MemSink, Sink};
+use public_call::gnatcov;
 use std::alloc::Global;
 use std::io;
 use std::io::{BufRead, BufReader};

@@ -3,9 +3,9 @@ use Rattle.std.proofs.Common.{◌≡◌, inl, inr, ⊎_elim, ℕ, ◌+◌, ◌&&
 use Rattle.std.specs.FinMap as finmap
 use Rattle.ada_meaning.specs.Program.{Program}
 use Rattle.command_words.specs.Task.{Task, Compile, Run, Coverage, Consolidate}
-use Rattle.compiler.proofs.Refusals.{not_refused}
-use Rattle.compiler.specs.Behaves.{number_of}
-use Rattle.compiler.specs.Source.{IsObjectOf}
+use Rattle.program_objects.proofs.Refusals.{not_refused}
+use Rattle.program_objects.specs.Behaves.{number_of}
+use Rattle.program_objects.specs.Source.{IsObjectOf}
 use Rattle.cov_base.specs.declared.obligations.SourceFile.{SourceFile}
 use Rattle.cov_io.specs.Outside.{Held}
 use Rattle.cov_base.specs.declared.event.Event.{Event}

@@ -6,8 +6,8 @@ use Rattle.ada_meaning.specs.Program.{Program}
 use Rattle.ada_meaning.proofs.FuelExecution.{one_ending_law}
 use Rattle.annotated_report.specs.Report.{report_text}
 use Rattle.command_words.specs.Task.{Task}
-use Rattle.compiler.specs.Behaves.{Behaves, ShowsExecution}
-use Rattle.compiler.specs.Source.{entry_of_file, IsObjectOf}
+use Rattle.program_objects.specs.Behaves.{Behaves, ShowsExecution}
+use Rattle.program_objects.specs.Source.{entry_of_file, IsObjectOf}
 use Rattle.cov_base.specs.declared.event.Event.{Event}
 use Rattle.cov_base.specs.declared.level.Level.{Level}
 use Rattle.cov_base.specs.declared.obligations.Obligations.{Obligations}

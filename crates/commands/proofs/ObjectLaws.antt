@@ -8,9 +8,9 @@ use Rattle.commands.specs.Content.{RefusesSources}
 use Rattle.commands.specs.declared.status.Status.{Status}
 use Rattle.commands.specs.Failures.{source_status}
 use Rattle.commands.specs.Reading.{UnlessMemory}
-use Rattle.compiler.specs.Built.{HasPlainName}
-use Rattle.compiler.specs.declared.fault.SourceFault.{SourceFault}
-use Rattle.compiler.specs.Legal.{RefusesFor}
+use Rattle.program_objects.specs.Built.{HasPlainName}
+use Rattle.program_objects.specs.declared.fault.SourceFault.{SourceFault}
+use Rattle.program_objects.specs.Legal.{RefusesFor}
 use Rattle.cov_base.specs.declared.failure.Failure.{Failure}
 use Rattle.cov_base.specs.declared.failure.Failure.TheVariants.{Fault}
 use Rattle.cov_base.specs.declared.failure.Failure.TheVariants as failures

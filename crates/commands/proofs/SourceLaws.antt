@@ -14,7 +14,7 @@ use Rattle.commands.specs.Outcome.{CannotGet, Prepares, Stops}
 use Rattle.commands.specs.Reading.{IsUnread, StopsReading, UnlessMemory, WereHeld, WereSources}
 use Rattle.commands.specs.TaskFiles.{AreHeld}
 use Rattle.commands.specs.Verdict.{Output, AfterSources, Compiles, ComesTo}
-use Rattle.compiler.specs.Legal.{AreRefused}
+use Rattle.program_objects.specs.Legal.{AreRefused}
 
 -- the names of sources
 abbrev pub names_of : List SourceFile → List (List ℕ)

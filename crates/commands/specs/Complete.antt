@@ -4,8 +4,8 @@ use Rattle.std.specs.FinMap as finmap
 use Rattle.ada_meaning.specs.Execution.{Execution, Ends}
 use Rattle.ada_meaning.specs.Program.{Program}
 use Rattle.command_words.specs.Task.{Task, Compile, Run, Coverage, Consolidate}
-use Rattle.compiler.specs.Legal.{IsLegal}
-use Rattle.compiler.specs.Source.{IsObjectOf, IsCheap}
+use Rattle.program_objects.specs.Legal.{IsLegal}
+use Rattle.program_objects.specs.Source.{IsObjectOf, IsCheap}
 use Rattle.cov_base.specs.declared.level.Annotation.{Annotation}
 use Rattle.cov_base.specs.declared.level.Level.{Level}
 use Rattle.cov_base.specs.declared.obligations.SourceFile.{SourceFile}

@@ -5,8 +5,8 @@ use Rattle.std.specs.Fmt.{decimal}
 use Rattle.std.specs.List.{AllByRecursion, starts_with}
 use Rattle.annotated_report.specs.Report.{report_text}
 use Rattle.ada_meaning.specs.Program.{Program}
-use Rattle.compiler.specs.Legal.{AreRefused}
-use Rattle.compiler.specs.Source.{IsObjectOf, IsCheap}
+use Rattle.program_objects.specs.Legal.{AreRefused}
+use Rattle.program_objects.specs.Source.{IsObjectOf, IsCheap}
 use Rattle.cov_base.specs.declared.event.Event.{Event}
 use Rattle.cov_base.specs.declared.failure.Failure.TheVariants.{Fault}
 use Rattle.cov_base.specs.declared.level.Annotation.{Annotation}
@@ -18,7 +18,7 @@ use Rattle.coverage_set.specs.Written as consolidations
 use Rattle.decision_map.specs.declared.fault.FitFault.{FitFault}
 use Rattle.decision_map.specs.Fits.{fault_of}
 use Rattle.cov_base.specs.Lists.{Somewhere}
-use Rattle.compiler.specs.declared.fault.SourceFault.{SourceFault}
+use Rattle.program_objects.specs.declared.fault.SourceFault.{SourceFault}
 use Rattle.commands.specs.declared.status.Status.{Status}
 use Rattle.commands.specs.declared.status.Status.TheVariants.{SourceRefused, ObjectRefused, TraceRefused, InputRefused, OverBudget, Trap}
 use Rattle.commands.specs.declared.status.TraceWhy.TheVariants.{File, Fit, Broken, Consolidated}

@@ -3,7 +3,7 @@ use Rattle.std.specs.Prelude.{ℕ}
 use Rattle.cov_base.specs.declared.failure.Failure.{Failure}
 use Rattle.cov_base.specs.declared.failure.Failure.TheVariants.{Fault}
 use Rattle.cov_base.specs.declared.failure.Failure.TheVariants as failures
-use Rattle.compiler.specs.declared.fault.SourceFault.{SourceFault}
+use Rattle.program_objects.specs.declared.fault.SourceFault.{SourceFault}
 use Rattle.rv32_emulator.specs.declared.input_file.InputFault.{InputFault}
 use Rattle.rv32_emulator.specs.declared.emulator.RunFault.{RunFault}
 use Rattle.rv32_emulator.specs.declared.emulator.RunFault.TheVariants as runs

@@ -6,7 +6,7 @@ use Rattle.object_format.specs.declared.fault.ObjectFault.TheVariants.{Short, Ma
 use Rattle.commands.specs.declared.status.Status.{Status}
 use Rattle.commands.specs.declared.status.Status.TheVariants.{Done, Usage, SourceRefused, ObjectRefused, TraceRefused, InputRefused, OverBudget, Trap, ReadFault, WriteFault, WantOfMemory}
 use Rattle.commands.specs.TraceWords.{address_text, trace_text}
-use Rattle.compiler.specs.Why.{why_text}
+use Rattle.program_objects.specs.Why.{why_text}
 use Rattle.rv_semantics.specs.TrapWords.{trap_words}
 
 -- the exit status of the program

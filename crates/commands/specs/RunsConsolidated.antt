@@ -3,7 +3,7 @@ use Rattle.std.specs.Prelude.{◌≡◌, ℕ, List, Option, Some}
 use Rattle.std.specs.FinMap as finmap
 use Rattle.ada_meaning.specs.Program.{Program}
 use Rattle.command_words.specs.Task.{Task, Consolidate}
-use Rattle.compiler.specs.Source.{IsObjectOf}
+use Rattle.program_objects.specs.Source.{IsObjectOf}
 use Rattle.cov_base.specs.declared.obligations.SourceFile.{SourceFile}
 use Rattle.cov_base.specs.Lists.{Everywhere}
 use Rattle.cov_io.specs.Outside.{Held, WhereTold, Appends, Replaces}

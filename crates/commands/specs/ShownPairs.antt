@@ -6,7 +6,7 @@ use Rattle.ada_meaning.specs.Program.{Program}
 use Rattle.annotated_report.specs.Findings.{asks_pairs}
 use Rattle.annotated_report.specs.Paired.{EndsInPairs}
 use Rattle.command_words.specs.Task.{Task, Coverage}
-use Rattle.compiler.specs.Source.{IsObjectOf}
+use Rattle.program_objects.specs.Source.{IsObjectOf}
 use Rattle.cov_base.specs.declared.level.Annotation.{Annotation}
 use Rattle.cov_base.specs.declared.level.Level.{Level}
 use Rattle.cov_base.specs.declared.obligations.SourceFile.{SourceFile}

@@ -1,27 +1,31 @@
-//! The commands of gnatcov as one call: [`gnatcov`] takes the command words, the files and the
-//! sink of the output, and answers a [`Status`].
+//! What the commands of gnatcov do but for compiling: files are read and checked, runs are made and traces
+//! covered, reports and files written, and each refusal is told in one line. `public_call` joins these to
+//! the public call.
 //!
-//! A command reads its files, checks all of them and makes its output before anything is written
-//! or put. So a refusal leaves the files as they were and puts one line, which tells it.
+//! A command reads its files, checks all of them and makes its output ([`Ready`]) before anything is written
+//! or put ([`deliver`]). So a refusal leaves the files as they were and puts one line, which tells it.
 //!
-//! The contract of [`gnatcov`] begins with one clause that determines each answer, `answers`, over
-//! `Answers` of `specs/Outcome.antt`. Those that follow from it are for a reader: when files
-//! change, why a read or a write fault comes, and that after `coverage` over the object of a
-//! program and traces of its runs the report is that of the program's own executions.
+//! The definitions of what a command comes to stand here, with the laws that follow from them:
+//! `specs/Outcome.antt` says why each status comes, and `specs/Content.antt` what it says of the bytes that
+//! were read.
 #![tactic(auto)]
 
+mod delivery;
 mod laws;
 mod ready;
 mod run_lines;
 mod status;
-mod top_call;
 
-pub use compiler::Why;
 pub use decision_map::FitFault;
+pub use delivery::{deliver, put_line, refuse};
 pub use laws::grouping_does_not_matter;
 pub use object_format::ObjectFault;
+pub use program_objects::Why;
+pub use ready::compiled::{status_of, told};
+pub use ready::coverage::{self, Product};
+pub use ready::sources::read_sources;
+pub use ready::{Ready, ReadyFile, run};
 pub use rv_machine::TrapWhy;
-pub use status::{FileRef, Status, TraceWhy};
-pub use top_call::gnatcov;
+pub use status::{FileRef, OUT_OF_MEMORY_LINE, Status, TraceWhy, USAGE_LINE, WRITE_FAULT_LINE};
 pub use trace_format::{ConsFault, TraceFault};
 pub use vector_rebuild::BrokenHistory;

@@ -1,29 +1,23 @@
 //! Making a command's output: all files are read and checked, and nothing is written or put yet.
 
 ghost use Rattle.std.specs.Prelude.{◌≡◌, OnOk, IfOk, IfErr, IfSome};
-ghost use Rattle.command_words.specs.Command.{task_view};
-ghost use Rattle.command_words.specs.Task.{IsWithinLimits};
 ghost use Rattle.cov_io.specs.Outside.{Holds};
 ghost use Rattle.commands.specs.Content.{IsFileOf, RefusesObject};
 ghost use Rattle.commands.specs.Failures.{object_status};
-ghost use Rattle.commands.specs.Outcome.{Prepares};
 ghost use Rattle.commands.specs.Reading.{IsUnread, UnlessMemory};
-ghost use Rattle.commands.specs.Ready.{verdict_view};
 
-use crate::ready::coverage::Product;
 use crate::status::{FileRef, Status};
-use command_words::Command;
 use cov_base::Failure;
 use cov_io::{FileFault, Files};
 use object_format::{Object, ObjectFault, read_object};
 use std::alloc::Global;
 
-mod compile;
+pub mod compiled;
 mod consolidate;
-mod coverage;
+pub mod coverage;
 mod report;
-mod run;
-mod sources;
+pub mod run;
+pub mod sources;
 mod traces;
 
 /// A file to be written.
@@ -38,53 +32,6 @@ pub struct ReadyFile<'a> {
 pub struct Ready<'a> {
     pub file: Option<ReadyFile<'a>>,
     pub text: Vec<u8>,
-}
-
-/// Makes the output of a command, or says why there is none.
-pub fn prepare<'a, F: Files>(
-    alloc: Global,
-    command: &Command<'a>,
-    files: &mut F,
-) -> Result<Ready<'a>, Status>
-    requires { IsWithinLimits (task_view command.now) }
-    ensures prepares { Prepares (task_view command.now) (F.held files.old) (F.reads_failed files.old)
-        (F.reads_failed files.new) (verdict_view result) }
-    ensures same { F.held files.new ≡ F.held files.old }
-    ensures writes { F.writes_failed files.new ≡ F.writes_failed files.old }
-{
-    match command {
-        Command::Compile {
-            main,
-            object,
-            sources,
-        } => compile::prepare(alloc, main, object, sources.as_slice(), files),
-        Command::Run {
-            input,
-            budget,
-            trace,
-            object,
-        } => run::prepare(alloc, input, *budget, trace, object, files),
-        Command::Coverage {
-            level,
-            annotate,
-            object,
-            traces,
-        } => {
-            let product = Product::Report {
-                level: *level,
-                annotate: *annotate,
-            };
-            coverage::prepare(alloc, product, object, traces.as_slice(), files)
-        }
-        Command::Consolidate {
-            object,
-            out,
-            traces,
-        } => {
-            let product = Product::File { name: out };
-            coverage::prepare(alloc, product, object, traces.as_slice(), files)
-        }
-    }
 }
 
 /// The bytes of the file in this place among those that the command reads.

@@ -5,9 +5,9 @@ ghost use Rattle.commands.specs.declared.status.Status.TheVariants.{WantOfMemory
 ghost use Rattle.commands.specs.Lines.{number_of, line_of, object_word};
 ghost use Rattle.commands.specs.TraceWords.{address_text, trace_text, place_text, fit_text, foreign_text, consolidated_text};
 
-use compiler::Why;
 use decision_map::FitFault;
 use object_format::ObjectFault;
+use program_objects::Why;
 use rv_machine::TrapWhy;
 use std::alloc::{AllocError, Global};
 use trace_format::{ConsFault, TraceFault};

@@ -13,18 +13,18 @@ use Rattle.ada_syntax.specs.declared.unit.Unit.{Unit as LibraryUnit}
 use Rattle.ada_tree.specs.declared.program.Program.{Program as TypedProgram}
 use Rattle.ada_tree.specs.declared.program.UnitEntry.{UnitEntry}
 use Rattle.ada_tree.specs.Programs.{program_of}
-use Rattle.checker.specs.Checking as checker
-use Rattle.checker.specs.Checking.{HasEntries, IsBroken, whole_library}
-use Rattle.checker.specs.declared.fault.CheckFault.{CheckFault}
-use Rattle.compiler.specs.Checking.{illegal, too_large, AreFew, PassesLimit, has_too_many, passes, no_memory}
-use Rattle.compiler.specs.Legal as units
-use Rattle.compiler.specs.Legal.{entries_in, entries_for, AreProgram, UnitsAreRefused, RefusesUnits, RefusesFor}
-use Rattle.compiler.specs.Units.{HaveUnits, FailsFor}
-use Rattle.compiler.specs.declared.fault.SourceFault.{SourceFault}
-use Rattle.compiler.proofs.FewNodes.{none_refused}
-use Rattle.generic_expand.specs.Expanded as expanded
+use Rattle.walked_program.specs.Checking as checker
+use Rattle.walked_program.specs.Checking.{IsBroken}
+use Rattle.program_weights.specs.Wholes.{HasEntries, whole_library}
+use Rattle.walked_program.specs.declared.fault.CheckFault.{CheckFault}
+use Rattle.compiler.specs.Checking.{illegal}
+use Rattle.program_objects.specs.Expanding.{AreFew, PassesLimit, has_too_many, passes, no_memory}
+use Rattle.program_objects.specs.Legal as units
+use Rattle.program_objects.specs.Legal.{entries_in, entries_for, AreProgram, UnitsAreRefused, RefusesUnits, RefusesFor}
+use Rattle.program_objects.specs.Units.{HaveUnits, FailsFor}
+use Rattle.program_objects.specs.declared.fault.SourceFault.{SourceFault}
+use Rattle.program_objects.proofs.FewNodes.{none_refused}
 use Rattle.generic_expand.specs.Expanded.{past_instances, first_past}
-use Rattle.generic_expand.specs.declared.fault.ExpandFault.{ExpandFault}
 
 -- by the rules, with the reason for each refusal
 pub illegal_units : (us : List LibraryUnit) (main : List ℕ)
@@ -35,11 +35,6 @@ illegal_units us main reasons _ (checker.breaks_types is) = units.breaks_types i
 illegal_units us main reasons _ (checker.passes_a_limit is) = units.passes_a_limit is (reasons us main _ (checker.passes_a_limit is))
 illegal_units us main reasons _ checker.memory_is_out = tt
 
-pub large_units : (entries : List UnitEntry) (f : Failure ExpandFault) → expanded.Refuses entries f → PassesLimit entries (too_large f)
-large_units entries _ (expanded.has_too_many past) = has_too_many past
-large_units entries _ (expanded.passes_the_limit few past) = passes few past
-large_units entries _ expanded.memory_is_out = no_memory
-
 -- what holds of an answer holds of it where its refusal is told otherwise
 pub told_otherwise : {A E D : Type 0} (P : A → Type 0) (R : E → D → Type 0) (r : Result A E) (x : Result A D) → MatchResult r (λ a. x ≡ Ok a) (λ e. IsErrAnd x (R e))
     → IfOk r P → IfOk x P
@@ -47,7 +42,7 @@ told_otherwise P R (Ok a) x h p = subst (λ y. IfOk y P) (sym h) p
 told_otherwise P R (Err e) (Err d) h p = tt
 told_otherwise P R (Err e) (Ok a) h p = absurd h
 
-pub ruleset refusals = (illegal_units, large_units)
+pub ruleset refusals = (illegal_units)
 
 -- the entries of a typed program are those that the limits ask of its units
 pub entries_are : (us : List LibraryUnit) (main : List ℕ) (p : TypedProgram) → checked us main ≡ legal (program_of p) → HasEntries (whole_library us) main p

@@ -1,14 +1,1 @@
-pub mod Behaves
-pub mod Held
-pub mod Made
-pub mod Compiled
-pub mod Legal
-pub mod Source
-pub mod Built
 pub mod Checking
-pub mod Listed
-pub mod Texts
-pub mod Steps
-pub mod Units
-pub mod Why
-pub mod Kernels

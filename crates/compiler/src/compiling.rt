@@ -2,29 +2,19 @@
 
 ghost use Rattle.std.specs.Prelude.{◌≡◌, ◌<◌, ◌≤◌, All, IfOk, IfErr, length};
 ghost use Rattle.ada_meaning.specs.Program.{Program};
-ghost use Rattle.compiler.specs.Built.{HasPlainName};
-ghost use Rattle.compiler.specs.Legal.{RefusesFor};
-ghost use Rattle.compiler.specs.Source.{IsObjectOf, IsCheap};
-ghost use Rattle.object_format.specs.File.{closed_object, object_bytes};
-ghost use Rattle.object_format.specs.Read.{IsObject, HasObject};
+ghost use Rattle.object_format.specs.File.{object_bytes};
+ghost use Rattle.program_objects.specs.Built.{HasPlainName};
+ghost use Rattle.program_objects.specs.Legal.{RefusesFor};
+ghost use Rattle.program_objects.specs.Source.{IsObjectOf, IsCheap};
 
-use crate::building::object_of;
 use crate::checking::legal_program;
-use crate::compiled::legal_units_are_compilable;
-use crate::fault::SourceFault;
-use crate::program_laws::{legal_programs_are_light, legal_programs_can_be_laid};
-use crate::sources::built_objects_are_of_their_sources;
 use checker::discard_program;
-use cov_base::{Bytes, Failure, SourceFile};
-use object_format::{Object, write_with_digest};
-use std::alloc::{AllocError, Global};
-
-/// What a compilation makes: the object, and its file.
-#[derive(Drop)]
-pub struct Compiled {
-    pub object: Object,
-    pub file: Bytes,
-}
+use cov_base::{Failure, SourceFile};
+use program_objects::{
+    Compiled, SourceFault, built_objects_are_of_their_sources, closed, legal_programs_are_light,
+    legal_programs_can_be_laid, legal_units_are_compilable, object_of,
+};
+use std::alloc::Global;
 
 /// Compiles the program whose main procedure has this name, where case does not count, from its
 /// source files (Ada RM 2012, 10.1): the object that is made is the one of the program that the
@@ -48,18 +38,4 @@ pub fn compile(
     let object = object_of(alloc, files, &legal.program, &legal.copies);
     discard_program(legal.program);
     Ok(closed(alloc, object?)?)
-}
-
-/// An object with its closing digest, and its file.
-fn closed(alloc: Global, object: Object) -> Result<Compiled, AllocError>
-    requires { HasObject object }
-    ensures object { IfOk result (λ c. c.object ≡ closed_object object) }
-    ensures checked { IfOk result (λ c. IsObject c.object) }
-    ensures file { IfOk result (λ c. c.file ≡ object_bytes c.object) }
-{
-    let (file, closing) = write_with_digest(alloc, &object)?;
-    Ok(Compiled {
-        object: Object { closing, ..object },
-        file: Bytes::from(file),
-    })
 }

@@ -1,8 +1,8 @@
 //! gnatcov: structural coverage of programs from the traces of their runs.
 #![tactic(auto)]
 
-use commands::gnatcov;
 use cov_io::{HostFiles, HostSink};
+use public_call::gnatcov;
 use std::process::ExitCode;
 use std::{env, io};
 

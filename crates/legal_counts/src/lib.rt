@@ -45,7 +45,7 @@ ghost use Rattle.legal_counts.specs.Generics.{generics_of};
 ghost use Rattle.legal_programs.specs.PlainUnits.{ArePlainUnits};
 ghost use Rattle.legal_counts.specs.Within.{AreWithin};
 ghost use Rattle.legal_types.specs.TypeTokens.{units_types};
-ghost use Rattle.legal_types.specs.Weights.{types_weight};
+ghost use Rattle.program_weights.specs.TypeWeights.{types_weight};
 
 /// The conditions of each decision of a legal program stand where those of its units stand, decisions in
 /// the order of the text; and no `not` stands directly in another.

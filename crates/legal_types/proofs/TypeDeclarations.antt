@@ -36,7 +36,8 @@ use Rattle.std.specs.Prelude.{sum_by}
 use Rattle.std.proofs.lemmas.List.Sums.{sum_by-cons}
 use Rattle.ada_syntax.specs.Nodes.{name_nodes, expr_nodes, range_nodes, indication_nodes, component_nodes, definition_nodes}
 use Rattle.legal_types.specs.TypeTokens.{kind_types, declared_types}
-use Rattle.legal_types.specs.Weights.{component_count, shape_weight, types_weight, Keeps, Weighs}
+use Rattle.program_weights.specs.TypeWeights.{component_count, shape_weight, types_weight}
+use Rattle.legal_types.specs.Weights.{Keeps, Weighs}
 
 -- what a construct gives keeps them
 abbrev pub Keep : {A : Type 0} → State → Given A → Type 0

@@ -14,7 +14,8 @@ use Rattle.legal_instances.specs.Ordered.{IsWholeOrder}
 use Rattle.legal_programs.specs.Walked.{IsLegal}
 use Rattle.legal_programs.proofs.Passed.{of_ok}
 use Rattle.legal_types.specs.TypeTokens.{item_types, units_types}
-use Rattle.legal_types.specs.Weights.{types_weight, Weighs}
+use Rattle.program_weights.specs.TypeWeights.{types_weight}
+use Rattle.legal_types.specs.Weights.{Weighs}
 use Rattle.legal_types.proofs.TypeDeclarations.{weighs_both}
 use Rattle.legal_types.proofs.TypeUnits.{seen_types, seen_types_of, seen_types_at, inner_types, inner_types_of, interfaces_weigh, all_bodies_weigh}
 

@@ -10,7 +10,7 @@ ghost use Rattle.ada_rules.specs.Entities.{Standard};
 ghost use Rattle.ada_rules.specs.Library.{library_of};
 ghost use Rattle.legal_programs.specs.Walked.{IsLegal};
 ghost use Rattle.legal_types.specs.TypeTokens.{units_types};
-ghost use Rattle.legal_types.specs.Weights.{types_weight};
+ghost use Rattle.program_weights.specs.TypeWeights.{types_weight};
 
 /// The composite types that a legal program declares weigh no more than the declarations of types in its
 /// units have tokens.

@@ -1,10 +1,6 @@
 pub mod Grown
-pub mod GoingLaws
 pub mod EndLaws
 pub mod InsideLaws
-pub mod ItemLaws
 pub mod LibraryLaws
-pub mod PackageLaws
-pub mod InterfaceLaws
 pub mod BodyLaws
 pub mod UnitBodyLaws

@@ -20,7 +20,8 @@ use Rattle.ada_library.specs.declared.library.Library.{Library}
 use Rattle.ada_library.specs.LibraryView.{IsNamed}
 use Rattle.ada_library.specs.Seeing.{Stands}
 use Rattle.unit_walk.specs.Bodies.{IsGenericOf}
-use Rattle.typed_program.specs.Entries.{text_role, body_role, role_of, entry_of, entries_from, IsOwnRole, IsBodyRole, IsRoleOf, IsEntryOf, AreEntries}
+use Rattle.typed_program.specs.Entries.{IsOwnRole, IsBodyRole, IsRoleOf, IsEntryOf, AreEntries}
+use Rattle.program_weights.specs.Entries.{text_role, body_role, role_of, entry_of, entries_from}
 
 -- a body of a package, by the name of its unit
 abbrev generic_in : World → ℕ → Option ℕ

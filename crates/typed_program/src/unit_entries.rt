@@ -1,7 +1,7 @@
 //! What the limits ask of the units of a program (Ada RM 2012, 12.3).
 
 ghost use Rattle.std.specs.Prelude.{◌≡◌, IfOk};
-ghost use Rattle.typed_program.specs.Entries as rules;
+ghost use Rattle.program_weights.specs.Entries as rules;
 ghost use Rattle.typed_program.specs.Entries.{IsRoleBy, IsOwnRole, IsBodyRole, IsRoleOf, IsEntryOf, AreEntries};
 
 use ada_entities::{Interface, key};

@@ -4,8 +4,8 @@ use super::{
     COMPILE, CONSOLIDATE, COVERAGE, Case, NO_FAULTS, P1_REPORT, Plan, RUN, all_files, hold, holds,
     quiet, unread_status,
 };
-use commands::Status;
 use cov_io::MemFiles;
+use public_call::Status;
 use std::alloc::{AllocError, Global};
 
 /// A command whose read of the file in this place fails, which is this call.

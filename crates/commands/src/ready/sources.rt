@@ -4,7 +4,7 @@ ghost use Rattle.std.specs.Prelude.{◌≡◌, ◌<◌, ◌≤◌, [], ◌∷◌
 ghost use Rattle.std.specs.List.{AllByRecursion};
 ghost use Rattle.cov_io.specs.Outside.{Holds};
 ghost use Rattle.commands.specs.Reading.{IsUnread, StopsReading, WereSources};
-ghost use Rattle.compiler.specs.Built.{HasPlainName};
+ghost use Rattle.program_objects.specs.Built.{HasPlainName};
 
 use crate::ready::read_file;
 use crate::status::Status;

@@ -1,5 +1,5 @@
 use Rattle.ada_rules.specs.Library.{library_of}
-use Rattle.legal_types.specs.Weights.{types_weight}
+use Rattle.program_weights.specs.TypeWeights.{types_weight}
 use Rattle.legal_counts.proofs.NodesOfUnits.{few_beside_weights}
 use Rattle.legal_counts.proofs.nodes_and_types_have_tokens.Goals as goal
 

@@ -1,6 +1,6 @@
 use Rattle.std.proofs.lemmas.Result.{IfOk-weaker}
-use Rattle.checker.specs.Checking.{whole_library}
-use Rattle.checker.proofs.CheckedLaws.{legal_of, refusal_of, is_whole}
+use Rattle.program_weights.specs.Wholes.{whole_library}
+use Rattle.walked_program.proofs.CheckedLaws.{legal_of, refusal_of, is_whole}
 use Rattle.checker.proofs.whole.check_lower.Goals as goal
 
 pub returns-clause-legal : goal.returns-clause-legal

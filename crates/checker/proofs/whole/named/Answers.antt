@@ -1,8 +1,8 @@
 use Rattle.std.proofs.Common.{sym, subst}
 use Rattle.ada_rules.specs.Legal.{checked_in}
-use Rattle.checker.specs.Checking.{IsRefusal}
-use Rattle.checker.proofs.CheckedLaws.{names_refused, names_pass}
-use Rattle.checker.proofs.JudgedLaws.{tables_there, begins_there}
+use Rattle.walked_program.specs.Checking.{IsRefusal}
+use Rattle.walked_program.proofs.CheckedLaws.{names_refused, names_pass}
+use Rattle.walked_program.proofs.Tables.{tables_there, begins_there}
 use Rattle.checker.proofs.whole.named.Goals as goal
 
 pub returns-in-Ok : goal.returns-in-Ok

@@ -1,7 +1,7 @@
 use Rattle.std.proofs.Common.{sym, subst}
 use Rattle.ada_rules.specs.Legal.{after_names}
-use Rattle.checker.specs.Checking.{IsRefusal}
-use Rattle.checker.proofs.CheckedLaws.{types_refused}
+use Rattle.walked_program.specs.Checking.{IsRefusal}
+use Rattle.walked_program.proofs.CheckedLaws.{types_refused}
 use Rattle.checker.proofs.whole.typed.Goals as goal
 
 pub returns-in-Err : goal.returns-in-Err

@@ -1,5 +1,5 @@
 use Rattle.std.proofs.lemmas.Result.{IfOk-weaker, err_from_is_err_and}
-use Rattle.checker.proofs.CheckedLaws.{refused_as, verdict_as}
+use Rattle.walked_program.proofs.CheckedLaws.{refused_as, verdict_as}
 use Rattle.checker.proofs.whole.verdict.Goals as goal
 
 pub returns-in_err-named-clause-verdict : goal.returns-in_err-named-clause-verdict

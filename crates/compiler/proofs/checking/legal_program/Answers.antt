@@ -1,7 +1,7 @@
 use Rattle.std.proofs.lemmas.Result.{IfErr-weaker}
 use Rattle.compiler.proofs.Checked.{sources_failed, sources_refused, passed_on}
-use Rattle.compiler.proofs.Core.{typed_answer}
-use Rattle.compiler.specs.Legal.{RefusesFor}
+use Rattle.compiler.proofs.Typed.{typed_answer}
+use Rattle.program_objects.specs.Legal.{RefusesFor}
 use Rattle.compiler.proofs.checking.legal_program.Goals as goal
 
 pub returns-in_err-units-clause-refused : goal.returns-in_err-units-clause-refused

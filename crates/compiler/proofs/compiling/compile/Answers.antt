@@ -1,9 +1,9 @@
 use Rattle.std.proofs.Common.{length, subst, sym}
 use Rattle.std.specs.Str.{str_to_ascii_lowercase}
 use Rattle.ada_tree.specs.Programs.{program_of}
-use Rattle.compiler.specs.Built.{CanBeNamed}
-use Rattle.compiler.specs.Kernels.{nodes_of}
-use Rattle.compiler.specs.Source.{IsObjectOf, IsCheap}
+use Rattle.program_objects.specs.Built.{CanBeNamed}
+use Rattle.program_objects.specs.Kernels.{nodes_of}
+use Rattle.program_objects.specs.Source.{IsObjectOf, IsCheap}
 use Rattle.object_format.specs.Read.{IsObject}
 use Rattle.compiler.proofs.compiling.compile.Goals as goal
 

@@ -19,7 +19,7 @@ use Rattle.program_walk.proofs.InsideLaws.{stays_open}
 use Rattle.statements.specs.Made.{frame_there}
 use Rattle.statements.specs.declared.nested.Frame.{Frame}
 use Rattle.library_units.specs.Inside.{ending}
-use Rattle.library_units.proofs.GoingLaws.{inside_advances, then_advances, grows_advances, memory_stays}
+use Rattle.unit_interfaces.proofs.GoingLaws.{inside_advances, then_advances, grows_advances, memory_stays}
 use Rattle.library_units.proofs.InsideLaws.{declarations_refused, statements_refused, statements_pass, block_is}
 use Rattle.unit_walk.proofs.RecordingLaws.{body_is_made}
 use Rattle.library_units.proofs.inside.body_inside.Goals as goal

@@ -1,4 +1,4 @@
-use Rattle.library_units.proofs.GoingLaws.{advances_on}
+use Rattle.unit_interfaces.proofs.GoingLaws.{advances_on}
 use Rattle.library_units.proofs.items.body_item.Goals as goal
 
 pub returns-in-Declared-clause-comes : goal.returns-in-Declared-clause-comes

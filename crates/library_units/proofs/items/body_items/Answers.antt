@@ -2,8 +2,8 @@ use Rattle.std.proofs.Common.{refl}
 use Rattle.std.proofs.lemmas.Result.{err_from_is_err_and}
 use Rattle.ada_rules.specs.Units.{body_item, body_items}
 use Rattle.program_walk.proofs.GoingLaws.{stays_behind, refused_behind}
-use Rattle.library_units.proofs.GoingLaws.{advances_nowhere, then_advances, sound_behind, sound_there}
-use Rattle.library_units.proofs.ItemLaws.{reaches_first, reaches_next, refuses_next, reaches_last}
+use Rattle.unit_interfaces.proofs.GoingLaws.{advances_nowhere, then_advances, sound_behind, sound_there}
+use Rattle.unit_interfaces.proofs.ItemLaws.{reaches_first, reaches_next, refuses_next, reaches_last}
 use Rattle.library_units.proofs.items.body_items.Goals as goal
 
 pub loop-item-init : goal.loop-item-init

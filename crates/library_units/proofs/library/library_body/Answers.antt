@@ -16,7 +16,7 @@ use Rattle.specifications.specs.Profiles.{profile_of}
 use Rattle.specifications.proofs.AloneLaws.{emptied_walk, emptied_continues, enters_continues, restored}
 use Rattle.specifications.specs.Contexts.{IsBodyContext}
 use Rattle.specifications.proofs.ContextLaws.{in_subprogram, stands_in_body}
-use Rattle.library_units.proofs.GoingLaws.{region_left, into_open}
+use Rattle.unit_interfaces.proofs.GoingLaws.{region_left, into_open}
 use Rattle.specifications.proofs.HeadLaws.{specified_alike}
 use Rattle.library_units.proofs.LibraryLaws.{profile_refused, body_refused, body_passes, bare, opens_into}
 use Rattle.library_units.proofs.library.library_body.Goals as goal

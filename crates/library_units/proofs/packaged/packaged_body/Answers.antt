@@ -13,7 +13,7 @@ use Rattle.program_walk.proofs.InsideLaws.{grows_itself}
 use Rattle.specifications.proofs.AloneLaws.{emptied_walk, emptied_continues, restored}
 use Rattle.specifications.specs.Contexts.{IsBodyContext}
 use Rattle.specifications.specs.Going.{IsSound}
-use Rattle.library_units.proofs.GoingLaws.{region_left, into_open}
+use Rattle.unit_interfaces.proofs.GoingLaws.{region_left, into_open}
 use Rattle.specifications.proofs.HeadLaws.{body_refused, body_passes}
 use Rattle.library_units.proofs.packaged.packaged_body.Goals as goal
 

@@ -7,7 +7,7 @@ use Rattle.ada_library.specs.Seeing.{IsSeen}
 use Rattle.ada_phrases.specs.Scopes.{step_of}
 use Rattle.program_walk.specs.States.{state_of}
 use Rattle.library_units.proofs.BodyLaws.{routine_known}
-use Rattle.library_units.proofs.InterfaceLaws.{between, seen_there}
+use Rattle.unit_interfaces.proofs.InterfaceLaws.{between, seen_there}
 use Rattle.library_units.proofs.UnitBodyLaws.{walked_to, package_as, subprogram_as, goes_nowhere}
 use Rattle.library_units.proofs.unit_bodies.unit_body.Goals as goal
 

@@ -6,7 +6,7 @@ use Rattle.commands.proofs.ObjectLaws.{one_more_plain}
 use Rattle.commands.proofs.SourceLaws.{all_taken, memory_stops, no_sources, one_more, short_at, stops_reading}
 use Rattle.commands.specs.declared.status.Status.TheVariants.{WantOfMemory}
 use Rattle.commands.specs.Reading.{WereSources}
-use Rattle.compiler.specs.Built.{HasPlainName}
+use Rattle.program_objects.specs.Built.{HasPlainName}
 use Rattle.cov_base.specs.declared.obligations.SourceFile.{SourceFile}
 use Rattle.commands.proofs.ready.sources.read_sources.Goals as goal
 

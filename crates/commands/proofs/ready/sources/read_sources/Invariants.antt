@@ -1,6 +1,6 @@
 use Rattle.std.proofs.Common.{◌≡◌, ◌≤◌, All, length, map, take}
 use Rattle.commands.specs.Reading.{WereSources}
-use Rattle.compiler.specs.Built.{HasPlainName}
+use Rattle.program_objects.specs.Built.{HasPlainName}
 use Rattle.commands.proofs.ready.sources.read_sources.Given as goal
 
 -- the sources so far were read

@@ -1,7 +1,0 @@
--- The sources so far have their entries.
-use Rattle.std.proofs.Common.{◌≡◌, map, take}
-use Rattle.compiler.specs.Source.{entry_of_file}
-use Rattle.compiler.proofs.building.file_entries.Given as goal
-
-abbrev pub invariant-loop-file : goal.invariant-loop-file
-invariant-loop-file l = l.entries.items ≡ map entry_of_file (take l.file-index l.files)

@@ -1,5 +1,0 @@
-use Rattle.compiler.proofs.Statements.{places_are_statements}
-use Rattle.compiler.proofs.soundness.rising_places_are_statements.Goals as goal
-
-pub returns : goal.returns
-returns c = places_are_statements

@@ -1,5 +1,0 @@
-use Rattle.compiler.proofs.Refusals.{not_refused}
-use Rattle.compiler.proofs.sources.legal_sources_are_not_refused.Goals as goal
-
-pub returns : goal.returns
-returns c = not_refused

@@ -1,7 +1,0 @@
-use Rattle.std.proofs.Common.{◌≡◌, drop}
-use Rattle.compiler.specs.Units.{first_nested}
-use Rattle.compiler.proofs.units.first_nested.Given as goal
-
--- what is left answers as all do
-abbrev pub invariant-loop-tokens : goal.invariant-loop-tokens
-invariant-loop-tokens l = first_nested (drop l.tokens-index l.lists) ≡ first_nested l.lists

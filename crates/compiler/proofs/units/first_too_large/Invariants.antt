@@ -1,7 +1,0 @@
-use Rattle.std.proofs.Common.{◌≡◌, drop}
-use Rattle.compiler.specs.Units.{first_too_large}
-use Rattle.compiler.proofs.units.first_too_large.Given as goal
-
--- what is left answers as all do
-abbrev pub invariant-loop-file : goal.invariant-loop-file
-invariant-loop-file l = first_too_large l.file (drop l.file l.files) ≡ first_too_large 0 l.files

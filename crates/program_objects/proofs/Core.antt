@@ -1,0 +1,158 @@
+-- The object that is built of a legal program and its sources is the sources' object, and cheap.
+use Rattle.std.proofs.Common.{◌≡◌, ℕ, ◌≤◌, ◌<◌, ◌&&◌, Bool, true, nat_lt, nat_le, List, [], ◌∷◌, length, map, sum_by, All, Result, Ok, Err, IfOk, refl, sym, ap, ◌∙◌, subst, arith}
+use Rattle.std.specs.List.{list_all, AllByRecursion}
+use Rattle.std.specs.Str.{is_utf8, str_to_ascii_lowercase}
+use Rattle.std.proofs.lemmas.Bool.Decides.{nat_tests}
+use Rattle.std.proofs.lemmas.List.{length-map}
+use Rattle.std.proofs.lemmas.List.Elements.{All-from_recursion, recursion_from_All}
+use Rattle.ada_meaning.specs.Program.{Program}
+use Rattle.ada_syntax.specs.Nodes.{unit_nodes}
+use Rattle.ada_syntax.specs.declared.unit.Unit.{Unit as LibraryUnit}
+use Rattle.ada_tree.specs.Programs.{program_of}
+use Rattle.ada_parser.specs.Opening.{open_extent}
+use Rattle.legal_counts.specs.ConditionPlaces.{units_conditions}
+use Rattle.legal_programs.specs.DecisionPlaces.{units_decisions}
+use Rattle.legal_programs.specs.TextPlaces.{units_places}
+use Rattle.program_objects.proofs.Legal.{compilable_law, made_of, passes_law, behaves_law, in_time_law}
+use Rattle.program_objects.proofs.MarksOf.{marks_law}
+use Rattle.program_objects.proofs.Placing.{text_bound}
+use Rattle.program_objects.specs.Built.{HasPlainName, CanBeNamed, AreLegal, AreTyped, IsBuiltOf}
+use Rattle.program_objects.specs.Compiled.{IsCompiled}
+use Rattle.program_objects.specs.Legal.{IsLegal, AreProgram}
+use Rattle.program_objects.specs.Source.{entry_of_file, IsObjectOf, IsCheap}
+use Rattle.program_objects.specs.Texts.{IsOfText}
+use Rattle.program_weights.specs.Wholes.{DeclaresTypes, whole_library}
+use Rattle.program_objects.specs.declared.fault.SourceFault.{SourceFault}
+use Rattle.cov_base.specs.declared.failure.Failure.{Failure}
+use Rattle.cov_base.specs.declared.obligations.SourceFile.{SourceFile}
+use Rattle.cov_base.specs.Lists.{Everywhere}
+use Rattle.cov_base.specs.declared.position.Pos.{Pos}
+use Rattle.object_format.specs.Counts.{FileFits}
+use Rattle.object_format.specs.Fields.{are_files}
+use Rattle.object_format.specs.File.{closed_object}
+use Rattle.object_format.specs.Read.{IsObject, HasObject}
+use Rattle.object_format.specs.declared.object.FileEntry.{FileEntry}
+use Rattle.object_format.specs.declared.object.Object.{Object}
+use Rattle.parsed_texts.specs.Parsed.{AreOfFiles}
+use Rattle.parsed_texts.specs.Places.{AreInFiles}
+use Rattle.parsed_texts.proofs.Conditions.{conditions_within}
+use Rattle.parsed_texts.proofs.Decisions.{decisions_within}
+use Rattle.parsed_texts.proofs.Statements.{statements_within}
+use Rattle.program_objects.specs.Units.{HaveUnits}
+
+both_hold : (a b : Bool) → a ≡ true → b ≡ true → (a && b) ≡ true
+both_hold a b p q = rw (p, q) refl
+
+-- the sources as files of the object
+
+names_are_utf8 : (files : List SourceFile) → AllByRecursion HasPlainName files → list_all (λ (f : FileEntry). is_utf8 f.name) (map entry_of_file files) ≡ true
+names_are_utf8 [] named = refl
+names_are_utf8 (f ∷ files) named = both_hold (is_utf8 f.name) (list_all (λ (g : FileEntry). is_utf8 g.name) (map entry_of_file files)) named.0.0 (names_are_utf8 files named.1)
+
+names_fit : (files : List SourceFile) → AllByRecursion HasPlainName files → AllByRecursion FileFits (map entry_of_file files)
+names_fit [] named = tt
+names_fit (f ∷ files) named = (omega (arith, named.0.1), names_fit files named.1)
+
+counted : (n : ℕ) → 0 < n → n ≤ 64 → (nat_lt 0 n && nat_le n 64) ≡ true
+counted n some few = both_hold (nat_lt 0 n) (nat_le n 64) (grind (arith, nat_tests)) (grind (arith, nat_tests))
+
+entries_are_files : (files : List SourceFile) → CanBeNamed files → are_files (map entry_of_file files) ≡ true
+entries_are_files files can =
+    let long = length-map files entry_of_file in
+    both_hold (nat_lt 0 (length (map entry_of_file files)) && nat_le (length (map entry_of_file files)) 64) (list_all (λ (f : FileEntry). is_utf8 f.name) (map entry_of_file files))
+    (counted (length (map entry_of_file files)) (omega (arith, long, can.some)) (omega (arith, long, can.few)))
+    (names_are_utf8 files (recursion_from_All HasPlainName files can.names))
+
+-- places in so many files
+abbrev AreInFilesOf : List Pos → ℕ → Type 0
+AreInFilesOf places files = AreInFiles files places
+
+abbrev AreAllInFilesOf : List (List Pos) → ℕ → Type 0
+AreAllInFilesOf lists files = Everywhere (AreInFiles files) lists
+
+entered : (files : List SourceFile) (p : Program) (nodes : ℕ) (o : Object) (P : ℕ → Type 0) → IsBuiltOf files p nodes o → P (length files) → P (length o.files)
+entered files p nodes o P built within = subst P (sym (ap length built.sources ∙ length-map files entry_of_file)) within
+
+compiled_of : (files : List SourceFile) (main : List ℕ) (p : Program) (nodes : ℕ) (o : Object) (legal : AreLegal files main p) → CanBeNamed files → IsBuiltOf files p nodes o
+    → IsCompiled legal.units p o
+compiled_of files main p nodes o legal can built = record {
+  kernel = built.kernel;
+  nodes = nodes;
+  is_kernel = built.is_kernel;
+  holds = built.holds;
+  obligations = built.obligations;
+  files = ap are_files built.sources ∙ entries_are_files files can;
+  names = subst (λ fs. All FileFits fs) (sym built.sources) (All-from_recursion FileFits (map entry_of_file files) (names_fit files (recursion_from_All HasPlainName files can.names)));
+  places = entered files p nodes o (AreInFilesOf (units_places legal.units)) built (statements_within open_extent (length files) legal.units legal.program.read);
+  decisions = entered files p nodes o (AreInFilesOf (units_decisions legal.units)) built (decisions_within open_extent (length files) legal.units legal.program.read);
+  conditions = entered files p nodes o (AreAllInFilesOf (units_conditions legal.units)) built (conditions_within open_extent (length files) legal.units legal.program.read);
+}
+
+-- the closing digest enters none of this
+pub closed_is_built : (files : List SourceFile) (p : Program) (nodes : ℕ) (o : Object) → IsBuiltOf files p nodes o → IsBuiltOf files p nodes (closed_object o)
+closed_is_built files p nodes o built = record {
+  kernel = built.kernel;
+  is_kernel = built.is_kernel;
+  holds = record {
+    items = built.holds.items;
+    text = built.holds.text;
+    entry = built.holds.entry;
+    init_at = built.holds.init_at;
+    init = built.holds.init;
+    rows = built.holds.rows;
+    roles = built.holds.roles;
+    exceptions = built.holds.exceptions;
+  };
+  sources = built.sources;
+  obligations = built.obligations;
+}
+
+-- what was read and accepted is a legal program
+abbrev legal_is : (files : List SourceFile) (main : List ℕ) (p : Program) → AreLegal files main p → IsLegal files main p
+legal_is files main p legal = record { units = legal.units; parsed = legal.parsed; program = legal.program.program }
+
+module _ (files : List SourceFile) (main : List ℕ) (p : Program) (nodes : ℕ) (o : Object) (can : CanBeNamed files) (legal : AreLegal files main p) (text : IsOfText legal.units p)
+    (few : sum_by unit_nodes legal.units ≤ 4096) (built : IsBuiltOf files p nodes o) where
+  abbrev lower : List ℕ
+  lower = str_to_ascii_lowercase main
+
+  compiled : IsCompiled legal.units p o
+  compiled = compiled_of files main p nodes o legal can built
+
+  -- it can be written
+  pub written_law : HasObject o
+  written_law = (passes_law (length files) legal.units lower p o legal.program text few compiled).0
+
+  -- what is read back of it is the sources' object
+  object_law : IsObject o → IsObjectOf files main p o
+  object_law is = record {
+    legal = legal_is files main p legal;
+    checked = is;
+    plain = (passes_law (length files) legal.units lower p o legal.program text few compiled).1;
+    sources = built.sources;
+    obligations = built.obligations;
+    marks = marks_law p o (compilable_law legal.units p text few) (made_of (length files) legal.units lower p o legal.program text compiled);
+    behaves = behaves_law (length files) legal.units lower p o legal.program text few compiled;
+  }
+
+  cheap_law : nodes ≤ sum_by unit_nodes legal.units → IsCheap files main p o
+  cheap_law small = record {
+    legal = legal_is files main p legal;
+    in_time = in_time_law (length files) legal.units lower p o legal.program text few compiled;
+    small = omega (arith, text_bound p nodes built.kernel o built.is_kernel built.holds, small);
+  }
+
+pub closed_law : (files : List SourceFile) (main : List ℕ) (p : Program) (nodes : ℕ) (o : Object) → CanBeNamed files → (legal : AreLegal files main p) → IsOfText legal.units p
+    → sum_by unit_nodes legal.units ≤ 4096 → nodes ≤ sum_by unit_nodes legal.units → IsBuiltOf files p nodes o → IsObject (closed_object o) → IsObjectOf files main p (closed_object o) × IsCheap files main p (closed_object o)
+closed_law files main p nodes o can legal text few small built is =
+    let whole = closed_is_built files p nodes o built in
+    (object_law files main p nodes (closed_object o) can legal text few whole is, cheap_law files main p nodes (closed_object o) can legal text few whole small)
+
+-- what has been read and checked
+pub legal_of : (files : List SourceFile) (units read : List LibraryUnit) (main : List ℕ) (p : Program) → HaveUnits files units → AreOfFiles open_extent (length files) units
+    → read ≡ units → AreProgram read (str_to_ascii_lowercase main) p → AreLegal files main p
+legal_of files units read main p parsed of_files are program = record {
+  units = units;
+  parsed = parsed;
+  program = record { read = of_files; program = subst (λ us. AreProgram us (str_to_ascii_lowercase main) p) are program };
+}

@@ -1,0 +1,28 @@
+pub mod Kept
+pub mod Behaving
+pub mod Images
+pub mod RowStarts
+pub mod Conditions
+pub mod DecisionEntries
+pub mod Counts
+pub mod Due
+pub mod Roles
+pub mod Placing
+pub mod Statements
+pub mod Sound
+pub mod Legal
+pub mod MarksOf
+pub mod Core
+pub mod Refusals
+pub mod Placeable
+pub mod FewNodes
+pub mod Numbers
+pub mod PlainUnits
+pub mod Texts
+pub mod UnitLaws
+mod Kernels
+mod LabelCounts
+pub mod UnfoldedSizes
+pub mod LaidPrograms
+mod ExceptionNames
+pub mod Expanded

@@ -1,0 +1,14 @@
+use Rattle.program_objects.proofs.Legal.{passes_law, behaves_law, in_time_law}
+use Rattle.program_objects.proofs.compiled.compiled_objects_pass_and_behave.Goals as goal
+
+pub returns-clause-passes : goal.returns-clause-passes
+returns-clause-passes c = λ files units main p o h compiled.
+    passes_law files units main p o h (c.legal_programs_are_of_their_text.ensures files units main p h) (c.legal_units_are_few.ensures files units main p h) compiled
+
+pub returns-clause-behaves : goal.returns-clause-behaves
+returns-clause-behaves c = λ files units main p o h compiled.
+    behaves_law files units main p o h (c.legal_programs_are_of_their_text.ensures files units main p h) (c.legal_units_are_few.ensures files units main p h) compiled
+
+pub returns-clause-in_time : goal.returns-clause-in_time
+returns-clause-in_time c = λ files units main p o h compiled.
+    in_time_law files units main p o h (c.legal_programs_are_of_their_text.ensures files units main p h) (c.legal_units_are_few.ensures files units main p h) compiled

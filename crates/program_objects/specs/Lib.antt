@@ -1,0 +1,14 @@
+pub mod Behaves
+pub mod Held
+pub mod Made
+pub mod Compiled
+pub mod Legal
+pub mod Source
+pub mod Built
+pub mod Listed
+pub mod Texts
+pub mod Steps
+pub mod Units
+pub mod Why
+pub mod Kernels
+pub mod Expanding

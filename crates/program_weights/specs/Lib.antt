@@ -1,0 +1,3 @@
+pub mod TypeWeights
+pub mod Entries
+pub mod Wholes

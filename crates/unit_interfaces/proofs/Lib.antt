@@ -1,0 +1,4 @@
+pub mod GoingLaws
+pub mod ItemLaws
+pub mod PackageLaws
+pub mod InterfaceLaws

@@ -1,0 +1,4 @@
+pub mod CheckedLaws
+pub mod WeightLaws
+pub mod LimitLaws
+pub mod Tables
