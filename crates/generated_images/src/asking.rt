@@ -14,7 +14,7 @@ use std::alloc::{AllocError, Global};
 const BUDGET: u32 = 100_000;
 
 /// Takes the steps of a line, and adds to `out` what they are answered.
-pub(crate) fn answer(alloc: Global, draft: &mut Draft, out: &mut String, line: &str) -> Answer {
+pub fn answer(alloc: Global, draft: &mut Draft, out: &mut String, line: &str) -> Answer {
     if line.is_empty() || line.starts_with('#') {
         return Ok(());
     }

@@ -14,7 +14,7 @@ pub(crate) const EXCEPTIONS: u32 = 5;
 /// Code that is part of no kernel yet, the latest last, the conditions that are part of no decision,
 /// the bodies of the next kernel, and the image of the latest one.
 #[derive(Drop)]
-pub(crate) struct Draft {
+pub struct Draft {
     codes: Vec<Code>,
     conditions: Vec<Node>,
     bodies: Vec<Body>,
@@ -35,7 +35,8 @@ fn layouts(alloc: Global) -> Result<Vec<Layout>, AllocError> {
 }
 
 impl Draft {
-    pub(crate) fn new(alloc: Global) -> Draft {
+    /// Nothing is built yet.
+    pub fn new(alloc: Global) -> Draft {
         Draft {
             codes: Vec::new(alloc),
             conditions: Vec::new(alloc),

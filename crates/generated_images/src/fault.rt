@@ -5,7 +5,7 @@ use std::fmt;
 
 /// Why a step builds and asks nothing.
 #[derive(Clone, Copy)]
-pub(crate) enum StepFault {
+pub enum StepFault {
     Step,
     Number,
     Code,
@@ -24,4 +24,4 @@ impl fmt::Display for StepFault {
 }
 
 /// What a step answers beside the text that it adds.
-pub(crate) type Answer = Result<(), Failure<StepFault>>;
+pub type Answer = Result<(), Failure<StepFault>>;

@@ -9,14 +9,21 @@ use crate::reply::Reply;
 use crate::sources::Reading;
 use crate::words::split_word;
 use crate::{
-    consolidated, decisions, generics, instructions, lists, objects, pieces, runs, sources,
+    consolidated, decisions, generics, images, instructions, lists, objects, pieces, runs, sources,
 };
 use decision_map::{DecisionMap, checked_objects_have_maps};
+use generated_images::Draft;
 use object_format::{Object, read_whole_object};
 use std::alloc::Global;
 
 /// Puts what a line is answered.
-pub(crate) fn answer(alloc: Global, blobs: &mut Blobs, out: &mut Reply, line: &str) {
+pub(crate) fn answer(
+    alloc: Global,
+    blobs: &mut Blobs,
+    draft: &mut Draft,
+    out: &mut Reply,
+    line: &str,
+) {
     let (command, words) = split_word(line);
     if blobs.add_piece(alloc, out, command, words) {
         return;
@@ -25,6 +32,7 @@ pub(crate) fn answer(alloc: Global, blobs: &mut Blobs, out: &mut Reply, line: &s
     match command {
         "" | "#" => {}
         "blob" => blobs.begin(alloc, out, words),
+        "image" => images::image(alloc, draft, out, words),
         _ => asked(alloc, blobs, out, command, words),
     }
 }

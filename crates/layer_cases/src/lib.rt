@@ -1,5 +1,5 @@
-//! Cases for the layers below the public call: reads lines of text, and prints what a layer answers to
-//! each.
+//! Cases for the layers below the public call: [`Layers::answer`] takes a line of text, and puts what a layer
+//! answers to it. The program `cases` plays them.
 //!
 //! A line is a command and its words. Some make a text or a file, piece by piece, under a name:
 //!
@@ -25,8 +25,10 @@ mod blobs;
 mod consolidated;
 mod decisions;
 mod generics;
+mod images;
 mod instructions;
 mod laws;
+mod layers;
 mod lists;
 mod objects;
 mod pieces;
@@ -35,33 +37,5 @@ mod runs;
 mod sources;
 mod words;
 
-use blobs::Blobs;
-use reply::Reply;
-use std::alloc::Global;
-use std::io;
-use std::io::{BufRead, BufReader, BufWriter, Write};
-
-fn main(rt: HostRuntime) -> io::Result<()> {
-    laws::call_laws();
-    let alloc = rt.alloc();
-    let mut out = BufWriter::new(alloc, io::writer(&rt))?;
-    let lines = BufReader::new(alloc, rt.reader())?.lines(alloc);
-    let mut blobs = Blobs::new(alloc);
-    for line in lines {
-        put_answer(alloc, &mut blobs, &mut out, line)?;
-    }
-    out.flush()
-}
-
-/// Puts what a line is answered.
-fn put_answer<W: Write>(
-    alloc: Global,
-    blobs: &mut Blobs,
-    out: &mut W,
-    line: io::Result<String>,
-) -> io::Result<()> {
-    let line = line?;
-    let mut reply = Reply::new(alloc);
-    asking::answer(alloc, blobs, &mut reply, line.as_str());
-    reply.write(out, line.as_str())
-}
+pub use laws::call_laws;
+pub use layers::Layers;
