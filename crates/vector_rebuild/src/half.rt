@@ -24,7 +24,10 @@ pub fn begun(half: Option<Half>, node: CondIx) -> Option<Vector>
         return Some(Vector { seen: 0, value: 0 });
     }
     match half {
-        Some(half) if half.next.0 == node.0 => Some(half.vector),
+        Some(half) if half.next.0 == node.0 => Some(Vector {
+            seen: half.vector.seen,
+            value: half.vector.value,
+        }),
         _ => None,
     }
 }
