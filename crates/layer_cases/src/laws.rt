@@ -17,7 +17,7 @@ use trace_format::{one_trace, passing};
 use trace_record::histories_are_no_longer_than_runs;
 
 /// Calls the laws.
-pub fn call_laws() {
+pub(crate) fn call_laws() {
     read_again();
     one_word();
     sizes_are_exact();

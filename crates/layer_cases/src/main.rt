@@ -1,5 +1,5 @@
-//! Cases for the layers below the public call: [`Layers::answer`] takes a line of text, and puts what a layer
-//! answers to it. The program `cases` plays them.
+//! Cases for the layers below the public call: reads lines of text, and prints what a layer answers to
+//! each.
 //!
 //! A line is a command and its words. Some make a text or a file, piece by piece, under a name:
 //!
@@ -28,7 +28,6 @@ mod generics;
 mod images;
 mod instructions;
 mod laws;
-mod layers;
 mod lists;
 mod objects;
 mod pieces;
@@ -37,5 +36,36 @@ mod runs;
 mod sources;
 mod words;
 
-pub use laws::call_laws;
-pub use layers::Layers;
+use blobs::Blobs;
+use generated_images::Draft;
+use reply::Reply;
+use std::alloc::Global;
+use std::io;
+use std::io::{BufRead, BufReader, BufWriter, Write};
+
+fn main(rt: HostRuntime) -> io::Result<()> {
+    laws::call_laws();
+    let alloc = rt.alloc();
+    let mut out = BufWriter::new(alloc, io::writer(&rt))?;
+    let lines = BufReader::new(alloc, rt.reader())?.lines(alloc);
+    let mut blobs = Blobs::new(alloc);
+    let mut draft = Draft::new(alloc);
+    for line in lines {
+        put_answer(alloc, &mut blobs, &mut draft, &mut out, line)?;
+    }
+    out.flush()
+}
+
+/// Puts what a line is answered.
+fn put_answer<W: Write>(
+    alloc: Global,
+    blobs: &mut Blobs,
+    draft: &mut Draft,
+    out: &mut W,
+    line: io::Result<String>,
+) -> io::Result<()> {
+    let line = line?;
+    let mut reply = Reply::new(alloc);
+    asking::answer(alloc, blobs, draft, &mut reply, line.as_str());
+    reply.write(out, line.as_str())
+}
