@@ -24,7 +24,6 @@ use trace_format::TraceView;
 use vector_rebuild::{BrokenHistory, Rebuild, from_edges};
 
 /// Adds an event, if there is one.
-#[inline(always)]
 pub fn add(events: &mut Gathered<Event>, event: Option<Event>) -> Result<(), AllocError>
     ensures { OnOk result ((e : Event) → Somewhere (λ x. x ≡ e) events.new
         ↔ (Somewhere (λ x. x ≡ e) events.old ⊎ Somewhere (λ x. x ≡ e) (option_to_list event))) }

@@ -24,10 +24,7 @@ pub fn begun(half: Option<Half>, node: CondIx) -> Option<Vector>
         return Some(Vector { seen: 0, value: 0 });
     }
     match half {
-        Some(half) if half.next.0 == node.0 => Some(Vector {
-            seen: half.vector.seen,
-            value: half.vector.value,
-        }),
+        Some(half) if half.next.0 == node.0 => Some(half.vector),
         _ => None,
     }
 }

@@ -50,10 +50,11 @@ impl Halves {
     pub fn find(&self, key: Key) -> Option<Half>
         ensures { result ≡ half_in self.now key }
     {
-        if let Some(latest) = &self.latest {
-            if latest.key == key {
-                return latest.half;
-            }
+        let Some(latest) = self.latest else {
+            return self.table.get(&key).copied();
+        };
+        if latest.key == key {
+            return latest.half;
         }
         self.table.get(&key).copied()
     }
@@ -66,13 +67,12 @@ impl Halves {
         ensures roomy { 0 < spare self.old.table → IsOk result }
         ensures room { spare self.old.table ≤ spare self.new.table + 1 }
     {
-        let Some(latest) = &self.latest else {
+        let Some(latest) = self.latest else {
             return Ok(());
         };
         if latest.key == key {
             return Ok(());
         }
-        let latest = *latest;
         match latest.half {
             Some(half) => {
                 self.table.insert(latest.key, half)?;
