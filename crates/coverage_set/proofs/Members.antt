@@ -31,6 +31,11 @@ stands_at xs k x is =
     let within = slice_get_within xs k x is in
     somewhere_at xs x k within (cc (is, slice_get-get_or xs k x within))
 
+-- what is the same as an item in a place stands there
+pub same_at : {X : Type 0} (xs : List X) (k : ℕ) (x y : X) → x ≡ get_or xs k x → k < length xs → x ≡ y
+    → Somewhere (λ z. z ≡ y) xs
+same_at xs k x y is within one = subst (λ w. Somewhere (λ z. z ≡ w) xs) one (somewhere_at xs x k within (sym is))
+
 pub contains_of : {X : Type 0} (xs : List X) (x : X) → Somewhere (λ y. y ≡ x) xs → Contains xs x
 contains_of [] x some = absurd some
 contains_of (y ∷ xs) x some = elim some [

@@ -11,12 +11,18 @@ use std::marker::Model;
 /// How many items are kept at least before doubled ones are looked for.
 const LEAST_LIMIT: usize = 1024;
 
-/// Items in any order. Doubled ones are dropped when there are about twice as many items as different
-/// ones, so a long history of few vectors takes the room of few.
+/// Of how many items a place is kept.
+const PLACES: usize = 64;
+
+/// Items in any order, and places of some of them, by their spread. An item that is the same as the one in
+/// its place is not gathered again; so what the places are does not matter. Doubled items are dropped when
+/// there are about twice as many items as different ones, so a long history of few vectors takes the room of
+/// few.
 #[derive(Drop)]
 pub struct Gathered<T: Exact + Drop> {
     items: Vec<T>,
     limit: usize,
+    places: [usize; PLACES],
 }
 
 impl<T: Exact + Drop> Model for Gathered<T> {
@@ -35,6 +41,7 @@ impl<T: Exact + Drop> Gathered<T> {
         Gathered {
             items: Vec::new(alloc),
             limit: LEAST_LIMIT,
+            places: [0; PLACES],
         }
     }
 
@@ -43,20 +50,23 @@ impl<T: Exact + Drop> Gathered<T> {
         ensures { OnOk result ((x : T) → Somewhere (λ y. y ≡ x) self.new
             ↔ (Somewhere (λ y. y ≡ x) self.old ⊎ (item ≡ x))) }
     {
-        if self.ends_with(&item) {
+        let kept = item.spread() % PLACES;
+        if self.has_at(self.places[kept], &item) {
             return Ok(());
         }
         self.make_room();
+        self.places[kept] = self.items.len();
         self.items.push(item)?;
         Ok(())
     }
 
-    /// Whether this item stands last. Of a loop's turns most tell again what the one before told.
-    fn ends_with(&self, item: &T) -> bool
+    /// Whether this item stands in a place. Of a loop's turns most tell again what one before told.
+    #[inline(always)]
+    fn has_at(&self, place: usize, item: &T) -> bool
         ensures { IsTrue result → Somewhere (λ x. x ≡ item.now) self.now }
     {
-        match self.items.last() {
-            Some(last) => *last == *item,
+        match self.items.get(place) {
+            Some(known) => *known == *item,
             None => false,
         }
     }

@@ -3,8 +3,8 @@ use Rattle.cov_base.specs.Lists.{Somewhere}
 use Rattle.coverage_set.proofs.Members.{of_push, of_same}
 use Rattle.coverage_set.proofs.gathered.Gathered.add.Goals as goal
 
-pub returns-then-ends_with : goal.returns-then-ends_with
-returns-then-ends_with g c = of_same c.args.self.now c.args.item (c.ends_with.ensures c.if-ends_with.true)
+pub returns-then-has_at : goal.returns-then-has_at
+returns-then-has_at g c = of_same c.args.self.now c.args.item (c.has_at.ensures c.if-has_at.true)
 
 pub returns : goal.returns
-returns g c = of_push c.args.self.now c.make_room.new.self _ c.args.item (c.in_ok-push.ensures.items ∙ ap (λ (xs : List g.row.T.Denot). xs ++ c.args.item ∷ []) c.self.view_is) c.make_room.ensures
+returns g c = of_push c.args.self.now c.make_room.new.self _ c.args.item (c.in_ok-push.ensures.items ∙ ap (λ (xs : List g.row.T.Denot). xs ++ c.args.item ∷ []) c.self-2.view_is) c.make_room.ensures
