@@ -13,7 +13,6 @@ pub enum Others {
 }
 
 /// What a rule asks of static values.
-#[derive(Drop)]
 pub enum Test {
     /// A value lies in a range (RM 3.5).
     Lies(StaticTree, ScalarRange),
@@ -25,13 +24,35 @@ pub enum Test {
     Covers(Values, Others, Seq<Choice>),
 }
 
+// Written out: a derived drop is proved anew in each crate above.
+impl Drop for Test {
+    fn drop(self) {
+        match self {
+            Test::Lies(_, _) => {}
+            Test::Chosen(_, _) => {}
+            Test::Ordered(_, _) => {}
+            Test::Covers(_, _, _) => {}
+        }
+    }
+}
+
 /// A demand: the first token of the construct that makes it, and the number of the generic's unit in
 /// whose text it stands.
-#[derive(Drop)]
 pub struct Demand {
     pub pos: Pos,
     pub generic: Option<u32>,
     pub test: Test,
+}
+
+// Written out: a derived drop is proved anew in each crate above.
+impl Drop for Demand {
+    fn drop(self) {
+        let Demand {
+            pos: _,
+            generic: _,
+            test: _,
+        } = self;
+    }
 }
 
 /// An instance that was made: the number of its generic's unit, and its own.
@@ -42,8 +63,17 @@ pub struct Made {
 }
 
 /// Demands, and the instances where they stand among them.
-#[derive(Drop)]
 pub enum Asked {
     Demand(Demand),
     Instantiated(Made),
+}
+
+// Written out: a derived drop is proved anew in each crate above.
+impl Drop for Asked {
+    fn drop(self) {
+        match self {
+            Asked::Demand(_) => {}
+            Asked::Instantiated(_) => {}
+        }
+    }
 }

@@ -30,17 +30,33 @@ pub enum TypeValues {
 
 /// The values of a loop parameter with bounds (RM 5.5): those between the bounds, where both have values
 /// in the instance, and else those of the type.
-#[derive(Drop)]
 pub struct ListedSpans {
     pub first: StaticTree,
     pub last: StaticTree,
     pub otherwise: TypeValues,
 }
 
+// Written out: a derived drop is proved anew in each crate above.
+impl Drop for ListedSpans {
+    fn drop(self) {
+        let ListedSpans {
+            first: _,
+            last: _,
+            otherwise: _,
+        } = self;
+    }
+}
+
 /// The table of values that stand for loop parameters, by number.
-#[derive(Drop)]
 pub struct SpanTable {
     entries: Vec<ListedSpans>,
+}
+
+// Written out: a derived drop is proved anew in each crate above.
+impl Drop for SpanTable {
+    fn drop(self) {
+        let SpanTable { entries: _ } = self;
+    }
 }
 
 impl TypeValues {

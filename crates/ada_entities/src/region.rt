@@ -14,9 +14,15 @@ use std::alloc::{AllocError, Global};
 use std::marker::Model;
 
 /// A region: its declarations by name in lower case, in order, each name once.
-#[derive(Drop)]
 pub struct Region {
     table: IndexMap<Vec<u8>, Entity>,
+}
+
+// Written out: a derived drop is proved anew in each crate above.
+impl Drop for Region {
+    fn drop(self) {
+        let Region { table: _ } = self;
+    }
 }
 
 impl Model for Region {

@@ -17,10 +17,16 @@ use std::marker::Model;
 
 /// Regions that stand one in the other: of what a unit sees of the library, of its text, and of the
 /// bodies, blocks and loops that are open at a place.
-#[derive(Drop)]
 pub struct Regions {
     /// From the outermost to the innermost.
     regions: Vec<Region>,
+}
+
+// Written out: a derived drop is proved anew in each crate above.
+impl Drop for Regions {
+    fn drop(self) {
+        let Regions { regions: _ } = self;
+    }
 }
 
 impl Model for Regions {

@@ -13,9 +13,9 @@ use crate::entity::{Entity, RoutineName};
 use crate::region::Region;
 use std::alloc::{AllocError, Global};
 use std::marker::Model;
+use std::mem;
 
 /// What other units see of a unit.
-#[derive(Drop)]
 pub enum Interface {
     /// Nothing: it was not looked at yet.
     Unknown,
@@ -29,10 +29,29 @@ pub enum Interface {
     Subprogram(RoutineName),
 }
 
+// Written out: a derived drop is proved anew in each crate above.
+impl Drop for Interface {
+    fn drop(self) {
+        match self {
+            Interface::Unknown => {}
+            Interface::Package(_) => {}
+            Interface::Generic(_, _) => {}
+            Interface::Instance(_, _) => {}
+            Interface::Subprogram(_) => {}
+        }
+    }
+}
+
 /// The units of a library, by their numbers.
-#[derive(Drop)]
 pub struct Units {
     interfaces: Vec<Interface>,
+}
+
+// Written out: a derived drop is proved anew in each crate above.
+impl Drop for Units {
+    fn drop(self) {
+        let Units { interfaces: _ } = self;
+    }
 }
 
 impl Model for Units {
@@ -124,9 +143,11 @@ impl Units {
     pub fn set(&mut self, unit: u32, interface: Interface)
         ensures { self.new ≡ set self.old unit interface }
     {
+        let mut other = interface;
         if let Some(seen) = self.interfaces.get_mut(unit as usize) {
-            *seen = interface;
+            mem::swap(seen, &mut other);
         }
+        drop(other);
     }
 
     /// What other units see of the unit with this number; none where there are fewer.

@@ -17,10 +17,16 @@ use std::marker::Model;
 /// The numbers of bodies, by the names of the package and of the subprogram in lower case: their places
 /// among all in the order of the text. Of a library subprogram both names are its own, and of two bodies
 /// with the same names it is the first.
-#[derive(Drop)]
 pub struct BodyNumbers {
     table: IndexMap<(Vec<u8>, Vec<u8>), u32>,
     count: u32,
+}
+
+// Written out: a derived drop is proved anew in each crate above.
+impl Drop for BodyNumbers {
+    fn drop(self) {
+        let BodyNumbers { table: _, count: _ } = self;
+    }
 }
 
 impl Model for BodyNumbers {

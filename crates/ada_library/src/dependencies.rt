@@ -18,11 +18,21 @@ use std::collections::VecDeque;
 
 /// For each unit the numbers of those that it names, where it is no body of a package, and the order in
 /// which units depend on each other. Where that is not all of them, some lead to a cycle.
-#[derive(Drop)]
 pub struct Dependencies {
     pub(crate) graph: Seq<Seq<u32>>,
     pub(crate) order: Seq<u32>,
     pub(crate) is_ordered: bool,
+}
+
+// Written out: a derived drop is proved anew in each crate above.
+impl Drop for Dependencies {
+    fn drop(self) {
+        let Dependencies {
+            graph: _,
+            order: _,
+            is_ordered: _,
+        } = self;
+    }
 }
 
 /// Adds the number of the unit that a name denotes.

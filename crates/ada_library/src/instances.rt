@@ -9,10 +9,19 @@ use std::alloc::{AllocError, Global};
 
 /// The numbers of instances, from 1 on in the order of the text: for each unit the number that it has as
 /// an instance, or that the next one has.
-#[derive(Drop)]
 pub struct InstanceNumbers {
     pub(crate) numbers: Vec<u32>,
     pub(crate) next: u32,
+}
+
+// Written out: a derived drop is proved anew in each crate above.
+impl Drop for InstanceNumbers {
+    fn drop(self) {
+        let InstanceNumbers {
+            numbers: _,
+            next: _,
+        } = self;
+    }
 }
 
 /// The number of the next instance behind a unit.

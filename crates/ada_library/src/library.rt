@@ -12,12 +12,23 @@ use ada_syntax::Unit;
 use std::alloc::{AllocError, Global};
 
 /// The library: its units by name, what they name in `with`, and the numbers of bodies and instances.
-#[derive(Drop)]
 pub struct Library {
     pub(crate) names: UnitNames,
     pub(crate) dependencies: Dependencies,
     pub(crate) bodies: BodyNumbers,
     pub(crate) instances: InstanceNumbers,
+}
+
+// Written out: a derived drop is proved anew in each crate above.
+impl Drop for Library {
+    fn drop(self) {
+        let Library {
+            names: _,
+            dependencies: _,
+            bodies: _,
+            instances: _,
+        } = self;
+    }
 }
 
 impl Library {

@@ -9,9 +9,15 @@ use std::alloc::{AllocError, Global};
 use std::marker::Model;
 
 /// Numbers by name in lower case. A name has the number that it was given first.
-#[derive(Drop)]
 pub struct Names {
     table: IndexMap<Vec<u8>, u32>,
+}
+
+// Written out: a derived drop is proved anew in each crate above.
+impl Drop for Names {
+    fn drop(self) {
+        let Names { table: _ } = self;
+    }
 }
 
 impl Model for Names {

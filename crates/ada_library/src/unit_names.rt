@@ -13,10 +13,19 @@ use std::alloc::{AllocError, Global};
 
 /// The numbers of units by name: of those that others may name, and of bodies of packages. Of two with
 /// one name it is the first.
-#[derive(Drop)]
 pub struct UnitNames {
     pub(crate) units: Names,
     pub(crate) package_bodies: Names,
+}
+
+// Written out: a derived drop is proved anew in each crate above.
+impl Drop for UnitNames {
+    fn drop(self) {
+        let UnitNames {
+            units: _,
+            package_bodies: _,
+        } = self;
+    }
 }
 
 impl UnitNames {

@@ -108,15 +108,24 @@ pub struct Alternative {
 }
 
 /// `simple [.. simple] | OTHERS` (RM 3.8.1).
-#[derive(Drop)]
 pub enum Choice {
     Value(Expr),
     Range(Bounds),
     Others(Pos),
 }
 
+// Written out: a derived drop is proved anew in each crate above.
+impl Drop for Choice {
+    fn drop(self) {
+        match self {
+            Choice::Value(_) => {}
+            Choice::Range(_) => {}
+            Choice::Others(_) => {}
+        }
+    }
+}
+
 /// How a loop goes on (RM 5.5).
-#[derive(Drop)]
 pub enum LoopScheme {
     /// Without a scheme.
     Forever,
@@ -124,6 +133,17 @@ pub enum LoopScheme {
     While(Expr),
     /// `FOR id IN [REVERSE] range`
     For(Identifier, Direction, DiscreteRange),
+}
+
+// Written out: a derived drop is proved anew in each crate above.
+impl Drop for LoopScheme {
+    fn drop(self) {
+        match self {
+            LoopScheme::Forever => {}
+            LoopScheme::While(_) => {}
+            LoopScheme::For(_, _, _) => {}
+        }
+    }
 }
 
 /// The order in which a loop parameter takes its values.
@@ -143,8 +163,17 @@ pub struct Handler {
 }
 
 /// `name | OTHERS` (RM 11.2).
-#[derive(Drop)]
 pub enum ExceptionChoice {
     Named(Name),
     Others(Pos),
+}
+
+// Written out: a derived drop is proved anew in each crate above.
+impl Drop for ExceptionChoice {
+    fn drop(self) {
+        match self {
+            ExceptionChoice::Named(_) => {}
+            ExceptionChoice::Others(_) => {}
+        }
+    }
 }

@@ -17,16 +17,25 @@ pub enum Mode {
 }
 
 /// `id {, id} : [IN | OUT | IN OUT] name` (RM 6.1).
-#[derive(Drop)]
 pub struct Parameter {
     pub names: Seq<Identifier>,
     pub mode: Mode,
     pub mark: Name,
 }
 
+// Written out: a derived drop is proved anew in each crate above.
+impl Drop for Parameter {
+    fn drop(self) {
+        let Parameter {
+            names: _,
+            mode: _,
+            mark: _,
+        } = self;
+    }
+}
+
 /// `PROCEDURE id [params] | FUNCTION id [params] RETURN name` (RM 6.1), and the place of its first
 /// token. A function has a result.
-#[derive(Drop)]
 pub struct Specification {
     pub pos: Pos,
     pub name: Identifier,
@@ -34,8 +43,19 @@ pub struct Specification {
     pub result_mark: Option<Name>,
 }
 
+// Written out: a derived drop is proved anew in each crate above.
+impl Drop for Specification {
+    fn drop(self) {
+        let Specification {
+            pos: _,
+            name: _,
+            parameters: _,
+            result_mark: _,
+        } = self;
+    }
+}
+
 /// `spec IS {ldecl} BEGIN stmts [handlers] END [id] ;` (RM 6.3).
-#[derive(Drop)]
 pub struct SubprogramBody {
     pub specification: Specification,
     pub declarations: Seq<Declaration>,
@@ -43,30 +63,65 @@ pub struct SubprogramBody {
     pub end_name: Option<Identifier>,
 }
 
+// Written out: a derived drop is proved anew in each crate above.
+impl Drop for SubprogramBody {
+    fn drop(self) {
+        let SubprogramBody {
+            specification: _,
+            declarations: _,
+            statements: _,
+            end_name: _,
+        } = self;
+    }
+}
+
 /// A declaration in a package (RM 7.1).
-#[derive(Drop)]
 pub enum PackageItem {
     Declaration(Declaration),
     /// `spec ;`
     Subprogram(Specification),
 }
 
+// Written out: a derived drop is proved anew in each crate above.
+impl Drop for PackageItem {
+    fn drop(self) {
+        match self {
+            PackageItem::Declaration(_) => {}
+            PackageItem::Subprogram(_) => {}
+        }
+    }
+}
+
 /// What stands in a package body (RM 7.2).
-#[derive(Drop)]
 pub enum BodyItem {
     Declared(PackageItem),
     Body(SubprogramBody),
 }
 
+// Written out: a derived drop is proved anew in each crate above.
+impl Drop for BodyItem {
+    fn drop(self) {
+        match self {
+            BodyItem::Declared(_) => {}
+            BodyItem::Body(_) => {}
+        }
+    }
+}
+
 /// A formal parameter of a generic package, and the place of its first token (RM 12.1).
-#[derive(Drop)]
 pub struct Formal {
     pub pos: Pos,
     pub kind: FormalKind,
 }
 
+// Written out: a derived drop is proved anew in each crate above.
+impl Drop for Formal {
+    fn drop(self) {
+        let Formal { pos: _, kind: _ } = self;
+    }
+}
+
 /// The forms of a formal parameter (RM 12.4 to 12.6).
-#[derive(Drop)]
 pub enum FormalKind {
     /// `TYPE id IS ( <> ) ;`
     DiscreteType(Identifier),
@@ -78,8 +133,19 @@ pub enum FormalKind {
     Subprogram(Specification),
 }
 
+// Written out: a derived drop is proved anew in each crate above.
+impl Drop for FormalKind {
+    fn drop(self) {
+        match self {
+            FormalKind::DiscreteType(_) => {}
+            FormalKind::IntegerType(_) => {}
+            FormalKind::Object(_, _, _) => {}
+            FormalKind::Subprogram(_) => {}
+        }
+    }
+}
+
 /// `[GENERIC {formal}] PACKAGE id IS {decl} END [id] ;` (RM 7.1, 12.1).
-#[derive(Drop)]
 pub struct PackageSpecification {
     /// The formal parameters, where the package is generic.
     pub formals: Option<Seq<Formal>>,
@@ -88,24 +154,55 @@ pub struct PackageSpecification {
     pub end_name: Option<Identifier>,
 }
 
+// Written out: a derived drop is proved anew in each crate above.
+impl Drop for PackageSpecification {
+    fn drop(self) {
+        let PackageSpecification {
+            formals: _,
+            name: _,
+            items: _,
+            end_name: _,
+        } = self;
+    }
+}
+
 /// `PACKAGE BODY id IS {decl | body} END [id] ;` (RM 7.2).
-#[derive(Drop)]
 pub struct PackageBody {
     pub name: Identifier,
     pub items: Seq<BodyItem>,
     pub end_name: Option<Identifier>,
 }
 
+// Written out: a derived drop is proved anew in each crate above.
+impl Drop for PackageBody {
+    fn drop(self) {
+        let PackageBody {
+            name: _,
+            items: _,
+            end_name: _,
+        } = self;
+    }
+}
+
 /// `PACKAGE id IS NEW id [( expr {, expr} )] ;` (RM 12.3). Without parentheses there is no actual.
-#[derive(Drop)]
 pub struct Instance {
     pub name: Identifier,
     pub generic_name: Identifier,
     pub actuals: Seq<Expr>,
 }
 
+// Written out: a derived drop is proved anew in each crate above.
+impl Drop for Instance {
+    fn drop(self) {
+        let Instance {
+            name: _,
+            generic_name: _,
+            actuals: _,
+        } = self;
+    }
+}
+
 /// What a library unit declares.
-#[derive(Drop)]
 pub enum LibraryItem {
     Package(PackageSpecification),
     PackageBody(PackageBody),
@@ -113,14 +210,31 @@ pub enum LibraryItem {
     Subprogram(SubprogramBody),
 }
 
+// Written out: a derived drop is proved anew in each crate above.
+impl Drop for LibraryItem {
+    fn drop(self) {
+        match self {
+            LibraryItem::Package(_) => {}
+            LibraryItem::PackageBody(_) => {}
+            LibraryItem::Instance(_) => {}
+            LibraryItem::Subprogram(_) => {}
+        }
+    }
+}
+
 /// `WITH id {, id} ;` (RM 10.1.2).
-#[derive(Drop)]
 pub struct WithClause {
     pub names: Seq<Identifier>,
 }
 
+// Written out: a derived drop is proved anew in each crate above.
+impl Drop for WithClause {
+    fn drop(self) {
+        let WithClause { names: _ } = self;
+    }
+}
+
 /// A library unit with its context clauses (RM 10.1.1).
-#[derive(Drop)]
 pub struct Unit {
     /// The place of its first token.
     pub pos: Pos,
@@ -128,4 +242,16 @@ pub struct Unit {
     /// The place of the item's first token.
     pub item_pos: Pos,
     pub item: LibraryItem,
+}
+
+// Written out: a derived drop is proved anew in each crate above.
+impl Drop for Unit {
+    fn drop(self) {
+        let Unit {
+            pos: _,
+            withs: _,
+            item_pos: _,
+            item: _,
+        } = self;
+    }
 }

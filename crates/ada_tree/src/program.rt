@@ -29,7 +29,6 @@ pub struct BodyEntry {
 }
 
 /// A subprogram with its body (RM 6.3).
-#[derive(Drop)]
 pub struct Subprogram {
     /// The number of the generic whose text it stands in.
     pub generic: Option<u32>,
@@ -39,6 +38,19 @@ pub struct Subprogram {
     /// declares, loop parameters among them, in the order of the text.
     pub objects: Seq<Subtype>,
     pub body: Block,
+}
+
+// Written out: a derived drop is proved anew in each crate above.
+impl Drop for Subprogram {
+    fn drop(self) {
+        let Subprogram {
+            generic: _,
+            entry: _,
+            parameters: _,
+            objects: _,
+            body: _,
+        } = self;
+    }
 }
 
 /// The initial value of an object of the library level (RM 3.3.1).
@@ -90,7 +102,6 @@ pub enum FormalActual {
 }
 
 /// An instance (RM 12.3).
-#[derive(Drop)]
 pub struct Instance {
     /// The name in lower case.
     pub name: Bytes,
@@ -104,8 +115,20 @@ pub struct Instance {
     pub constants: Seq<Option<i32>>,
 }
 
+// Written out: a derived drop is proved anew in each crate above.
+impl Drop for Instance {
+    fn drop(self) {
+        let Instance {
+            name: _,
+            place: _,
+            generic: _,
+            actuals: _,
+            constants: _,
+        } = self;
+    }
+}
+
 /// A declaration of an exception (RM 11.1).
-#[derive(Drop)]
 pub struct ExceptionDeclaration {
     pub declaration: u32,
     pub place: Pos,
@@ -115,6 +138,19 @@ pub struct ExceptionDeclaration {
     pub unit: Bytes,
     /// What comes after the unit's name and a point, in lower case.
     pub name: Bytes,
+}
+
+// Written out: a derived drop is proved anew in each crate above.
+impl Drop for ExceptionDeclaration {
+    fn drop(self) {
+        let ExceptionDeclaration {
+            declaration: _,
+            place: _,
+            generic: _,
+            unit: _,
+            name: _,
+        } = self;
+    }
 }
 
 /// An exception: a declaration in an instance, which is 0 in no generic.

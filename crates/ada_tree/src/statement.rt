@@ -7,7 +7,6 @@ use cov_base::Seq;
 use std::marker::Model;
 
 /// What an object is set to.
-#[derive(Drop)]
 pub enum NewValue {
     /// An expression, for a scalar object of this subtype.
     Scalar(ScalarRange, Expr),
@@ -20,11 +19,32 @@ pub enum NewValue {
     OthersComposite(Indices, Owner, u32, Object, Vec<Selector>),
 }
 
+// Written out: a derived drop is proved anew in each crate above.
+impl Drop for NewValue {
+    fn drop(self) {
+        match self {
+            NewValue::Scalar(_, _) => {}
+            NewValue::Composite(_, _, _, _) => {}
+            NewValue::OthersScalar(_, _, _) => {}
+            NewValue::OthersComposite(_, _, _, _, _) => {}
+        }
+    }
+}
+
 /// The indices of an array, and of the arrays that are its components, as far in as `(others => ..)` goes.
-#[derive(Drop)]
 pub struct Indices {
     pub outermost: ScalarRange,
     pub inner: Seq<ScalarRange>,
+}
+
+// Written out: a derived drop is proved anew in each crate above.
+impl Drop for Indices {
+    fn drop(self) {
+        let Indices {
+            outermost: _,
+            inner: _,
+        } = self;
+    }
 }
 
 /// A choice of a case alternative (RM 5.4).
@@ -43,12 +63,21 @@ pub enum ExceptionChoice {
 }
 
 /// The values of a loop parameter (RM 5.5).
-#[derive(Drop)]
 pub enum LoopRange {
     /// Those of a subtype.
     Subtype(ScalarRange),
     /// Those between two bounds, which are evaluated when the loop begins.
     Bounds(Expr, Expr),
+}
+
+// Written out: a derived drop is proved anew in each crate above.
+impl Drop for LoopRange {
+    fn drop(self) {
+        match self {
+            LoopRange::Subtype(_) => {}
+            LoopRange::Bounds(_, _) => {}
+        }
+    }
 }
 
 /// The order in which a for loop takes its values (RM 5.5).
@@ -60,15 +89,24 @@ pub enum Direction {
 
 /// The iteration scheme of a for loop (RM 5.5): the number of its parameter among the objects of the
 /// subprogram, and the parameter's values.
-#[derive(Drop)]
 pub struct ForScheme {
     pub parameter: u32,
     pub direction: Direction,
     pub values: LoopRange,
 }
 
+// Written out: a derived drop is proved anew in each crate above.
+impl Drop for ForScheme {
+    fn drop(self) {
+        let ForScheme {
+            parameter: _,
+            direction: _,
+            values: _,
+        } = self;
+    }
+}
+
 /// A declaration of an object (RM 3.3.1), by its number among those of the subprogram.
-#[derive(Drop)]
 pub enum Declaration {
     /// With an initial value, and so a statement obligation.
     Initialized(Label, u32, NewValue),
@@ -76,11 +114,27 @@ pub enum Declaration {
     WithoutValue(u32, Subtype),
 }
 
+// Written out: a derived drop is proved anew in each crate above.
+impl Drop for Declaration {
+    fn drop(self) {
+        match self {
+            Declaration::Initialized(_, _, _) => {}
+            Declaration::WithoutValue(_, _) => {}
+        }
+    }
+}
+
 /// A decision, with its label.
-#[derive(Drop)]
 pub struct Decision {
     pub label: Label,
     pub test: Test,
+}
+
+// Written out: a derived drop is proved anew in each crate above.
+impl Drop for Decision {
+    fn drop(self) {
+        let Decision { label: _, test: _ } = self;
+    }
 }
 
 /// A statement.

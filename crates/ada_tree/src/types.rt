@@ -68,7 +68,6 @@ pub enum Subtype {
 }
 
 /// A composite type. It is built of scalar types, and of types that stand before it in the table of types.
-#[derive(Drop)]
 pub enum CompositeType {
     /// An array: the values of its index, and the type of its components (RM 3.6).
     Array(ScalarRange, Subtype),
@@ -76,12 +75,31 @@ pub enum CompositeType {
     Record(Seq<Subtype>),
 }
 
+// Written out: a derived drop is proved anew in each crate above.
+impl Drop for CompositeType {
+    fn drop(self) {
+        match self {
+            CompositeType::Array(_, _) => {}
+            CompositeType::Record(_) => {}
+        }
+    }
+}
+
 /// A declaration of a composite type (RM 3.2.1). The layout of the type's objects is charged to it.
-#[derive(Drop)]
 pub struct TypeDeclaration {
     /// The number of the generic whose text it stands in.
     pub generic: Option<u32>,
     pub definition: CompositeType,
+}
+
+// Written out: a derived drop is proved anew in each crate above.
+impl Drop for TypeDeclaration {
+    fn drop(self) {
+        let TypeDeclaration {
+            generic: _,
+            definition: _,
+        } = self;
+    }
 }
 
 /// An operator on one integer (RM 4.5.4, 4.5.6).

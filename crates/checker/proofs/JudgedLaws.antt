@@ -1,18 +1,15 @@
 -- All units in one of the steps, of the rules' definitions, and where the walk over them begins and ends.
-use Rattle.std.proofs.Common.{◌≡◌, ℕ, Bool, true, false, if◌then◌else◌, List, [], ◌∷◌, length, map, reverse, replicate, Some, None, Result, Ok, Err, refl, sym, ap, ◌∙◌, subst}
-use Rattle.std.proofs.lemmas.List.{reverse-reverse}
+use Rattle.std.proofs.Common.{◌≡◌, ℕ, Bool, true, false, if◌then◌else◌, List, [], ◌∷◌, length, map, replicate, Some, None, Result, Ok, Err, refl, sym, ap, ◌∙◌, subst}
 use Rattle.cov_base.specs.declared.position.Pos.{Pos}
 use Rattle.cov_base.specs.declared.failure.Failure.{Failure}
 use Rattle.ada_syntax.specs.declared.unit.Unit.{Unit as LibraryUnit}
-use Rattle.ada_meaning.specs.Program.{GenericConstant}
 use Rattle.ada_rules.specs.Plan.{Plan, ◌>>=◌, rule, outcome_after, answer_at}
 use Rattle.ada_rules.specs.Denoted.{nowhere}
 use Rattle.ada_rules.specs.Environment as rules
 use Rattle.ada_rules.specs.Environment.{no_interface, Interface, World, State, beginning_state}
 use Rattle.ada_rules.specs.Library.{Library as RulesLibrary}
 use Rattle.ada_rules.specs.Statics.{Facts}
-use Rattle.ada_rules.specs.Units.{Walked, all_headings, all_interfaces, all_bodies_judged, has_main, resolved, all_with_constants, facts_before, world_before, judged_in}
-use Rattle.ada_tree.specs.Programs.{constant_of}
+use Rattle.ada_rules.specs.Units.{Walked, all_headings, all_interfaces, all_bodies_judged, has_main, resolved, facts_before, world_before, judged_in}
 use Rattle.ada_entities.specs.Answers.{refusal, Refuses, refused_at}
 use Rattle.ada_entities.specs.declared.fault.Refusal.{Refusal}
 use Rattle.ada_entities.specs.EntityViews.{Tables}
@@ -21,7 +18,6 @@ use Rattle.ada_library.specs.LibraryView.{IsLibrary}
 use Rattle.ada_phrases.specs.declared.scope.Step.{Step}
 use Rattle.ada_phrases.specs.Scopes.{step_of}
 use Rattle.ada_phrases.proofs.Parts.{passes_on, in_part, refused_as}
-use Rattle.program_walk.specs.Changes.{Becomes}
 use Rattle.program_walk.proofs.WalkLaws.{fresh_holds}
 use Rattle.program_walk.specs.declared.walk.Walk.{Walk}
 use Rattle.program_walk.specs.States.{state_of}
@@ -29,9 +25,8 @@ use Rattle.program_walk.specs.Walks.{Begins, IsBeginning}
 use Rattle.library_units.proofs.Grown.{grown}
 use Rattle.program_walk.proofs.GoingLaws.{refused_behind}
 use Rattle.library_units.specs.Words.{StandsBefore, PassesBodies, ComesToAllBodies, IsIdle, PassesUnits, ComesToUnits, GoesBehind, IsWalked}
-use Rattle.walked_program.specs.declared.whole_walk.WholeWalk.{WholeWalk}
 use Rattle.walked_program.proofs.Tables.{tables_there, begins_there}
-use Rattle.walked_program.specs.Judging.{IsWholeLibrary, IsMainThere, EndsAs, IsEnd, IsJudged}
+use Rattle.walked_program.specs.Judging.{IsWholeLibrary, IsMainThere, EndsAs, IsEnd}
 
 -- the parts of a step, each where those before it pass
 abbrev pub behind_bodies : Walked → State → Walked
@@ -100,31 +95,6 @@ module _ (x : Library) (units : List LibraryUnit) (l : RulesLibrary) (whole : Is
   -- and its state is the first
   pub first_walked : (k : Tables) → record { world = world_before l; next = state_of k w } ≡ before_units l
   first_walked k = λ z. record { world = world_before l; next = fresh.state k z }
-
--- behind all bodies the instances have all constants
-pub stands_resolved : (x : Library) (facts after : List Facts) (new : Walk) (k : Tables) (world : World) → StandsBefore x facts new k world
-    → after ≡ all_with_constants facts (map constant_of new.notes.statics.constants) 1 facts
-    → StandsBefore x after new k (resolved world (state_of k new))
-stands_resolved x facts after new k world there are =
-    let cs = map constant_of new.notes.statics.constants in
-    record {
-      units = record {
-        known = there.units.known;
-        begins = there.units.begins;
-        actuals = there.units.actuals;
-        given_types = there.units.given_types;
-        interfaces = there.units.interfaces;
-        standard = there.units.standard;
-      };
-      spans = there.spans;
-      instances = (λ z. all_with_constants (there.instances z) (reverse-reverse cs z) 1 (there.instances z)) ∙ sym are;
-      library = record {
-        units = there.library.units;
-        library = there.library.library;
-        is = there.library.is;
-        bodies = there.library.bodies;
-      };
-    }
 
 -- with the main unit, or without it
 pub main_present : (b : Bool) (x : Walked) → b ≡ true → answer_at nowhere (rule (if b then Some x else None)).outcome ≡ Ok x

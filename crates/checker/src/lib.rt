@@ -16,6 +16,5 @@ mod steps;
 mod whole;
 
 pub use steps::judged;
-pub use typed_program::discard_program;
-pub use walked_program::{CheckFault, WholeWalk, a_refusal_is_of_a_broken_rule};
+pub use walked_program::{CheckFault, WholeWalk, a_refusal_is_of_a_broken_rule, discard_program};
 pub use whole::check;

@@ -70,9 +70,16 @@ pub fn judged(
 ) -> Result<WholeWalk, Failure<Refusal>>
     ensures { ComesToJudged step library.now units.now main.now result }
 {
-    let mut instances = instances_before(alloc, units)?;
-    let mut walk = Walk::new(alloc, units.len())?;
-    walk_over(alloc, step, library, &mut instances, &mut walk, units, main)?;
-    let instances = instances.with_all_constants(alloc, &walk.notes.statics.constants)?;
-    Ok(WholeWalk { walk, instances })
+    let instances = instances_before(alloc, units)?;
+    let mut whole = WholeWalk::new(alloc, instances, units.len())?;
+    let walked = walk_over(
+        alloc,
+        step,
+        library,
+        &mut whole.instances,
+        &mut whole.walk,
+        units,
+        main,
+    );
+    whole.ended(alloc, walked)
 }

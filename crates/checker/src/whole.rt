@@ -14,7 +14,7 @@ use ada_syntax::Unit;
 use ada_tree::Program;
 use cov_base::Failure;
 use std::alloc::Global;
-use walked_program::{CheckFault, WholeWalk, naming, program, typing};
+use walked_program::{CheckFault, WholeWalk, discard_walk, naming, program, typing};
 
 /// The rules on names, over all units. What their walk leaves is wanted no longer.
 fn named(
@@ -27,7 +27,7 @@ fn named(
 {
     match judged(alloc, Step::Naming, library, units, main) {
         Ok(whole) => {
-            drop(whole);
+            discard_walk(whole);
             Ok(())
         }
         Err(failure) => Err(naming(failure)),

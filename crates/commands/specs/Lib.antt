@@ -17,3 +17,4 @@ pub mod RunsCovered
 pub mod TaskFiles
 pub mod TraceWords
 pub mod Verdict
+pub use Rattle.program_objects.specs.Built

@@ -13,10 +13,10 @@ use Rattle.ada_syntax.specs.declared.unit.Unit.{Unit as LibraryUnit}
 use Rattle.ada_tree.specs.declared.program.Program.{Program as TypedProgram}
 use Rattle.ada_tree.specs.declared.program.UnitEntry.{UnitEntry}
 use Rattle.ada_tree.specs.Programs.{program_of}
-use Rattle.walked_program.specs.Checking as checker
-use Rattle.walked_program.specs.Checking.{IsBroken}
-use Rattle.program_weights.specs.Wholes.{HasEntries, whole_library}
-use Rattle.walked_program.specs.declared.fault.CheckFault.{CheckFault}
+use Rattle.checker.specs.Checking as checker
+use Rattle.checker.specs.Checking.{IsBroken}
+use Rattle.checker.specs.Wholes.{HasEntries, whole_library}
+use Rattle.checker.specs.fault.CheckFault.{CheckFault}
 use Rattle.compiler.specs.Checking.{illegal}
 use Rattle.program_objects.specs.Expanding.{AreFew, PassesLimit, has_too_many, passes, no_memory}
 use Rattle.program_objects.specs.Legal as units

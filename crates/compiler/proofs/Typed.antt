@@ -6,12 +6,12 @@ use Rattle.cov_base.specs.declared.obligations.SourceFile.{SourceFile}
 use Rattle.ada_parser.specs.Opening.{open_extent}
 use Rattle.ada_syntax.specs.declared.unit.Unit.{Unit as LibraryUnit}
 use Rattle.ada_tree.specs.Programs.{program_of}
-use Rattle.parsed_texts.specs.Parsed.{AreOfFiles}
+use Rattle.program_objects.specs.Parsed.{AreOfFiles}
 use Rattle.program_objects.specs.Built.{AreTyped}
 use Rattle.program_objects.specs.Legal.{AreProgram}
 use Rattle.program_objects.specs.Units.{HaveUnits}
 use Rattle.program_objects.specs.declared.fault.SourceFault.{SourceFault}
-use Rattle.program_weights.specs.Wholes.{DeclaresTypes, whole_library}
+use Rattle.checker.specs.Wholes.{DeclaresTypes, whole_library}
 use Rattle.compiler.specs.declared.checking.LegalProgram.{LegalProgram}
 
 pub typed_answer : (files : List SourceFile) (units read : List LibraryUnit) (main : List ℕ)

@@ -4,8 +4,8 @@ use Rattle.cov_base.specs.declared.failure.Failure.TheVariants.{Fault, WantOfMem
 use Rattle.program_objects.specs.Expanding.{failure_at}
 use Rattle.program_objects.specs.declared.fault.SourceFault.{SourceFault}
 use Rattle.program_objects.specs.declared.fault.Why.TheVariants.{Limit, Naming, Typing}
-use Rattle.walked_program.specs.declared.fault.CheckFault.{CheckFault}
-use Rattle.walked_program.specs.declared.fault.CheckFault.TheVariants as check_fault
+use Rattle.checker.specs.fault.CheckFault.{CheckFault}
+use Rattle.checker.specs.fault.CheckFault.TheVariants as check_fault
 
 abbrev pub illegal : Failure CheckFault → Failure SourceFault
 illegal (Fault (check_fault.Naming pos)) = failure_at pos Naming

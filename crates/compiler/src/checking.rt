@@ -6,10 +6,10 @@ ghost use Rattle.ada_rules.specs.Legal.{checked, legal};
 ghost use Rattle.ada_tree.specs.Programs.{program_of};
 ghost use Rattle.compiler.specs.Checking as spec;
 ghost use Rattle.generic_expand.specs.Expanded.{copies_of};
-ghost use Rattle.lower.specs.Standing.{AreTypesNamed};
+ghost use Rattle.program_objects.specs.Standing.{AreTypesNamed};
 ghost use Rattle.program_objects.specs.Built.{AreTyped};
 ghost use Rattle.program_objects.specs.Legal.{AreProgram, RefusesFor, RefusesUnits};
-ghost use Rattle.program_weights.specs.Wholes.{DeclaresTypes, HasEntries, whole_library};
+ghost use Rattle.checker.specs.Wholes.{DeclaresTypes, HasEntries, whole_library};
 
 use ada_parser::discard_units;
 use ada_syntax::Unit;

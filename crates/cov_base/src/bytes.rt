@@ -5,9 +5,15 @@ ghost use Rattle.std.specs.Prelude.{◌≡◌, ◌↔◌, ℕ, List, [], length,
 use std::marker::Model;
 
 /// Bytes: a text, a name or the content of a file. Contracts see the bytes in order.
-#[derive(Drop)]
 pub struct Bytes {
     bytes: Vec<u8>,
+}
+
+// Written out: a derived drop is proved anew in each crate above.
+impl Drop for Bytes {
+    fn drop(self) {
+        let Bytes { bytes: _ } = self;
+    }
 }
 
 impl Model for Bytes {
@@ -37,6 +43,14 @@ impl Bytes {
     {
         self.bytes.is_empty()
     }
+
+    /// The vector that the bytes stood in.
+    fn into_bytes(self) -> Vec<u8>
+        ensures { result.items ≡ self }
+    {
+        let Bytes { bytes } = self;
+        bytes
+    }
 }
 
 impl From<Vec<u8>> for Bytes {
@@ -53,6 +67,6 @@ impl From<Bytes> for Vec<u8> {
 
     /// The vector that the bytes stood in, without taking memory.
     fn from(bytes: Bytes) -> Self {
-        bytes.bytes
+        bytes.into_bytes()
     }
 }

@@ -11,10 +11,16 @@ pub type Digest = [u8; 32];
 pub type ExceptionName = Bytes;
 
 /// A source file: its name, and its bytes.
-#[derive(Drop)]
 pub struct SourceFile {
     pub name: Bytes,
     pub bytes: Bytes,
+}
+
+// Written out: a derived drop is proved anew in each crate above.
+impl Drop for SourceFile {
+    fn drop(self) {
+        let SourceFile { name: _, bytes: _ } = self;
+    }
 }
 
 /// A statement obligation: where the statement begins.
@@ -49,14 +55,19 @@ impl Letter {
 
 /// A decision's expression in postfix form, a byte for each part: 0 to 31 is that condition, 32 is
 /// `not`, 33 `and then`, 34 `or else`.
-#[derive(Drop)]
 pub struct DecisionExpr {
     pub postfix: Bytes,
 }
 
+// Written out: a derived drop is proved anew in each crate above.
+impl Drop for DecisionExpr {
+    fn drop(self) {
+        let DecisionExpr { postfix: _ } = self;
+    }
+}
+
 /// A decision: the statement that holds it, where it begins, its letter, its expression, and where
 /// each of its conditions begins.
-#[derive(Drop)]
 pub struct DecEntry {
     pub statement: StmtId,
     pub file: u32,
@@ -67,8 +78,22 @@ pub struct DecEntry {
     pub conditions: Seq<Place>,
 }
 
+// Written out: a derived drop is proved anew in each crate above.
+impl Drop for DecEntry {
+    fn drop(self) {
+        let DecEntry {
+            statement: _,
+            file: _,
+            line: _,
+            column: _,
+            letter: _,
+            expression: _,
+            conditions: _,
+        } = self;
+    }
+}
+
 /// A region that is exempt from coverage, from its On pragma to its Off pragma, and why.
-#[derive(Drop)]
 pub struct Region {
     pub file: u32,
     pub from_line: u32,
@@ -78,9 +103,22 @@ pub struct Region {
     pub why: Bytes,
 }
 
+// Written out: a derived drop is proved anew in each crate above.
+impl Drop for Region {
+    fn drop(self) {
+        let Region {
+            file: _,
+            from_line: _,
+            from_column: _,
+            to_line: _,
+            to_column: _,
+            why: _,
+        } = self;
+    }
+}
+
 /// An instance of a generic: its name, and where it is instantiated. The first of a program is all
 /// that stands in no generic: it has an empty name and zeros.
-#[derive(Drop)]
 pub struct InstanceEntry {
     pub name: Bytes,
     pub file: u32,
@@ -88,14 +126,38 @@ pub struct InstanceEntry {
     pub column: u32,
 }
 
+// Written out: a derived drop is proved anew in each crate above.
+impl Drop for InstanceEntry {
+    fn drop(self) {
+        let InstanceEntry {
+            name: _,
+            file: _,
+            line: _,
+            column: _,
+        } = self;
+    }
+}
+
 /// What coverage has to show of a program. Statements rise strictly by file, line and column,
 /// decisions don't fall by them, and instances and exceptions are numbered by their order, the
 /// exceptions from 1.
-#[derive(Drop)]
 pub struct Obligations {
     pub statements: Seq<StmtEntry>,
     pub decisions: Seq<DecEntry>,
     pub regions: Seq<Region>,
     pub instances: Seq<InstanceEntry>,
     pub exceptions: Seq<ExceptionName>,
+}
+
+// Written out: a derived drop is proved anew in each crate above.
+impl Drop for Obligations {
+    fn drop(self) {
+        let Obligations {
+            statements: _,
+            decisions: _,
+            regions: _,
+            instances: _,
+            exceptions: _,
+        } = self;
+    }
 }

@@ -5,9 +5,15 @@ ghost use Rattle.std.specs.Prelude.{◌≡◌, ◌↔◌, List, [], length, IsTr
 use std::marker::Model;
 
 /// A list of values. Contracts see the values in order, and nothing of the memory that holds them.
-#[derive(Drop)]
 pub struct Seq<T> {
     items: Vec<T>,
+}
+
+// Written out: a derived drop is proved anew in each crate above.
+impl<T: Drop> Drop for Seq<T> {
+    fn drop(self) {
+        let Seq { items: _ } = self;
+    }
 }
 
 impl<T> Model for Seq<T> {
@@ -37,6 +43,14 @@ impl<T> Seq<T> {
     {
         self.items.is_empty()
     }
+
+    /// The vector that the list was made of.
+    fn into_items(self) -> Vec<T>
+        ensures { result.items ≡ self }
+    {
+        let Seq { items } = self;
+        items
+    }
 }
 
 impl<T> From<Vec<T>> for Seq<T> {
@@ -53,6 +67,6 @@ impl<T> From<Seq<T>> for Vec<T> {
 
     /// The vector that the list was made of, without taking memory.
     fn from(list: Seq<T>) -> Self {
-        list.items
+        list.into_items()
     }
 }

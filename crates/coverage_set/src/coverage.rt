@@ -41,12 +41,23 @@ use trace_format::{ConsFault, ConsolidatedParts, ConsolidatedView, TraceReader, 
 use vector_rebuild::BrokenHistory;
 
 /// What runs of an object covered: the closing digests of their traces, and their events.
-#[derive(Drop)]
 pub struct Coverage<'a> {
     alloc: Global,
     object: &'a Object,
     runs: SortedSet<Digest>,
     events: SortedSet<Event>,
+}
+
+// Written out: a derived drop is proved anew in each crate above.
+impl Drop for Coverage<'_> {
+    fn drop(self) {
+        let Coverage {
+            alloc: _,
+            object: _,
+            runs: _,
+            events: _,
+        } = self;
+    }
 }
 
 impl<'a> Model for Coverage<'a> {

@@ -33,7 +33,6 @@ pub struct Shown {
 
 /// What was found of a trace's entries, of which each is seen once, in the file's order. Of each check it
 /// keeps the first that fails it, and of each word of text which edges were shown.
-#[derive(Drop)]
 pub struct FitState<'a> {
     map: &'a DecisionMap<'a>,
     head: Option<FitFault>,
@@ -44,6 +43,23 @@ pub struct FitState<'a> {
     entries: u32,
     address: Option<FitFault>,
     flat: Option<FitFault>,
+}
+
+// Written out: a derived drop is proved anew in each crate above.
+impl Drop for FitState<'_> {
+    fn drop(self) {
+        let FitState {
+            map: _,
+            head: _,
+            before: _,
+            block: _,
+            edge: _,
+            shown: _,
+            entries: _,
+            address: _,
+            flat: _,
+        } = self;
+    }
 }
 
 impl<'a> FitState<'a> {

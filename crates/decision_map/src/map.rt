@@ -30,11 +30,21 @@ use trace_format::TraceView;
 
 /// What the words and branches of an object mean. Contracts see the object, since all else is a
 /// function of it.
-#[derive(Drop)]
 pub struct DecisionMap<'a> {
     object: &'a Object,
     kinds: Vec<WordKind>,
     graphs: Vec<DecisionGraph>,
+}
+
+// Written out: a derived drop is proved anew in each crate above.
+impl Drop for DecisionMap<'_> {
+    fn drop(self) {
+        let DecisionMap {
+            object: _,
+            kinds: _,
+            graphs: _,
+        } = self;
+    }
 }
 
 impl<'a> Model for DecisionMap<'a> {

@@ -39,15 +39,16 @@ use Rattle.program_walk.specs.States.{with_counts, state_of}
 use Rattle.program_walk.specs.Walks.{Begins, StandsAt, IsInside}
 use Rattle.program_walk.specs.Going.{region_in, Stays}
 use Rattle.program_walk.proofs.GoingLaws.{refused_behind}
-use Rattle.specifications.specs.Profiles.{IsClosed}
-use Rattle.specifications.specs.Routines.{ComesToRegion}
-use Rattle.specifications.specs.Going.{IsSound, Advances}
+use Rattle.unit_interfaces.specs.specifications.specs.Profiles.{IsClosed}
+use Rattle.unit_interfaces.specs.specifications.specs.Routines.{ComesToRegion}
+use Rattle.unit_interfaces.specs.specifications.specs.Going.{IsSound, Advances}
 use Rattle.library_units.specs.Library.{ComesToLibrary}
-use Rattle.unit_walk.specs.Standing.{StandsBefore, IsKnownEntity}
-use Rattle.unit_walk.specs.Entering.{IsUnitContext, IsPackageContext, IsEntered, Leaves, LeavesWords}
-use Rattle.unit_walk.proofs.StandingLaws.{in_text}
-use Rattle.unit_walk.specs.Bodies.{IsTextOf, IsGenericOf, IsRoutineOf, GoesByBodies, IsWalkedTo}
-use Rattle.unit_walk.proofs.BetweenLaws.{left_becomes, entered_continues, entered_open, stands_in_unit}
+use Rattle.program_walk.specs.Standing.{StandsBefore, IsKnownEntity}
+use Rattle.unit_interfaces.specs.unit_walk.specs.Entering.{IsUnitContext, IsPackageContext, IsEntered, Leaves, LeavesWords}
+use Rattle.unit_interfaces.specs.unit_walk.proofs.StandingLaws.{in_text}
+use Rattle.program_walk.specs.UnitGenerics.{IsGenericOf}
+use Rattle.unit_interfaces.specs.unit_walk.specs.Bodies.{IsTextOf, IsRoutineOf, GoesByBodies, IsWalkedTo}
+use Rattle.unit_interfaces.specs.unit_walk.proofs.BetweenLaws.{left_becomes, entered_continues, entered_open, stands_in_unit}
 
 -- a world of these units alone
 abbrev world_with : List environment.Interface → World

@@ -18,7 +18,7 @@ use Rattle.ada_entities.specs.EntityViews.{Tables}
 use Rattle.ada_phrases.proofs.Parts.{passes_on, in_part, refused_as}
 use Rattle.statements.proofs.NestedLaws.{statements_in}
 use Rattle.program_walk.specs.States.{types_in}
-use Rattle.declarations.specs.Locals.{made_of}
+use Rattle.statements.specs.Locals.{made_of}
 use Rattle.statements.specs.Made.{frame_there}
 use Rattle.statements.specs.declared.nested.Frame.{Frame as CodeFrame}
 use Rattle.library_units.specs.Inside.{ending}

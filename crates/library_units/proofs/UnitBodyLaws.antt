@@ -28,12 +28,12 @@ use Rattle.program_walk.specs.declared.walk.Walk.{Walk}
 use Rattle.program_walk.specs.States.{state_of}
 use Rattle.program_walk.specs.Walks.{Begins}
 use Rattle.program_walk.specs.Going.{Stays}
-use Rattle.unit_walk.specs.Standing.{StandsBefore}
-use Rattle.unit_walk.proofs.SeenLaws.{seen_in_body_known}
-use Rattle.unit_walk.proofs.StandingLaws.{grown}
-use Rattle.unit_walk.specs.Bodies.{GoesByBodies, IsWalkedTo, WalkedTo}
-use Rattle.unit_walk.specs.Interfaces.{IsIdle}
-use Rattle.unit_walk.specs.Walked.{IsBetween}
+use Rattle.program_walk.specs.Standing.{StandsBefore}
+use Rattle.unit_interfaces.specs.unit_walk.proofs.SeenLaws.{seen_in_body_known}
+use Rattle.unit_interfaces.specs.unit_walk.proofs.StandingLaws.{grown}
+use Rattle.unit_interfaces.specs.unit_walk.specs.Bodies.{GoesByBodies, IsWalkedTo, WalkedTo}
+use Rattle.unit_interfaces.specs.unit_walk.specs.Interfaces.{IsIdle}
+use Rattle.unit_interfaces.specs.unit_walk.specs.Walked.{IsBetween}
 
 -- the same answer in other words
 pub walked_to : {A : Type 0} (new : Walk) (k : Tables) (r s : Result State Pos) (o : Result A (Failure Refusal)) → r ≡ s → WalkedTo new k s o → WalkedTo new k r o

@@ -18,7 +18,7 @@ use Rattle.program_walk.specs.declared.context.Returning.{Returning}
 use Rattle.program_walk.specs.declared.walk.Walk.{Walk}
 use Rattle.program_walk.specs.States.{state_of}
 use Rattle.program_walk.specs.Walks.{Begins, StandsAt, returning_of}
-use Rattle.specifications.specs.Typed.{parameters_there}
+use Rattle.unit_interfaces.specs.specifications.specs.Typed.{parameters_there}
 
 -- the end of a body with this result, which comes to this state
 abbrev pub ending : rules_step.Step → SubprogramBody → Option Parameter → State → Plan State

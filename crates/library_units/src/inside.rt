@@ -1,7 +1,7 @@
 //! The inside of bodies: declarations, statements, and the end (Ada RM 2012, 6.3, 6.5).
 
 ghost use Rattle.program_walk.specs.Going.{IsWalkOpen};
-ghost use Rattle.specifications.specs.Going.{AdvancesOn};
+ghost use Rattle.unit_interfaces.specs.specifications.specs.Going.{AdvancesOn};
 ghost use Rattle.library_units.specs.Inside.{IsEndAllowed, IsEnded, ComesToInside};
 
 use ada_entities::{Refusal, refused};
@@ -9,12 +9,10 @@ use ada_phrases::Step;
 use ada_syntax::SubprogramBody;
 use ada_tree::{Block, Parameter};
 use cov_base::{Failure, Seq};
-use declarations::all_declared;
 use program_walk::{Context, Returning, Walk};
-use specifications::closed_by;
-use statements::{all_handled, frame_returns};
+use statements::{all_declared, all_handled, frame_returns};
 use std::alloc::Global;
-use unit_walk::{entry_of, record_body};
+use unit_interfaces::{closed_by, entry_of, record_body};
 
 /// Whether a body whose `return` gives this may end: a function has at least one `return` (RM 6.5).
 fn may_end(body: &SubprogramBody, returning: Returning) -> bool

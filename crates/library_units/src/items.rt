@@ -2,8 +2,8 @@
 
 ghost use Rattle.cov_base.specs.declared.position.Pos.{Pos};
 ghost use Rattle.ada_rules.specs.Units as rules;
-ghost use Rattle.specifications.specs.Routines.{ComesToRegion};
-ghost use Rattle.specifications.specs.Going.{IsSound, AdvancesOn};
+ghost use Rattle.unit_interfaces.specs.specifications.specs.Routines.{ComesToRegion};
+ghost use Rattle.unit_interfaces.specs.specifications.specs.Going.{IsSound, AdvancesOn};
 ghost use Rattle.unit_interfaces.specs.Items.{ComesToItem};
 
 use crate::packaged::packaged_body;

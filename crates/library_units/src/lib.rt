@@ -22,5 +22,4 @@ mod unit_bodies;
 pub use package_bodies::package_body;
 pub use subprogram_bodies::subprogram_body;
 pub use unit_bodies::all_bodies;
-pub use unit_interfaces::all_shown;
-pub use unit_walk::instances_before;
+pub use unit_interfaces::{all_shown, instances_before};

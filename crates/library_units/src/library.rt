@@ -1,6 +1,6 @@
 //! Bodies of library subprograms (Ada RM 2012, 6.3, 10.1).
 
-ghost use Rattle.specifications.specs.Going.{IsSound, AdvancesOn};
+ghost use Rattle.unit_interfaces.specs.specifications.specs.Going.{IsSound, AdvancesOn};
 ghost use Rattle.library_units.specs.Library.{ComesToLibrary};
 
 use crate::inside::body_inside;
@@ -8,10 +8,9 @@ use ada_entities::Refusal;
 use ada_syntax::SubprogramBody;
 use cov_base::Failure;
 use program_walk::{Context, Walk};
-use specifications::{head_of, specified};
 use std::alloc::Global;
 use std::mem;
-use unit_walk::body_context;
+use unit_interfaces::{body_context, head_of, specified};
 
 /// The body of a library subprogram, whose unit was entered. Refused at the rules' own place.
 #[tactic(auto, using(program_walk::proofs::GoingLaws::parts))]

@@ -2,18 +2,17 @@
 
 ghost use Rattle.cov_base.specs.declared.position.Pos.{Pos};
 ghost use Rattle.ada_rules.specs.Units as rules;
-ghost use Rattle.unit_walk.specs.Bodies.{PassesBody, ComesToBody};
+ghost use Rattle.unit_interfaces.specs.unit_walk.specs.Bodies.{PassesBody, ComesToBody};
 
 use crate::items::body_items;
 use ada_demands::Instances;
 use ada_entities::{Refusal, Region};
 use ada_syntax::PackageBody;
 use cov_base::Failure;
-use program_walk::Walk;
-use specifications::closed_by;
+use program_walk::{Walk, generic_of};
 use std::alloc::Global;
-use unit_walk::{
-    UnitPlace, enter_unit, generic_of, leave_unit, note_library_words, package_context, text_of,
+use unit_interfaces::{
+    UnitPlace, closed_by, enter_unit, leave_unit, note_library_words, package_context, text_of,
 };
 
 /// The body of the package with this number: its declarations and bodies come behind those of its

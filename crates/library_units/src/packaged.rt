@@ -1,18 +1,17 @@
 //! Bodies in packages (Ada RM 2012, 6.3, 7.2).
 
 ghost use Rattle.ada_rules.specs.Subprograms as rules;
-ghost use Rattle.specifications.specs.Routines.{ComesToRegion};
-ghost use Rattle.specifications.specs.Going.{IsSound, AdvancesOn};
+ghost use Rattle.unit_interfaces.specs.specifications.specs.Routines.{ComesToRegion};
+ghost use Rattle.unit_interfaces.specs.specifications.specs.Going.{IsSound, AdvancesOn};
 
 use crate::inside::body_inside;
 use ada_entities::{Refusal, key};
 use ada_syntax::SubprogramBody;
 use cov_base::Failure;
 use program_walk::{Context, Walk};
-use specifications::packaged_head;
 use std::alloc::Global;
 use std::mem;
-use unit_walk::body_context;
+use unit_interfaces::{body_context, packaged_head};
 
 /// A body in a package, which completes a declaration that has none yet, or declares a subprogram
 /// (RM 6.3). Refused at the rules' own place.

@@ -1,6 +1,6 @@
 //! Bodies of library subprograms (Ada RM 2012, 6.3, 10.1).
 
-ghost use Rattle.unit_walk.specs.Bodies.{PassesBody, ComesToSubprogram};
+ghost use Rattle.unit_interfaces.specs.unit_walk.specs.Bodies.{PassesBody, ComesToSubprogram};
 
 use crate::library::library_body;
 use ada_demands::Instances;
@@ -9,7 +9,7 @@ use ada_syntax::SubprogramBody;
 use cov_base::Failure;
 use program_walk::Walk;
 use std::alloc::Global;
-use unit_walk::{UnitPlace, enter_unit, leave_unit};
+use unit_interfaces::{UnitPlace, enter_unit, leave_unit};
 
 /// The body of a library subprogram, which declares no object of the library level. Refused at the
 /// rules' own place.

@@ -1,7 +1,7 @@
 //! The bodies of all units of a library (Ada RM 2012, 7.2, 10.1).
 
 ghost use Rattle.std.specs.Prelude.{◌≡◌, IfOk};
-ghost use Rattle.unit_walk.specs.Bodies.{PassesBodies, ComesToNamed, ComesToBodiesOf, ComesToAllBodies};
+ghost use Rattle.unit_interfaces.specs.unit_walk.specs.Bodies.{PassesBodies, ComesToNamed, ComesToBodiesOf, ComesToAllBodies};
 
 use crate::package_bodies::package_body;
 use crate::subprogram_bodies::subprogram_body;
@@ -13,7 +13,7 @@ use ada_syntax::{LibraryItem, PackageBody, Unit};
 use cov_base::Failure;
 use program_walk::Walk;
 use std::alloc::{AllocError, Global};
-use unit_walk::{UnitPlace, routine_of};
+use unit_interfaces::{UnitPlace, routine_of};
 
 /// The number of the unit at this index. A list with more than 2^32 - 1 items has no memory.
 fn numbered(index: usize) -> Result<u32, AllocError>

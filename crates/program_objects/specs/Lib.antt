@@ -12,3 +12,5 @@ pub mod Units
 pub mod Why
 pub mod Kernels
 pub mod Expanding
+pub use Rattle.lower.specs.Standing
+pub use Rattle.parsed_texts.specs.Parsed

@@ -23,8 +23,10 @@ pub fn closed(alloc: Global, object: Object) -> Result<Compiled, AllocError>
     ensures file { IfOk result (λ c. c.file ≡ object_bytes c.object) }
 {
     let (file, closing) = write_with_digest(alloc, &object)?;
+    let mut closed = object;
+    closed.closing = closing;
     Ok(Compiled {
-        object: Object { closing, ..object },
+        object: closed,
         file: Bytes::from(file),
     })
 }

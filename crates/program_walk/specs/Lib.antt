@@ -20,3 +20,5 @@ pub mod Going
 pub mod Trees
 pub mod Objects
 pub mod Owners
+pub mod Standing
+pub mod UnitGenerics

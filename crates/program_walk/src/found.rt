@@ -26,20 +26,40 @@ pub struct DeclaredType {
 }
 
 /// The objects of a subprogram, in the order of the text, and the generic in whose text it stands.
-#[derive(Drop)]
 pub struct SubprogramWords {
     pub generic: Option<u32>,
     pub words: Vec<Word>,
 }
 
+// Written out: a derived drop is proved anew in each crate above.
+impl Drop for SubprogramWords {
+    fn drop(self) {
+        let SubprogramWords {
+            generic: _,
+            words: _,
+        } = self;
+    }
+}
+
 /// The objects of the library level that a unit declares: its number, that of its package, and the
 /// generic in whose text they stand.
-#[derive(Drop)]
 pub struct UnitWords {
     pub unit: u32,
     pub package_unit: u32,
     pub generic: Option<u32>,
     pub words: Vec<Subtype>,
+}
+
+// Written out: a derived drop is proved anew in each crate above.
+impl Drop for UnitWords {
+    fn drop(self) {
+        let UnitWords {
+            unit: _,
+            package_unit: _,
+            generic: _,
+            words: _,
+        } = self;
+    }
 }
 
 /// What was found so far, each in the order of the text: types; the objects of the subprogram, those of

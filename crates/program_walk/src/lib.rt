@@ -14,7 +14,7 @@
 //!
 //! | Modules | Of |
 //! |---|---|
-//! | `symbols`, `site`, `extent`, `changes`, `composite`, `generics`, `marks`, `table_laws` | types, subprograms, units and the regions round a place, as they grow |
+//! | `symbols`, `site`, `extent`, `changes`, `composite`, `generics`, `marks`, `unit_generics`, `table_laws` | types, subprograms, units and the regions round a place, as they grow |
 //! | `place`, `asks`, `part`, `bounds`, `index` | expressions that have to be static |
 //! | the others | where the walk stands, and what it has found |
 #![tactic(auto)]
@@ -36,6 +36,7 @@ mod place;
 mod site;
 mod symbols;
 mod table_laws;
+mod unit_generics;
 mod walk;
 
 pub use asks::{Accepted, Asks};
@@ -49,4 +50,5 @@ pub use place::{Notes, Place};
 pub use site::Site;
 pub use symbols::Symbols;
 pub use table_laws::{places_follow, units_follow, walks_begin_and_end};
+pub use unit_generics::generic_of;
 pub use walk::Walk;

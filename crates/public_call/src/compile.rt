@@ -6,7 +6,7 @@ ghost use Rattle.commands.specs.Content.{CompilesTo, RefusesSources};
 ghost use Rattle.commands.specs.Outcome.{Prepares};
 ghost use Rattle.commands.specs.Reading.{UnlessMemory};
 ghost use Rattle.commands.specs.Ready.{verdict_view};
-ghost use Rattle.program_objects.specs.Built.{HasPlainName};
+ghost use Rattle.commands.specs.Built.{HasPlainName};
 
 use commands::{Ready, ReadyFile, Status, read_sources, status_of, told};
 use compiler::compile;

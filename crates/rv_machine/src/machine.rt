@@ -27,13 +27,25 @@ const CALL_PUT: u32 = 2;
 const CALL_END: u32 = 3;
 
 /// A machine with the text of an object: the program counter, the registers and the memory.
-#[derive(Drop)]
 pub struct Machine<'a> {
     text: DecodedText<'a>,
     exceptions: usize,
     pc: u32,
     registers: [u32; 32],
     memory: Vec<u32>,
+}
+
+// Written out: a derived drop is proved anew in each crate above.
+impl Drop for Machine<'_> {
+    fn drop(self) {
+        let Machine {
+            text: _,
+            exceptions: _,
+            pc: _,
+            registers: _,
+            memory: _,
+        } = self;
+    }
 }
 
 impl<'a> Model for Machine<'a> {

@@ -12,6 +12,7 @@ mod loops;
 mod nested;
 mod simple;
 
+pub use declarations::all_declared;
 pub use laws::statements_have_parts;
 pub use nested::{Frame, all_handled, all_stated};
 pub use simple::{

@@ -44,12 +44,23 @@ pub struct HistoryEntry {
 
 /// What a trace file holds: the closing digest of the object that was run, how the run ended (0 for
 /// return, else the number of an exception), its blocks and its history.
-#[derive(Drop)]
 pub struct Trace {
     pub object: Digest,
     pub ending: u32,
     pub blocks: Seq<Block>,
     pub history: Seq<HistoryEntry>,
+}
+
+// Written out: a derived drop is proved anew in each crate above.
+impl Drop for Trace {
+    fn drop(self) {
+        let Trace {
+            object: _,
+            ending: _,
+            blocks: _,
+            history: _,
+        } = self;
+    }
 }
 
 impl Formatted for Block {

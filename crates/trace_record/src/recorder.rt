@@ -32,13 +32,25 @@ pub struct OpenPiece {
 
 /// What is kept of a run of an object: a mark for each word of its text, the piece that no control
 /// transfer has ended yet, and the history of the branches that need one.
-#[derive(Drop)]
 pub struct Recorder<'a> {
     alloc: Global,
     map: DecisionMap<'a>,
     marks: Vec<Mark>,
     open_piece: Option<OpenPiece>,
     history: Vec<HistoryEntry>,
+}
+
+// Written out: a derived drop is proved anew in each crate above.
+impl Drop for Recorder<'_> {
+    fn drop(self) {
+        let Recorder {
+            alloc: _,
+            map: _,
+            marks: _,
+            open_piece: _,
+            history: _,
+        } = self;
+    }
 }
 
 impl<'a> Model for Recorder<'a> {

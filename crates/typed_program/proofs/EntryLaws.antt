@@ -19,7 +19,7 @@ use Rattle.ada_entities.specs.EntityViews.{Tables}
 use Rattle.ada_library.specs.declared.library.Library.{Library}
 use Rattle.ada_library.specs.LibraryView.{IsNamed}
 use Rattle.ada_library.specs.Seeing.{Stands}
-use Rattle.unit_walk.specs.Bodies.{IsGenericOf}
+use Rattle.program_walk.specs.UnitGenerics.{IsGenericOf}
 use Rattle.typed_program.specs.Entries.{IsOwnRole, IsBodyRole, IsRoleOf, IsEntryOf, AreEntries}
 use Rattle.program_weights.specs.Entries.{text_role, body_role, role_of, entry_of, entries_from}
 

@@ -8,9 +8,8 @@ use ada_entities::{Interface, key};
 use ada_library::Library;
 use ada_syntax::{LibraryItem, PackageBody, Unit, node_count};
 use ada_tree::{UnitEntry, UnitRole};
-use program_walk::Symbols;
+use program_walk::{Symbols, generic_of};
 use std::alloc::{AllocError, Global};
-use unit_walk::generic_of;
 
 /// The number of the unit at this index. A list with more than 2^32 - 1 items has no memory.
 fn numbered(index: usize) -> Result<u32, AllocError>

@@ -17,7 +17,7 @@ use Rattle.program_walk.proofs.Following.{changed_inside}
 use Rattle.program_walk.specs.Going.{region_in, GoesInside, GoesOn, Stays}
 use Rattle.program_walk.proofs.GoingLaws.{inside_continues}
 use Rattle.program_walk.proofs.InsideLaws.{grows_inside, grows_itself, stays_open}
-use Rattle.specifications.specs.Going.{IsSound, Advances, AdvancesOn}
+use Rattle.unit_walk.specs.specifications.specs.Going.{IsSound, Advances, AdvancesOn}
 
 pub advances_nowhere : (w : Walk) → IsOpen w.symbols → Advances w w
 advances_nowhere w open_now = record { symbols = grows_inside w.symbols w.symbols open_now (grows_itself w.symbols); continues = λ k b. b }

@@ -29,7 +29,7 @@ use Rattle.ada_library.specs.Seeing.{IsSeen}
 use Rattle.ada_phrases.proofs.Parts.{passes_on, in_part, refused_as}
 use Rattle.program_walk.specs.declared.walk.Walk.{Walk}
 use Rattle.program_walk.specs.States.{state_of}
-use Rattle.unit_walk.specs.Standing.{StandsBefore, IsKnownEntity}
+use Rattle.program_walk.specs.Standing.{StandsBefore, IsKnownEntity}
 use Rattle.unit_walk.proofs.SeenLaws.{seen_known}
 use Rattle.unit_walk.specs.Interfaces.{IsIdle}
 use Rattle.unit_walk.specs.Walked.{GoesBehind, IsBetween, IsWalked, WalkedAs}

@@ -23,7 +23,7 @@ use Rattle.declarations.specs.Locals.{made_of}
 use Rattle.declarations.specs.Made.{behind_made, behind}
 use Rattle.declarations.specs.Values.{declared_in}
 use Rattle.program_walk.proofs.GoingLaws.{region_is}
-use Rattle.specifications.specs.Going.{Advances}
+use Rattle.unit_walk.specs.specifications.specs.Going.{Advances}
 use Rattle.unit_interfaces.proofs.GoingLaws.{stands_advanced}
 
 -- what a part comes to, and nothing behind it

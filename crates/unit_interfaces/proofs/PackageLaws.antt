@@ -33,9 +33,9 @@ use Rattle.program_walk.specs.States.{with_counts, state_of}
 use Rattle.program_walk.specs.Walks.{Begins, StandsAt}
 use Rattle.program_walk.specs.Going.{region_in, Stays, GoesInside}
 use Rattle.program_walk.proofs.GoingLaws.{inside_continues, refused_behind, stands_then}
-use Rattle.specifications.specs.Profiles.{IsClosed}
-use Rattle.specifications.specs.Routines.{ComesToRegion}
-use Rattle.unit_walk.specs.Standing.{StandsBefore}
+use Rattle.unit_walk.specs.specifications.specs.Profiles.{IsClosed}
+use Rattle.unit_walk.specs.specifications.specs.Routines.{ComesToRegion}
+use Rattle.program_walk.specs.Standing.{StandsBefore}
 use Rattle.unit_walk.specs.Entering.{IsUnitContext, IsPackageContext, IsEntered, LeavesWords}
 use Rattle.unit_walk.proofs.StandingLaws.{grown, shown, in_text}
 use Rattle.unit_walk.specs.Walked.{IsWalked}

@@ -8,7 +8,7 @@ use Rattle.ada_rules.specs.Environment.{State, Given, Env}
 use Rattle.ada_entities.specs.declared.fault.Refusal.{Refusal}
 use Rattle.program_walk.specs.declared.context.Context.{Context}
 use Rattle.program_walk.specs.declared.walk.Walk.{Walk}
-use Rattle.specifications.specs.Routines.{ComesToRegion}
+use Rattle.unit_walk.specs.specifications.specs.Routines.{ComesToRegion}
 
 -- an item, wherever the list of items begins
 abbrev pub ComesToItem : {A : Type 0} → Context → (old new : Walk) → (Env → State → Plan (Given Region))

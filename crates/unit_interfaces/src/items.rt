@@ -4,7 +4,7 @@ ghost use Rattle.cov_base.specs.declared.position.Pos.{Pos};
 ghost use Rattle.ada_syntax.specs.declared.unit.PackageItem.TheVariants as part;
 ghost use Rattle.ada_rules.specs.Units as rules;
 ghost use Rattle.program_walk.specs.Going.{GoesOn, IsWalkOpen};
-ghost use Rattle.specifications.specs.Routines.{ComesToRegion};
+ghost use Rattle.unit_walk.specs.specifications.specs.Routines.{ComesToRegion};
 ghost use Rattle.unit_interfaces.specs.Items.{ComesToItem};
 
 use ada_entities::Refusal;
@@ -12,8 +12,8 @@ use ada_syntax::{Declaration, PackageItem};
 use cov_base::Failure;
 use declarations::declared;
 use program_walk::{Context, Walk};
-use specifications::subprogram_declared;
 use std::alloc::Global;
+use unit_walk::subprogram_declared;
 
 /// A declaration in a package, which makes no declaration of a subprogram's body.
 #[tactic(auto, using(program_walk::proofs::GoingLaws::parts))]

@@ -13,3 +13,8 @@ mod shown_packages;
 
 pub use interfaces::all_shown;
 pub use items::{package_item, package_items};
+pub use unit_walk::{
+    UnitPlace, body_context, closed_by, enter_unit, entry_of, head_of, instances_before,
+    leave_unit, note_library_words, package_context, packaged_head, record_body, routine_of,
+    specified, text_of,
+};

@@ -14,10 +14,10 @@ use ada_entities::{Interface, Refusal, Region};
 use ada_syntax::{Formal, PackageSpecification};
 use cov_base::{Failure, Seq};
 use program_walk::{Symbols, Walk};
-use specifications::closed_by;
 use std::alloc::{AllocError, Global};
 use unit_walk::{
-    UnitPlace, enter_unit, formals_declared, leave_unit, note_library_words, package_context,
+    UnitPlace, closed_by, enter_unit, formals_declared, leave_unit, note_library_words,
+    package_context,
 };
 
 /// The generic that a unit is, where it has formals.

@@ -26,7 +26,7 @@ use Rattle.program_walk.specs.declared.walk.Walk.{Walk}
 use Rattle.program_walk.specs.Walks.{Begins, Continues, StandsAt}
 use Rattle.program_walk.specs.Going.{Stays, GoesInside}
 use Rattle.program_walk.proofs.GoingLaws.{inside_continues, stays_behind}
-use Rattle.unit_walk.specs.Standing.{StandsBefore}
+use Rattle.program_walk.specs.Standing.{StandsBefore}
 use Rattle.unit_walk.specs.Entering.{IsUnitContext, IsEntered, Enters, Leaves}
 use Rattle.unit_walk.proofs.StandingLaws.{in_unit}
 use Rattle.unit_walk.specs.Walked.{IsBetween, GoesBehind}

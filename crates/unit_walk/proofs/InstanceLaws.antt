@@ -32,7 +32,7 @@ use Rattle.program_walk.specs.Walks.{Begins, IsPlaceOf}
 use Rattle.specifications.specs.Actuals.{actuals_in}
 use Rattle.program_walk.specs.Going.{Stays}
 use Rattle.unit_walk.specs.declared.instantiation.Instantiated.{Instantiated}
-use Rattle.unit_walk.specs.Standing.{StandsBefore}
+use Rattle.program_walk.specs.Standing.{StandsBefore}
 use Rattle.unit_walk.specs.Entering.{IsUnitContext, IsEntered, Leaves}
 use Rattle.unit_walk.specs.Instantiating.{instantiated_of, instance_part, judged_from, behind_instance, Makes, KeepsSymbols, SeesInstance}
 use Rattle.unit_walk.proofs.InstantiatingLaws.{judged}

@@ -16,7 +16,7 @@ use Rattle.ada_library.specs.Seeing.{Stands, IsSeen, IsSeenInBody}
 use Rattle.program_walk.specs.declared.symbols.Symbols.{Symbols}
 use Rattle.program_walk.specs.Alike.{IsKnownRegion}
 use Rattle.program_walk.specs.SymbolViews.{IsKnown}
-use Rattle.unit_walk.specs.Standing.{IsKnownEntity}
+use Rattle.program_walk.specs.Standing.{IsKnownEntity}
 
 -- a world of these units alone
 abbrev world_with : List environment.Interface → World

@@ -14,7 +14,7 @@ use Rattle.program_walk.proofs.PlaceLaws.{units_stay, units_shown, holds_unit, h
 use Rattle.program_walk.specs.declared.context.Context.{Context}
 use Rattle.program_walk.specs.declared.walk.Walk.{Walk}
 use Rattle.program_walk.specs.Walks.{is_library, returning_of}
-use Rattle.unit_walk.specs.Standing.{Follows, FollowsShown}
+use Rattle.program_walk.specs.Standing.{Follows, FollowsShown}
 use Rattle.unit_walk.specs.Entering.{IsUnitContext, IsPackageContext, IsEntered, StandsInUnit, StandsInPackage}
 
 pub grown : (old new : Walk) (rs : List (List (List ℕ × Entity))) → Becomes old.symbols new.symbols rs old.symbols.units → Follows old new

@@ -29,7 +29,7 @@ use Rattle.program_walk.specs.States.{state_of}
 use Rattle.program_walk.specs.Walks.{Begins, HasLibrary, StandsAt}
 use Rattle.specifications.specs.Alone.{HasProfile}
 use Rattle.specifications.specs.Routines.{IsRoutineOf}
-use Rattle.unit_walk.specs.Standing.{StandsBefore}
+use Rattle.program_walk.specs.Standing.{StandsBefore}
 use Rattle.unit_walk.specs.Entering.{IsUnitContext, IsEntered}
 use Rattle.unit_walk.proofs.StandingLaws.{grown, shown}
 use Rattle.unit_walk.specs.Subprograms.{IsBodyOrFirst}

@@ -25,19 +25,15 @@ use Rattle.program_walk.specs.declared.walk.Walk.{Walk}
 use Rattle.program_walk.specs.States.{state_of}
 use Rattle.program_walk.specs.Walks.{Begins, Continues}
 use Rattle.program_walk.specs.Going.{Stays}
-use Rattle.unit_walk.specs.Standing.{StandsBefore}
+use Rattle.program_walk.specs.Standing.{StandsBefore}
 use Rattle.unit_walk.specs.declared.place.UnitPlace.{UnitPlace}
 use Rattle.unit_walk.specs.Interfaces.{IsIdle}
 use Rattle.unit_walk.specs.Walked.{IsBetween, env_at}
 
--- What others see of a unit says what its body begins with: the declarations of its text, the generic that it is, if it
--- is one, and the subprogram that its name denotes.
+-- What others see of a unit says what its body begins with: the declarations of its text, and the subprogram that its
+-- name denotes.
 abbrev pub IsTextIn : Interface → List (List ℕ × Entity) → Type 0
 IsTextIn i r = (k : Tables) (actuals : ℕ → List Actual) → region_of k r ≡ rules.region_of (interface_of k actuals i)
-
-abbrev pub IsGenericIn : Interface → ℕ → Option ℕ → Type 0
-IsGenericIn i n g =
-    (k : Tables) (actuals : ℕ → List Actual) → g ≡ rules.is_generic_interface (interface_of k actuals i) n
 
 abbrev pub IsRoutineIn : Interface → Entity → Type 0
 IsRoutineIn i x =
@@ -48,11 +44,6 @@ abbrev pub IsTextOf : List Interface → ℕ → List (List ℕ × Entity) → T
 IsTextOf units n r =
     (k : Tables) (actuals : ℕ → List Actual) (w : World) → w.interfaces ≡ map (interface_of k actuals) units
     → region_of k r ≡ rules.region_of (environment.interface_of w n)
-
-abbrev pub IsGenericOf : List Interface → ℕ → Option ℕ → Type 0
-IsGenericOf units n g =
-    (k : Tables) (actuals : ℕ → List Actual) (w : World) → w.interfaces ≡ map (interface_of k actuals) units
-    → g ≡ rules.is_generic_interface (environment.interface_of w n) n
 
 abbrev pub IsRoutineOf : List Interface → ℕ → Entity → Type 0
 IsRoutineOf units n x =

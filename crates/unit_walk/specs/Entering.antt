@@ -21,7 +21,7 @@ use Rattle.program_walk.specs.declared.walk.Walk.{Walk}
 use Rattle.program_walk.specs.declared.found.Found.{Found}
 use Rattle.program_walk.specs.States.{with_found, state_of}
 use Rattle.program_walk.specs.Walks.{Begins, StandsAt}
-use Rattle.unit_walk.specs.Standing.{StandsBefore}
+use Rattle.program_walk.specs.Standing.{StandsBefore}
 
 -- where a unit is looked at, outside of each package
 pub record IsUnitContext (now : Step) (x : Library) (facts : List Facts) (n : ℕ) (name : List ℕ) (c : Context)

@@ -17,7 +17,7 @@ use Rattle.program_walk.specs.SymbolViews.{IsKnown}
 use Rattle.program_walk.specs.declared.walk.Walk.{Walk}
 use Rattle.program_walk.specs.States.{state_of}
 use Rattle.program_walk.specs.Walks.{Begins}
-use Rattle.unit_walk.specs.Standing.{StandsBefore}
+use Rattle.program_walk.specs.Standing.{StandsBefore}
 use Rattle.unit_walk.specs.Walked.{PassesUnit, WalkedAs}
 
 -- a walk between units of this library, where no region is open

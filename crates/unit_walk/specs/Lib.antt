@@ -1,5 +1,4 @@
 pub mod Instances
-pub mod Standing
 pub mod Entering
 pub mod Instantiating
 pub mod Formals
@@ -8,3 +7,4 @@ pub mod Walked
 pub mod Subprograms
 pub mod Interfaces
 pub mod Bodies
+pub use Rattle.specifications

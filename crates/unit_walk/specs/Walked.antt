@@ -18,7 +18,7 @@ use Rattle.program_walk.specs.declared.walk.Walk.{Walk}
 use Rattle.program_walk.specs.States.{state_of}
 use Rattle.program_walk.specs.Walks.{Begins, Continues}
 use Rattle.program_walk.specs.Going.{Stays}
-use Rattle.unit_walk.specs.Standing.{StandsBefore}
+use Rattle.program_walk.specs.Standing.{StandsBefore}
 use Rattle.unit_walk.specs.declared.place.UnitPlace.{UnitPlace}
 
 -- a walk between units, where no region is open, before a unit that sees this of the library

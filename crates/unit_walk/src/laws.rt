@@ -21,7 +21,7 @@ ghost use Rattle.program_walk.specs.Changes.{Becomes, ShowsUnit};
 ghost use Rattle.program_walk.specs.SymbolViews.{IsKnown};
 ghost use Rattle.program_walk.specs.declared.context.Context.{Context};
 ghost use Rattle.program_walk.specs.declared.walk.Walk.{Walk};
-ghost use Rattle.unit_walk.specs.Standing.{IsKnownEntity, Follows, FollowsShown};
+ghost use Rattle.program_walk.specs.Standing.{IsKnownEntity, Follows, FollowsShown};
 ghost use Rattle.unit_walk.specs.Instantiating.{instance_part, judged_from};
 ghost use Rattle.unit_walk.specs.Entering.{IsUnitContext, IsPackageContext, IsEntered, StandsInUnit, StandsInPackage};
 

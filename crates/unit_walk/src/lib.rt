@@ -1,7 +1,7 @@
 //! Units as they are entered and left, and what others see of instances and subprograms (Ada RM 2012, 7.1,
 //! 10.1, 12.1, 12.3).
 //!
-//! Between units no region is open, and a world has what the walk keeps (`specs/Standing.antt`). A unit is
+//! Between units no region is open, and a world has what the walk keeps (`program_walk/specs/Standing.antt`). A unit is
 //! entered with what it sees of the library, in which its text stands (`entering`).
 //!
 //! | Modules | Of |
@@ -35,5 +35,6 @@ pub use laws::{
 };
 pub use place::UnitPlace;
 pub use recording::{entry_of, record_body};
+pub use specifications::{closed_by, head_of, packaged_head, specified, subprogram_declared};
 pub use subprograms::subprogram_shown;
-pub use unit_texts::{generic_of, routine_of, text_of};
+pub use unit_texts::{routine_of, text_of};

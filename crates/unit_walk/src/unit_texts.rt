@@ -1,7 +1,7 @@
 //! What the body of a unit begins with (Ada RM 2012, 7.2, 10.1).
 
 ghost use Rattle.std.specs.Prelude.{IfOk};
-ghost use Rattle.unit_walk.specs.Bodies.{IsTextIn, IsGenericIn, IsRoutineIn, IsTextOf, IsGenericOf, IsRoutineOf};
+ghost use Rattle.unit_walk.specs.Bodies.{IsTextIn, IsRoutineIn, IsTextOf, IsRoutineOf};
 
 use ada_entities::{Entity, Interface, Region};
 use program_walk::Symbols;
@@ -17,19 +17,6 @@ fn text_in(alloc: Global, interface: &Interface) -> Result<Region, AllocError>
         Interface::Unknown | Interface::Instance(_, _) | Interface::Subprogram(_) => {
             Ok(Region::new(alloc))
         }
-    }
-}
-
-/// The generic that a unit with this number is, where others see this of it.
-fn generic_in(interface: &Interface, unit: u32) -> Option<u32>
-    ensures { IsGenericIn interface.now unit result }
-{
-    match interface {
-        Interface::Generic(_, _) => Some(unit),
-        Interface::Unknown
-        | Interface::Package(_)
-        | Interface::Instance(_, _)
-        | Interface::Subprogram(_) => None,
     }
 }
 
@@ -53,16 +40,6 @@ pub fn text_of(alloc: Global, symbols: &Symbols, unit: u32) -> Result<Region, Al
     match symbols.interface(unit) {
         Some(interface) => text_in(alloc, interface),
         None => Ok(Region::new(alloc)),
-    }
-}
-
-/// The generic that the unit with this number is, if it is one.
-pub fn generic_of(symbols: &Symbols, unit: u32) -> Option<u32>
-    ensures { IsGenericOf symbols.now.units unit result }
-{
-    match symbols.interface(unit) {
-        Some(interface) => generic_in(interface, unit),
-        None => None,
     }
 }
 

@@ -19,7 +19,7 @@ use Rattle.ada_phrases.specs.Scopes.{step_of}
 use Rattle.program_walk.specs.declared.walk.Walk.{Walk}
 use Rattle.program_walk.specs.States.{state_of}
 use Rattle.program_walk.specs.Walks.{Begins, IsBeginning}
-use Rattle.unit_walk.specs.Standing.{StandsBefore}
+use Rattle.program_walk.specs.Standing.{StandsBefore}
 use Rattle.walked_program.specs.declared.whole_walk.WholeWalk.{WholeWalk}
 
 -- The main unit is there, or the program is refused where its first file begins.

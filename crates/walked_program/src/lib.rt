@@ -14,4 +14,5 @@ mod whole_walk;
 pub use behind::{naming, program, typing};
 pub use fault::CheckFault;
 pub use laws::a_refusal_is_of_a_broken_rule;
-pub use whole_walk::WholeWalk;
+pub use typed_program::discard_program;
+pub use whole_walk::{WholeWalk, discard_walk};

@@ -1,5 +1,5 @@
 use Rattle.std.specs.Str.{str_to_ascii_lowercase}
-use Rattle.program_weights.specs.Wholes.{DeclaresTypes, whole_library}
+use Rattle.checker.specs.Wholes.{DeclaresTypes, whole_library}
 use Rattle.compiler.proofs.Checked.{told_otherwise}
 use Rattle.compiler.proofs.checking.checked_program.Goals as goal
 

@@ -11,8 +11,8 @@ use Rattle.ada_phrases.proofs.Parts.{refused_as}
 use Rattle.program_walk.specs.declared.walk.Walk.{Walk}
 use Rattle.program_walk.specs.States.{types_in, state_of}
 use Rattle.program_walk.specs.Walks.{Begins}
-use Rattle.declarations.specs.Locals.{made_of}
-use Rattle.declarations.specs.Values.{declared_in}
+use Rattle.statements.specs.Locals.{made_of}
+use Rattle.statements.specs.Values.{declared_in}
 use Rattle.program_walk.proofs.GoingLaws.{stands_then, stays_behind, inside_continues, refused_behind}
 use Rattle.program_walk.proofs.HidingLaws.{stays_there}
 use Rattle.program_walk.proofs.InsideLaws.{stays_open}
@@ -21,7 +21,7 @@ use Rattle.statements.specs.declared.nested.Frame.{Frame}
 use Rattle.library_units.specs.Inside.{ending}
 use Rattle.unit_interfaces.proofs.GoingLaws.{inside_advances, then_advances, grows_advances, memory_stays}
 use Rattle.library_units.proofs.InsideLaws.{declarations_refused, statements_refused, statements_pass, block_is}
-use Rattle.unit_walk.proofs.RecordingLaws.{body_is_made}
+use Rattle.unit_interfaces.specs.unit_walk.proofs.RecordingLaws.{body_is_made}
 use Rattle.library_units.proofs.inside.body_inside.Goals as goal
 
 pub returns-in_err-made-clause-comes : goal.returns-in_err-made-clause-comes

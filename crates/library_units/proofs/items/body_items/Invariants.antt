@@ -4,7 +4,7 @@ use Rattle.ada_rules.specs.Environment.{Env}
 use Rattle.ada_rules.specs.Units.{body_items}
 use Rattle.ada_entities.specs.EntityViews.{Tables}
 use Rattle.program_walk.specs.Walks.{Begins, StandsAt}
-use Rattle.specifications.specs.Going.{IsSound, Advances}
+use Rattle.unit_interfaces.specs.specifications.specs.Going.{IsSound, Advances}
 use Rattle.unit_interfaces.proofs.ItemLaws.{Reaches}
 use Rattle.library_units.proofs.items.body_items.Given as goal
 

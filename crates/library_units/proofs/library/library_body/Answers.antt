@@ -12,12 +12,12 @@ use Rattle.program_walk.specs.Going.{region_in}
 use Rattle.program_walk.proofs.GoingLaws.{stays_behind, refused_behind}
 use Rattle.program_walk.proofs.InsideLaws.{grows_itself}
 use Rattle.ada_entities.specs.RegionCode.{innermost}
-use Rattle.specifications.specs.Profiles.{profile_of}
-use Rattle.specifications.proofs.AloneLaws.{emptied_walk, emptied_continues, enters_continues, restored}
-use Rattle.specifications.specs.Contexts.{IsBodyContext}
-use Rattle.specifications.proofs.ContextLaws.{in_subprogram, stands_in_body}
+use Rattle.unit_interfaces.specs.specifications.specs.Profiles.{profile_of}
+use Rattle.unit_interfaces.specs.specifications.proofs.AloneLaws.{emptied_walk, emptied_continues, enters_continues, restored}
+use Rattle.unit_interfaces.specs.specifications.specs.Contexts.{IsBodyContext}
+use Rattle.unit_interfaces.specs.specifications.proofs.ContextLaws.{in_subprogram, stands_in_body}
 use Rattle.unit_interfaces.proofs.GoingLaws.{region_left, into_open}
-use Rattle.specifications.proofs.HeadLaws.{specified_alike}
+use Rattle.unit_interfaces.specs.specifications.proofs.HeadLaws.{specified_alike}
 use Rattle.library_units.proofs.LibraryLaws.{profile_refused, body_refused, body_passes, bare, opens_into}
 use Rattle.library_units.proofs.library.library_body.Goals as goal
 

@@ -1,6 +1,6 @@
 use Rattle.std.proofs.lemmas.Result.{err_from_is_err_and}
 use Rattle.program_walk.specs.Walks.{Begins}
-use Rattle.unit_walk.proofs.BetweenLaws.{entered_stays}
+use Rattle.unit_interfaces.specs.unit_walk.proofs.BetweenLaws.{entered_stays}
 use Rattle.library_units.proofs.BodyLaws.{text_known, sound_entered, advanced_stays, body_left, refused_at_items, refused_at_end, body_comes}
 use Rattle.library_units.proofs.package_bodies.package_body.Goals as goal
 

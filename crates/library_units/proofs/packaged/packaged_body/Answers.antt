@@ -10,11 +10,11 @@ use Rattle.program_walk.specs.Walks.{Begins}
 use Rattle.program_walk.proofs.Following.{grown}
 use Rattle.program_walk.proofs.GoingLaws.{stays_behind, refused_behind}
 use Rattle.program_walk.proofs.InsideLaws.{grows_itself}
-use Rattle.specifications.proofs.AloneLaws.{emptied_walk, emptied_continues, restored}
-use Rattle.specifications.specs.Contexts.{IsBodyContext}
-use Rattle.specifications.specs.Going.{IsSound}
+use Rattle.unit_interfaces.specs.specifications.proofs.AloneLaws.{emptied_walk, emptied_continues, restored}
+use Rattle.unit_interfaces.specs.specifications.specs.Contexts.{IsBodyContext}
+use Rattle.unit_interfaces.specs.specifications.specs.Going.{IsSound}
 use Rattle.unit_interfaces.proofs.GoingLaws.{region_left, into_open}
-use Rattle.specifications.proofs.HeadLaws.{body_refused, body_passes}
+use Rattle.unit_interfaces.specs.specifications.proofs.HeadLaws.{body_refused, body_passes}
 use Rattle.library_units.proofs.packaged.packaged_body.Goals as goal
 
 pub returns-in_err-head-clause-comes : goal.returns-in_err-head-clause-comes

@@ -2,7 +2,7 @@ use Rattle.std.proofs.Common.{[]}
 use Rattle.std.proofs.lemmas.Result.{err_from_is_err_and}
 use Rattle.program_walk.specs.Walks.{Begins}
 use Rattle.ada_entities.specs.Answers.{no_memory}
-use Rattle.unit_walk.proofs.BetweenLaws.{is_entered, entered_stays}
+use Rattle.unit_interfaces.specs.unit_walk.proofs.BetweenLaws.{is_entered, entered_stays}
 use Rattle.library_units.proofs.BodyLaws.{sound_entered, body_left, inside_refused, inside_comes}
 use Rattle.library_units.proofs.subprogram_bodies.subprogram_body.Goals as goal
 

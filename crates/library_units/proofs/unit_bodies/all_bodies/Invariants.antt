@@ -8,9 +8,9 @@ use Rattle.ada_entities.specs.EntityViews.{Tables}
 use Rattle.ada_phrases.specs.Scopes.{step_of}
 use Rattle.program_walk.specs.States.{state_of}
 use Rattle.program_walk.specs.Walks.{Begins}
-use Rattle.unit_walk.specs.Standing.{StandsBefore}
-use Rattle.unit_walk.specs.Bodies.{GoesByBodies}
-use Rattle.unit_walk.specs.Interfaces.{IsIdle}
+use Rattle.program_walk.specs.Standing.{StandsBefore}
+use Rattle.unit_interfaces.specs.unit_walk.specs.Bodies.{GoesByBodies}
+use Rattle.unit_interfaces.specs.unit_walk.specs.Interfaces.{IsIdle}
 use Rattle.library_units.proofs.unit_bodies.all_bodies.Given as goal
 
 abbrev pub invariant-loop-index : goal.invariant-loop-index

@@ -1,7 +1,7 @@
 use Rattle.std.proofs.Common.{List, All, map, subst, sym}
 use Rattle.std.proofs.lemmas.Result.{err_from_is_err_and}
 use Rattle.commands.proofs.SourceLaws.{compile_made, compile_refused, compile_unread, counted}
-use Rattle.program_objects.specs.Built.{HasPlainName}
+use Rattle.commands.specs.Built.{HasPlainName}
 use Rattle.cov_base.specs.declared.obligations.SourceFile.{SourceFile}
 use Rattle.public_call.proofs.compile.prepare.Goals as goal
 

@@ -7,7 +7,7 @@ use Rattle.ada_entities.specs.EntityViews.{Tables}
 use Rattle.ada_phrases.specs.Scopes.{step_of}
 use Rattle.program_walk.specs.States.{state_of}
 use Rattle.program_walk.specs.Walks.{Begins}
-use Rattle.unit_walk.specs.Standing.{StandsBefore}
+use Rattle.program_walk.specs.Standing.{StandsBefore}
 use Rattle.unit_walk.specs.Interfaces.{IsIdle}
 use Rattle.unit_walk.specs.Walked.{GoesBehind}
 use Rattle.unit_interfaces.proofs.InterfaceLaws.{Reached}
