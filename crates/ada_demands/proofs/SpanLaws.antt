@@ -1,7 +1,7 @@
 -- Tables that begin with those of a longer table.
 use Rattle.std.proofs.Common.{◌≡◌, List, ◌++◌, map, append_assoc, ap, ◌∙◌}
 use Rattle.std.proofs.lemmas.List.{map-append}
-use Rattle.ada_entities.specs.EntityViews.{Tables}
+use Rattle.ada_judged.specs.ada_entities.specs.EntityViews.{Tables}
 use Rattle.ada_demands.specs.declared.spans.ListedSpans.{ListedSpans}
 use Rattle.ada_demands.specs.SpanEntries.{listed_of}
 use Rattle.ada_demands.specs.SpanViews.{Begins}

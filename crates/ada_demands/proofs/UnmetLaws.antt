@@ -7,7 +7,7 @@ use mathlib.Core.List.{reverse-cons}
 use Rattle.cov_base.specs.declared.position.Pos.{Pos}
 use Rattle.ada_rules.specs.Statics as rules
 use Rattle.ada_rules.specs.Statics.{Facts, Made, asked, instantiated, stands_in, made_of, looked_in, holds, failing, failing_in, unmet_behind, first_unmet}
-use Rattle.ada_entities.specs.EntityViews.{Tables}
+use Rattle.ada_judged.specs.ada_entities.specs.EntityViews.{Tables}
 use Rattle.ada_demands.specs.declared.demand.Demand.{Demand}
 use Rattle.ada_demands.specs.declared.demand.Asked.{Asked}
 use Rattle.ada_demands.specs.declared.demand.Asked.TheVariants as ask

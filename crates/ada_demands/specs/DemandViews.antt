@@ -3,7 +3,7 @@ use Rattle.std.specs.Prelude.{Bool, true, false, map}
 use Rattle.ada_tree.specs.View.{choice_of, scalar_range_of, static_value_of}
 use Rattle.ada_rules.specs.Statics as rules
 use Rattle.ada_rules.specs.Statics.{lies_in, chosen_in, in_order, covers, asked, instantiated}
-use Rattle.ada_entities.specs.EntityViews.{Tables, values_of}
+use Rattle.ada_judged.specs.ada_entities.specs.EntityViews.{Tables, values_of}
 use Rattle.ada_demands.specs.declared.demand.Others.{Others}
 use Rattle.ada_demands.specs.declared.demand.Others.TheVariants as others
 use Rattle.ada_demands.specs.declared.demand.Test.{Test}

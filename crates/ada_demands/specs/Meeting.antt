@@ -6,7 +6,7 @@ use Rattle.std.specs.Option.{option_or}
 use Rattle.cov_base.specs.declared.position.Pos.{Pos}
 use Rattle.ada_rules.specs.Statics as rules
 use Rattle.ada_rules.specs.Statics.{Facts, holds, failing}
-use Rattle.ada_entities.specs.EntityViews.{Tables}
+use Rattle.ada_judged.specs.ada_entities.specs.EntityViews.{Tables}
 use Rattle.ada_demands.specs.declared.demand.Test.{Test}
 use Rattle.ada_demands.specs.declared.demand.Demand.{Demand}
 use Rattle.ada_demands.specs.DemandViews.{test_of, demand_of}

@@ -3,7 +3,7 @@ use Rattle.std.specs.Prelude.{ℕ, nat_eq, List, [], ◌∷◌, ◌++◌, map, s
 use Rattle.std.specs.Borrow.{Bor}
 use Rattle.cov_base.specs.declared.position.Pos.{Pos}
 use Rattle.ada_rules.specs.Statics.{Facts, failing, stands_in}
-use Rattle.ada_entities.specs.EntityViews.{Tables}
+use Rattle.ada_judged.specs.ada_entities.specs.EntityViews.{Tables}
 use Rattle.ada_demands.specs.declared.demand.Demand.{Demand}
 use Rattle.ada_demands.specs.declared.demand.Asked.{Asked}
 use Rattle.ada_demands.specs.declared.demand.Asked.TheVariants as ask

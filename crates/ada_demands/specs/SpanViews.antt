@@ -2,8 +2,8 @@
 use Rattle.std.specs.Prelude.{◌≡◌, ℕ, List, ◌++◌, map, Option}
 use Rattle.ada_meaning.specs.Program.{Bounds}
 use Rattle.ada_rules.specs.Statics.{Facts, Spans, spans_in}
-use Rattle.ada_entities.specs.declared.entity.Values.{Values}
-use Rattle.ada_entities.specs.EntityViews.{Tables, values_of}
+use Rattle.ada_judged.specs.ada_entities.specs.declared.entity.Values.{Values}
+use Rattle.ada_judged.specs.ada_entities.specs.EntityViews.{Tables, values_of}
 use Rattle.ada_demands.specs.declared.spans.ListedSpans.{ListedSpans}
 use Rattle.ada_demands.specs.declared.spans.SpanTable.{SpanTable}
 use Rattle.ada_demands.specs.SpanEntries.{listed_of}

@@ -13,7 +13,7 @@ use Rattle.ada_rules.specs.Types.{base}
 use Rattle.ada_rules.specs.Statics.{Facts, instantiated}
 use Rattle.ada_rules.specs.Environment.{State, Given, given, Env, demanded}
 use Rattle.ada_rules.specs.Expressions.{entered_constant, value_named, static_known}
-use Rattle.ada_entities.specs.EntityViews.{Tables}
+use Rattle.ada_judged.specs.ada_entities.specs.EntityViews.{Tables}
 use Rattle.ada_judged.specs.declared.static_tree.StaticOperand.{StaticOperand}
 use Rattle.ada_demands.specs.declared.demand.Made.{Made}
 use Rattle.ada_demands.specs.declared.demand.Test.{Test}

@@ -2,7 +2,7 @@
 use Rattle.std.specs.Prelude.{◌≡◌, ℕ, List, map, Option}
 use Rattle.cov_base.specs.declared.position.Pos.{Pos}
 use Rattle.ada_rules.specs.Statics.{Facts, failing, first_unmet}
-use Rattle.ada_entities.specs.EntityViews.{Tables}
+use Rattle.ada_judged.specs.ada_entities.specs.EntityViews.{Tables}
 use Rattle.ada_demands.specs.declared.demand.Demand.{Demand}
 use Rattle.ada_demands.specs.declared.demand.Asked.{Asked}
 use Rattle.ada_demands.specs.DemandViews.{demand_of, asked_of}

@@ -1,7 +1,6 @@
 //! What the rules demand of static values (Ada RM 2012, 3.5, 4.9, 5.4).
 
-use ada_entities::Values;
-use ada_judged::StaticTree;
+use ada_judged::{StaticTree, Values};
 use ada_tree::{Choice, ScalarRange, StaticValue};
 use cov_base::{Pos, Seq};
 

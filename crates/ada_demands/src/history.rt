@@ -8,16 +8,31 @@ use crate::demand::{Asked, Demand};
 use std::alloc::{AllocError, Global};
 
 /// The demands of a generic's text, and the generic's instances, in the order in which they came.
-#[derive(Drop)]
 pub(crate) struct Group<'a> {
     pub(crate) demands: Vec<&'a Demand>,
     pub(crate) instances: Vec<u32>,
 }
 
+// Written out: a derived drop is proved anew in each crate above.
+impl<'a> Drop for Group<'a> {
+    fn drop(self) {
+        let Group {
+            demands: _,
+            instances: _,
+        } = self;
+    }
+}
+
 /// What was asked so far of each generic, by the number of its unit.
-#[derive(Drop)]
 pub(crate) struct History<'a> {
     groups: Vec<Group<'a>>,
+}
+
+// Written out: a derived drop is proved anew in each crate above.
+impl<'a> Drop for History<'a> {
+    fn drop(self) {
+        let History { groups: _ } = self;
+    }
 }
 
 impl<'a> History<'a> {

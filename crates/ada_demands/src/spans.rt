@@ -6,8 +6,8 @@ ghost use Rattle.ada_tree.specs.Programs.{bounds_of};
 ghost use Rattle.ada_tree.specs.View.{scalar_range_of};
 ghost use Rattle.ada_rules.specs.Types.{base, numbers};
 ghost use Rattle.ada_rules.specs.Entities.{type_values};
-ghost use Rattle.ada_entities.specs.EntityViews.{Tables, values_of};
-ghost use Rattle.ada_entities.specs.Views.{scalar_type_of};
+ghost use Rattle.ada_judged.specs.ada_entities.specs.EntityViews.{Tables, values_of};
+ghost use Rattle.ada_judged.specs.ada_entities.specs.Views.{scalar_type_of};
 ghost use Rattle.ada_rules.specs.Statics.{within, formal_values, result_bounds_of_fact, spans_in, type_bounds_of_fact};
 ghost use Rattle.ada_demands.specs.FactViews.{fact_of};
 ghost use Rattle.ada_demands.specs.SpanEntries.{listed_of, type_values_of};
@@ -15,8 +15,7 @@ ghost use Rattle.ada_demands.specs.SpanViews.{listed, Begins, IsListed, AreValue
 
 use crate::facts::{Fact, Instances};
 use crate::known::between;
-use ada_entities::{FormalKind, ScalarType, Values};
-use ada_judged::StaticTree;
+use ada_judged::{FormalKind, ScalarType, StaticTree, Values};
 use ada_tree::{Range, ScalarRange};
 use std::alloc::{AllocError, Global};
 

@@ -5,15 +5,14 @@ ghost use Rattle.ada_tree.specs.View.{scalar_range_of, static_of, static_value_o
 ghost use Rattle.ada_rules.specs.Types.{base};
 ghost use Rattle.ada_rules.specs.Environment.{State, beginning_state};
 ghost use Rattle.ada_rules.specs.Expressions.{entered_constant, value_named};
-ghost use Rattle.ada_entities.specs.EntityViews.{Tables, constant_of};
+ghost use Rattle.ada_judged.specs.ada_entities.specs.EntityViews.{Tables, constant_of};
 ghost use Rattle.ada_demands.specs.StaticsViews.{noted, own_value, Demands, Gives, Instantiates, GivesChain, Knows};
 
 use crate::constants::GenericConstants;
 use crate::demand::{Asked, Demand, Made, Test};
 use crate::facts::Instances;
 use crate::spans::base_range;
-use ada_entities::ConstantValue;
-use ada_judged::{StaticKind, StaticOperand, StaticTree};
+use ada_judged::{ConstantValue, StaticKind, StaticOperand, StaticTree};
 use ada_tree::{GenericConstant, Operator, Owner, ScalarRange, Static, StaticValue};
 use cov_base::Pos;
 use std::alloc::{AllocError, Global};

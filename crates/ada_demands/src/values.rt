@@ -7,13 +7,12 @@ ghost use Rattle.ada_meaning.specs.Statics.{bounds_between};
 ghost use Rattle.ada_tree.specs.Programs.{bounds_of};
 ghost use Rattle.ada_tree.specs.View.{operator_of, scalar_range_of, static_of, static_value_of};
 ghost use Rattle.ada_rules.specs.Statics.{bounds_in, value_in};
-ghost use Rattle.ada_entities.specs.EntityViews.{constant_of};
+ghost use Rattle.ada_judged.specs.ada_entities.specs.EntityViews.{constant_of};
 ghost use Rattle.ada_demands.specs.TreeValues.{operated};
 
 use crate::facts::Instances;
 use crate::known::Known;
-use ada_entities::ConstantValue;
-use ada_judged::{StaticKind, StaticOperand, StaticTree};
+use ada_judged::{ConstantValue, StaticKind, StaticOperand, StaticTree};
 use ada_resolved::{computed, owner_in, signed};
 use ada_tree::{Operator, Range, ScalarRange, Static, StaticValue};
 

@@ -3,7 +3,7 @@ use Rattle.std.proofs.Common.{◌≡◌, ℕ, ◌<◌, nat_lt, Bool, true, Optio
 use Rattle.std.proofs.lemmas.Bool.{and_parts, ltb-true}
 use Rattle.std.proofs.lemmas.List.{get_or_append_left}
 use Rattle.std.proofs.lemmas.Option.{unwrap_or-slice_get}
-use Rattle.ada_meaning.specs.Types.{Owner, here, of_instance}
+use Rattle.ada_rules.specs.ada_meaning.specs.Types.{Owner, here, of_instance}
 use Rattle.ada_tree.specs.View.{owner_of, scalar_range_of}
 use Rattle.ada_rules.specs.Types.{AdaType, of_type, no_field, and_field}
 use Rattle.ada_rules.specs.Entities.{Actual, type_seen}

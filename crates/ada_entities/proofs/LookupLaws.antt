@@ -6,7 +6,7 @@ use Rattle.std.specs.Option.{option_copied}
 use Rattle.std.proofs.lemmas.Bool.{and_parts}
 use Rattle.std.proofs.lemmas.List.{append_assoc, at_drop_more}
 use Rattle.std.proofs.lemmas.Option.{slice_get-map, slice_get_past, slice_get-get_or}
-use Rattle.ada_meaning.specs.Types.{Owner, here, of_instance}
+use Rattle.ada_rules.specs.ada_meaning.specs.Types.{Owner, here, of_instance}
 use Rattle.ada_rules.specs.Types.{Identity, AdaSubtype, Fields, no_field, and_field}
 use Rattle.ada_rules.specs.Denoted.{field_among}
 use Rattle.ada_rules.specs.Entities.{Actual, same_name, subtype_seen, fields_seen}

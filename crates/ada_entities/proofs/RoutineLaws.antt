@@ -1,8 +1,8 @@
 -- A subprogram that is seen through an instance, seen through another one.
 use Rattle.std.proofs.Common.{◌≡◌, ℕ, Bool, false, List, [], ◌∷◌, map, Option, Some, None, option_map, refl, sym, ap}
-use Rattle.ada_meaning.specs.Seen.{range_seen}
-use Rattle.ada_meaning.specs.Tree.{Callee, test_get, test_put, subprogram, formal_subprogram}
-use Rattle.ada_meaning.specs.Types.{Owner, here, of_instance}
+use Rattle.ada_rules.specs.ada_meaning.specs.Seen.{range_seen}
+use Rattle.ada_rules.specs.ada_meaning.specs.Tree.{Callee, test_get, test_put, subprogram, formal_subprogram}
+use Rattle.ada_rules.specs.ada_meaning.specs.Types.{Owner, here, of_instance}
 use Rattle.ada_rules.specs.Statics.{within}
 use Rattle.ada_rules.specs.Types.{Identity, AdaSubtype, of_type, range_in}
 use Rattle.ada_rules.specs.Entities.{Actual, Parameter, Routine, owner_seen, identity_seen, callee_seen, parameter_seen, subtype_seen, result_values_seen, routine_seen}

@@ -1,7 +1,7 @@
 -- Types, ranges and values of a generic's text as they are seen through an instance.
 use Rattle.std.proofs.Common.{◌≡◌, ℕ, refl, sym, ap, ◌∙◌}
-use Rattle.ada_meaning.specs.Seen.{range_seen}
-use Rattle.ada_meaning.specs.Types.{Owner, here, of_instance, Static, Range, between, formal_range}
+use Rattle.ada_rules.specs.ada_meaning.specs.Seen.{range_seen}
+use Rattle.ada_rules.specs.ada_meaning.specs.Types.{Owner, here, of_instance, Static, Range, between, formal_range}
 use Rattle.ada_tree.specs.View.{owner_of, range_by}
 use Rattle.ada_tree.specs.declared.types.Owner.{Owner as CodeOwner}
 use Rattle.ada_tree.specs.declared.types.Owner.TheVariants as owner

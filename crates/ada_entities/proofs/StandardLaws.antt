@@ -4,8 +4,8 @@ use Rattle.std.specs.Borrow.{Bor}
 use Rattle.std.specs.Map.{lookup}
 use Rattle.ada_rules.specs.Entities as rules
 use Rattle.ada_rules.specs.Entities.{Region, Routine, same_name}
-use Rattle.ada_meaning.specs.Resolved.{end_error}
-use Rattle.ada_meaning.specs.Tree.{predefined}
+use Rattle.ada_rules.specs.ada_meaning.specs.Resolved.{end_error}
+use Rattle.ada_rules.specs.ada_meaning.specs.Tree.{predefined}
 use Rattle.ada_entities.specs.declared.entity.Entity.{Entity}
 use Rattle.ada_entities.specs.EntityViews.{Tables, no_routine, awaiting, entity_of}
 use Rattle.ada_entities.specs.StandardCode.{declared_in, row_of, table_region, HasTestIo}

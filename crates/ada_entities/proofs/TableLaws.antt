@@ -3,7 +3,7 @@ use Rattle.std.proofs.Common.{◌≡◌, ◌≢◌, ℕ, zero, suc, ◌+◌, nat
 use Rattle.std.proofs.lemmas.Bool.{and_parts, and_from}
 use Rattle.std.proofs.lemmas.List.{map-set, get_or-set_same, get_or-set_other}
 use Rattle.std.proofs.lemmas.Option.{slice_get-map, slice_get_within, unwrap_or-slice_get}
-use Rattle.ada_meaning.specs.Types.{Owner, here, of_instance}
+use Rattle.ada_rules.specs.ada_meaning.specs.Types.{Owner, here, of_instance}
 use Rattle.ada_tree.specs.View.{owner_of}
 use Rattle.ada_rules.specs.Entities.{Actual}
 use Rattle.ada_entities.specs.declared.types.AdaType.{AdaType as CodeType}

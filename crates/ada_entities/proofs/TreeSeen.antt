@@ -1,9 +1,9 @@
 -- Types that are seen through an instance, as the typed program has them.
 use Rattle.std.proofs.Common.{◌≡◌, ℕ, List, Option, Some, None, slice_get, refl, ap}
-use Rattle.ada_meaning.specs.Types as meaning
-use Rattle.ada_meaning.specs.Types.{Range}
-use Rattle.ada_meaning.specs.Seen as seen
-use Rattle.ada_meaning.specs.Seen.{range_seen}
+use Rattle.ada_rules.specs.ada_meaning.specs.Types as meaning
+use Rattle.ada_rules.specs.ada_meaning.specs.Types.{Range}
+use Rattle.ada_rules.specs.ada_meaning.specs.Seen as seen
+use Rattle.ada_rules.specs.ada_meaning.specs.Seen.{range_seen}
 use Rattle.ada_rules.specs.Types.{AdaType, integer_type, enumeration, formal_type, array_type, record_type, AdaSubtype, of_type, Fields, no_field, and_field, range_in, subtype_in_tree, type_in_tree, fields_in_tree}
 use Rattle.ada_rules.specs.Entities.{Actual, object_actual, type_actual, routine_actual, given_type, subtype_seen, type_seen, fields_seen}
 

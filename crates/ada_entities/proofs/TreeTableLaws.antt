@@ -3,7 +3,7 @@ use Rattle.std.proofs.Common.{◌≡◌, ℕ, ◌+◌, ◌<◌, nat_lt, Bool, tr
 use Rattle.std.proofs.lemmas.Bool.{and_parts, and_from, ltb-true}
 use Rattle.std.proofs.lemmas.List.{map-append, take_more, take-append-drop}
 use Rattle.cov_base.specs.Lists.{Everywhere}
-use Rattle.ada_meaning.specs.Types as meaning
+use Rattle.ada_rules.specs.ada_meaning.specs.Types as meaning
 use Rattle.ada_tree.specs.declared.types.TypeDeclaration.{TypeDeclaration}
 use Rattle.ada_tree.specs.Programs.{unfolded, types_behind, types_of}
 use Rattle.ada_tree.specs.View.{owner_of, composite_of}

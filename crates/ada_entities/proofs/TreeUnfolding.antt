@@ -3,9 +3,9 @@ use Rattle.std.proofs.Common.{◌≡◌, ℕ, ◌<◌, List, [], ◌∷◌, map,
 use Rattle.std.proofs.lemmas.Option.{slice_get-map, slice_get-get_or, unwrap_or-slice_get}
 use Rattle.cov_base.specs.Lists.{Everywhere}
 use Rattle.cov_base.specs.declared.seq.Seq.{Seq}
-use Rattle.ada_meaning.specs.Types as meaning
-use Rattle.ada_meaning.specs.Types.{Range, of_instance}
-use Rattle.ada_meaning.specs.Seen.{subtype_seen}
+use Rattle.ada_rules.specs.ada_meaning.specs.Types as meaning
+use Rattle.ada_rules.specs.ada_meaning.specs.Types.{Range, of_instance}
+use Rattle.ada_rules.specs.ada_meaning.specs.Seen.{subtype_seen}
 use Rattle.ada_tree.specs.declared.types.Owner.{Owner as TreeOwner}
 use Rattle.ada_tree.specs.declared.types.Owner.TheVariants as owner
 use Rattle.ada_tree.specs.declared.types.CompositeType.TheVariants as composite

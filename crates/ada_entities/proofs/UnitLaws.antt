@@ -3,7 +3,7 @@ use Rattle.std.proofs.Common.{◌≡◌, ℕ, List, [], ◌∷◌, map, Option, 
 use Rattle.std.specs.Borrow.{Bor}
 use Rattle.std.specs.Option.{option_copied}
 use Rattle.std.proofs.lemmas.Option.{slice_get-map}
-use Rattle.ada_meaning.specs.Seen.{range_seen}
+use Rattle.ada_rules.specs.ada_meaning.specs.Seen.{range_seen}
 use Rattle.ada_rules.specs.Types.{AdaType, integer_type, enumeration, formal_type, array_type, record_type, AdaSubtype, of_type, Fields, no_field, and_field}
 use Rattle.ada_rules.specs.Entities as rules
 use Rattle.ada_rules.specs.Entities.{Actual, Parameter, Routine, Variable, identity_seen, type_seen, subtype_seen, fields_seen, parameter_seen, routine_seen, result_values_seen, variable_seen, seen}

@@ -1,7 +1,7 @@
 -- What the code's entities and regions are of the rules' definitions.
 use Rattle.std.specs.Prelude.{ℕ, Bool, true, false, List, [], map, Option, Some, None, option_map, slice_get, unwrap_or}
-use Rattle.ada_meaning.specs.Tree as tree
-use Rattle.ada_meaning.specs.Types.{Owner, here, of_instance, Static}
+use Rattle.ada_rules.specs.ada_meaning.specs.Tree as tree
+use Rattle.ada_rules.specs.ada_meaning.specs.Types.{Owner, here, of_instance, Static}
 use Rattle.ada_tree.specs.declared.types.StaticValue.{StaticValue}
 use Rattle.ada_tree.specs.View.{owner_of, static_by, static_value_of, scalar_range_of, object_of, exception_of}
 use Rattle.ada_rules.specs.Types.{integer_subtype, range_in}

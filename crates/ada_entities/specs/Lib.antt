@@ -10,3 +10,4 @@ pub mod RegionCode
 pub mod StandardCode
 pub mod UnitViews
 pub mod RoutineViews
+pub use Rattle.ada_rules

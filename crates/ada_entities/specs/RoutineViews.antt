@@ -1,7 +1,7 @@
 -- What the code's subprograms are of the rules' definitions.
 use Rattle.std.specs.Prelude.{◌≡◌, false, List, [], map, Option, Some, None, option_map}
 use Rattle.std.specs.Borrow.{Bor}
-use Rattle.ada_meaning.specs.Program.{in_mode}
+use Rattle.ada_rules.specs.ada_meaning.specs.Program.{in_mode}
 use Rattle.ada_tree.specs.View.{callee_of}
 use Rattle.ada_tree.specs.Programs.{mode_of}
 use Rattle.ada_rules.specs.Entities as rules

@@ -1,9 +1,9 @@
 -- How the code's tables of names are read.
 use Rattle.std.specs.Prelude.{◌≡◌, ℕ, false, List, [], ◌∷◌, map, Option, Some, None, option_map, slice_get, find}
 use Rattle.std.specs.Borrow.{Bor}
-use Rattle.ada_meaning.specs.Program.{in_mode, out_mode}
-use Rattle.ada_meaning.specs.Tree.{Callee, test_get, test_put}
-use Rattle.ada_meaning.specs.Program.{Mode}
+use Rattle.ada_rules.specs.ada_meaning.specs.Program.{in_mode, out_mode}
+use Rattle.ada_rules.specs.ada_meaning.specs.Tree.{Callee, test_get, test_put}
+use Rattle.ada_rules.specs.ada_meaning.specs.Program.{Mode}
 use Rattle.ada_rules.specs.Types.{integer_subtype, range_in}
 use Rattle.ada_rules.specs.Statics.{within}
 use Rattle.ada_rules.specs.Entities.{Region, Routine, same_name, item_parameter}

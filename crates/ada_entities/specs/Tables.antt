@@ -2,7 +2,7 @@
 use Rattle.std.specs.Prelude.{◌≡◌, ℕ, ◌+◌, Bool, true, false, ◌&&◌, List, [], ◌∷◌, ◌++◌, map, replicate, set, Option, Some, None, option_map}
 use Rattle.std.specs.Borrow.{Bor}
 use Rattle.std.specs.List.{list_all}
-use Rattle.ada_meaning.specs.Types.{Owner}
+use Rattle.ada_rules.specs.ada_meaning.specs.Types.{Owner}
 use Rattle.ada_rules.specs.Types.{AdaType, array_type, record_type, AdaSubtype, Fields, no_field, and_field}
 use Rattle.ada_rules.specs.Entities.{Actual}
 use Rattle.ada_rules.specs.Denoted.{field_among}

@@ -1,7 +1,7 @@
 -- The types of the checker's table as the typed program has them: its composite types have the same numbers there.
 use Rattle.std.specs.Prelude.{◌≡◌, ℕ, ◌+◌, ◌<◌, List, [], ◌∷◌, map, length, Option, None, slice_get, unwrap_or}
 use Rattle.cov_base.specs.Lists.{Everywhere}
-use Rattle.ada_meaning.specs.Types as meaning
+use Rattle.ada_rules.specs.ada_meaning.specs.Types as meaning
 use Rattle.ada_tree.specs.declared.types.CompositeType.{CompositeType}
 use Rattle.ada_tree.specs.declared.types.ScalarRange.{ScalarRange}
 use Rattle.ada_tree.specs.declared.types.Subtype.{Subtype as TreeSubtype}

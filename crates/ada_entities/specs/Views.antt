@@ -1,6 +1,6 @@
 -- What the values of the checker's tables are of the rules' definitions.
 use Rattle.std.specs.Prelude.{ℕ, nat_lt, pos, Bool, true, false, ◌&&◌, List, [], Option, Some, None, is_some, slice_get, unwrap_or}
-use Rattle.ada_meaning.specs.Types.{Owner, here, of_instance, static_number, Range, range_of}
+use Rattle.ada_rules.specs.ada_meaning.specs.Types.{Owner, here, of_instance, static_number, Range, range_of}
 use Rattle.ada_tree.specs.View.{owner_of, scalar_range_of}
 use Rattle.ada_rules.specs.Types as rules
 use Rattle.ada_rules.specs.Types.{AdaType, AdaSubtype, of_type, Fields, no_field, base}

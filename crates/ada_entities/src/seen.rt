@@ -1,8 +1,8 @@
 //! Entities of a generic's text as they are seen through an instance (Ada RM 2012, 12.3).
 
 ghost use Rattle.std.specs.Prelude.{◌≡◌, Some, option_map};
-ghost use Rattle.ada_meaning.specs.Seen.{range_seen};
-ghost use Rattle.ada_meaning.specs.Types.{of_instance};
+ghost use Rattle.ada_rules.specs.ada_meaning.specs.Seen.{range_seen};
+ghost use Rattle.ada_rules.specs.ada_meaning.specs.Types.{of_instance};
 ghost use Rattle.ada_rules.specs.Entities as rules;
 ghost use Rattle.ada_tree.specs.View.{owner_of, scalar_range_of, object_of, exception_of};
 ghost use Rattle.ada_entities.specs.Views.{TypeTables, type_by, composite_of, identity_by, identity_of, scalar_type_of, given_of};

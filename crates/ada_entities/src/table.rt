@@ -2,7 +2,7 @@
 //! 12.3).
 
 ghost use Rattle.std.specs.Prelude.{◌≡◌, length, map, None, Some, option_map, slice_get, OnOk, IfOk};
-ghost use Rattle.ada_meaning.specs.Types.{of_instance};
+ghost use Rattle.ada_rules.specs.ada_meaning.specs.Types.{of_instance};
 ghost use Rattle.ada_tree.specs.View.{owner_of};
 ghost use Rattle.ada_rules.specs.Entities.{given_type};
 ghost use Rattle.ada_rules.specs.Denoted.{field_among};

@@ -1,13 +1,13 @@
 -- Chains of operators.
 use Rattle.std.proofs.Common.{◌≡◌, Bool, List, [], ◌∷◌, ◌++◌, refl, ap}
 use Rattle.ada_meaning.specs.Tree.{Expr, Test, operator, Parts, whole, component, element}
-use Rattle.ada_rules.specs.Entities.{Variable}
+use Rattle.ada_entities.specs.ada_rules.specs.Entities.{Variable}
 use Rattle.ada_meaning.specs.Types.{Static}
 use Rattle.ada_tree.specs.View as tree
 use Rattle.ada_tree.specs.declared.expr.Operand.{Operand}
 use Rattle.ada_tree.specs.declared.expr.Selector.{Selector}
 use Rattle.ada_tree.specs.declared.expr.Selector.TheVariants as selector
-use Rattle.ada_rules.specs.Denoted.{followed_by}
+use Rattle.ada_entities.specs.ada_rules.specs.Denoted.{followed_by}
 use Rattle.ada_judged.specs.declared.static_tree.StaticOperand.{StaticOperand}
 use Rattle.ada_judged.specs.StaticView.{with_operand, with_operands}
 

@@ -1,8 +1,8 @@
 -- Elements of arrays.
 use Rattle.std.proofs.Common.{◌≡◌, refl}
-use Rattle.ada_rules.specs.Denoted.{Judged, element_of}
-use Rattle.ada_rules.specs.Entities.{Variable}
-use Rattle.ada_rules.specs.Types.{AdaType, integer_type, enumeration, formal_type, array_type, record_type}
+use Rattle.ada_entities.specs.ada_rules.specs.Denoted.{Judged, element_of}
+use Rattle.ada_entities.specs.ada_rules.specs.Entities.{Variable}
+use Rattle.ada_entities.specs.ada_rules.specs.Types.{AdaType, integer_type, enumeration, formal_type, array_type, record_type}
 use Rattle.ada_entities.specs.Tables.{array_parts}
 use Rattle.ada_judged.specs.PartViews.{element_by}
 

@@ -10,7 +10,7 @@ use Rattle.ada_tree.specs.declared.expr.ExprKind.{ExprKind}
 use Rattle.ada_tree.specs.declared.expr.ExprKind.TheVariants as expr
 use Rattle.ada_tree.specs.declared.expr.TestKind.{TestKind}
 use Rattle.ada_tree.specs.declared.expr.TestKind.TheVariants as test
-use Rattle.ada_rules.specs.Denoted.{negated, test_of_expr}
+use Rattle.ada_entities.specs.ada_rules.specs.Denoted.{negated, test_of_expr}
 
 not_negated : (n : Bool) (t u : Test) (us : List Test) → negated (with_tests n (operator n t u) us) ≡ negation (with_tests n (operator n t u) us)
 not_negated n t u [] = refl

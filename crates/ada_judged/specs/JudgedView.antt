@@ -2,13 +2,13 @@
 use Rattle.std.specs.Prelude.{Bool, true, false, Option, Some, None, option_map, if◌then◌else◌}
 use Rattle.cov_base.specs.declared.position.Pos.{Pos}
 use Rattle.ada_meaning.specs.Types.{Sign, Operator, Relation}
-use Rattle.ada_rules.specs.Types.{is_integral, is_discrete, is_boolean}
-use Rattle.ada_rules.specs.Types as types
-use Rattle.ada_rules.specs.Statics.{within}
+use Rattle.ada_entities.specs.ada_rules.specs.Types.{is_integral, is_discrete, is_boolean}
+use Rattle.ada_entities.specs.ada_rules.specs.Types as types
+use Rattle.ada_entities.specs.ada_rules.specs.Statics.{within}
 use Rattle.ada_meaning.specs.Tree as tree
 use Rattle.ada_tree.specs.View.{object_of, parts_of}
-use Rattle.ada_rules.specs.Denoted as rules
-use Rattle.ada_rules.specs.Entities as entities
+use Rattle.ada_entities.specs.ada_rules.specs.Denoted as rules
+use Rattle.ada_entities.specs.ada_rules.specs.Entities as entities
 use Rattle.ada_entities.specs.Views.{subtype_of}
 use Rattle.ada_entities.specs.EntityViews.{Tables, is_variable, constant_of, values_of}
 use Rattle.ada_judged.specs.declared.judged.Indexing.{Indexing}

@@ -4,3 +4,4 @@ pub mod StaticSize
 pub mod JudgedView
 pub mod PartViews
 pub mod Both
+pub use Rattle.ada_entities

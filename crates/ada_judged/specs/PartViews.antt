@@ -1,9 +1,9 @@
 -- Parts of objects, whatever the numbers in them lead to.
 use Rattle.std.specs.Prelude.{◌≡◌, ℕ, true, List, Option, Some, None, option_map, if◌then◌else◌}
 use Rattle.ada_meaning.specs.Tree as tree
-use Rattle.ada_rules.specs.Denoted as rules
-use Rattle.ada_rules.specs.Types.{AdaSubtype, type_in, range_in, fits}
-use Rattle.ada_rules.specs.Entities as entities
+use Rattle.ada_entities.specs.ada_rules.specs.Denoted as rules
+use Rattle.ada_entities.specs.ada_rules.specs.Types.{AdaSubtype, type_in, range_in, fits}
+use Rattle.ada_entities.specs.ada_rules.specs.Entities as entities
 use Rattle.ada_entities.specs.Views.{TypeTables}
 use Rattle.ada_entities.specs.EntityViews.{Tables}
 use Rattle.ada_judged.specs.declared.judged.Judged.{Judged}

@@ -1,6 +1,6 @@
 -- What the values of the checker are of the rules' definitions.
 use Rattle.std.specs.Prelude.{Bool, Option, Some, None, if◌then◌else◌}
-use Rattle.ada_rules.specs.Types as rules
+use Rattle.ada_entities.specs.ada_rules.specs.Types as rules
 use Rattle.ada_entities.specs.Views.{TypeTables, type_of}
 use Rattle.ada_judged.specs.declared.kind.Kind.{Kind}
 use Rattle.ada_judged.specs.declared.kind.Kind.TheVariants as kind

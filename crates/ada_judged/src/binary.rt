@@ -3,7 +3,7 @@
 ghost use Rattle.std.specs.Prelude.{◌≡◌, option_map, IfOk};
 ghost use Rattle.ada_meaning.specs.Tree as tree;
 ghost use Rattle.ada_tree.specs.View.{operator_of, relation_of, with_operands};
-ghost use Rattle.ada_rules.specs.Denoted as rules;
+ghost use Rattle.ada_entities.specs.ada_rules.specs.Denoted as rules;
 ghost use Rattle.ada_entities.specs.EntityViews.{Tables};
 ghost use Rattle.ada_judged.specs.Views.{kind_of};
 ghost use Rattle.ada_judged.specs.JudgedView.{judged_of, operation_of_integers, relation_of_discrete};
@@ -50,7 +50,7 @@ fn relation_of(relation: RelationalOperator) -> Relation
 fn opened(alloc: Global, expr: Expr) -> (Expr, Vec<Operand>)
     ensures { with_operands result.0 result.1.items ≡ expr }
 {
-    match expr.kind {
+    match expr.into_kind() {
         ExprKind::Operations(first, others) => (Box::into_inner(first), others),
         kind => (Expr { kind }, Vec::new(alloc)),
     }

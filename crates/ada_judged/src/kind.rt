@@ -1,8 +1,8 @@
 //! What expressions fit (Ada RM 2012, 3.5, 4.6, 8.6).
 
 ghost use Rattle.std.specs.Prelude.{◌≡◌, option_map};
-ghost use Rattle.ada_rules.specs.Denoted as names;
-ghost use Rattle.ada_rules.specs.Types as rules;
+ghost use Rattle.ada_entities.specs.ada_rules.specs.Denoted as names;
+ghost use Rattle.ada_entities.specs.ada_rules.specs.Types as rules;
 ghost use Rattle.ada_entities.specs.Views.{TypeTables, type_of};
 ghost use Rattle.ada_judged.specs.Views.{kind_of, where_fits};
 

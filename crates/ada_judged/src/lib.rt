@@ -12,6 +12,7 @@ mod operators;
 mod parts;
 mod static_tree;
 
+pub use ada_entities::{ConstantValue, FormalKind, ScalarType, Values};
 pub use judged::{Form, Indexing, Judged, Spelling, Variable};
 pub use kind::Kind;
 pub use static_tree::{StaticKind, StaticOperand, StaticTree};

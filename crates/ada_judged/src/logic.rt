@@ -3,7 +3,7 @@
 ghost use Rattle.std.specs.Prelude.{◌≡◌, option_map, IfOk, IsTrue};
 ghost use Rattle.ada_meaning.specs.Tree as tree;
 ghost use Rattle.ada_tree.specs.View.{neutral_of, with_tests, is_filled};
-ghost use Rattle.ada_rules.specs.Denoted as rules;
+ghost use Rattle.ada_entities.specs.ada_rules.specs.Denoted as rules;
 ghost use Rattle.ada_entities.specs.EntityViews.{Tables};
 ghost use Rattle.ada_judged.specs.JudgedView.{form_of, judged_of};
 
@@ -21,7 +21,7 @@ use std::alloc::{AllocError, Global};
 fn test_of_expr(alloc: Global, at: Pos, expr: Expr) -> Result<Test, AllocError>
     ensures { IfOk result (λ t. t ≡ rules.test_of_expr at expr) }
 {
-    match expr.kind {
+    match expr.into_kind() {
         ExprKind::Complement(inner) => {
             let test = test_of_expr(alloc, at, Box::into_inner(inner))?;
             negated(alloc, test)
@@ -84,7 +84,7 @@ fn chained(
 fn opened(alloc: Global, form: ShortCircuit, test: Test) -> (Test, Vec<Test>)
     ensures { with_tests (neutral_of form) result.0 result.1.items ≡ test }
 {
-    match test.kind {
+    match test.into_kind() {
         TestKind::ShortCircuit(own, first, others) => chained(alloc, form, own, first, others),
         kind => (Test { kind }, Vec::new(alloc)),
     }

@@ -3,7 +3,7 @@
 ghost use Rattle.std.specs.Prelude.{◌≡◌, option_map, IfOk};
 ghost use Rattle.ada_meaning.specs.Types.{static_sign};
 ghost use Rattle.ada_tree.specs.View.{sign_of};
-ghost use Rattle.ada_rules.specs.Denoted as rules;
+ghost use Rattle.ada_entities.specs.ada_rules.specs.Denoted as rules;
 ghost use Rattle.ada_entities.specs.EntityViews as entities;
 ghost use Rattle.ada_entities.specs.EntityViews.{Tables};
 ghost use Rattle.ada_judged.specs.JudgedView.{variable_of, form_of, judged_of, signed_integer, complement_of_boolean};
@@ -109,7 +109,7 @@ impl Judged {
 pub(crate) fn negated(alloc: Global, test: Test) -> Result<Test, AllocError>
     ensures { IfOk result (λ t. t ≡ rules.negated test) }
 {
-    match test.kind {
+    match test.into_kind() {
         TestKind::Negation(inner) => Ok(Box::into_inner(inner)),
         kind => Test::negation(alloc, Test { kind }),
     }

@@ -3,7 +3,7 @@
 ghost use Rattle.std.specs.Prelude.{◌≡◌, ◌||◌, option_map, IfOk};
 ghost use Rattle.ada_meaning.specs.Tree as tree;
 ghost use Rattle.ada_tree.specs.View.{with_selector};
-ghost use Rattle.ada_rules.specs.Denoted as rules;
+ghost use Rattle.ada_entities.specs.ada_rules.specs.Denoted as rules;
 ghost use Rattle.ada_entities.specs.Views.{subtype_of};
 ghost use Rattle.ada_entities.specs.Tables.{parts_of};
 ghost use Rattle.ada_entities.specs.TypeTable.{tables};

@@ -7,10 +7,17 @@ use std::marker::Model;
 
 /// A static expression. Operators with two operands group to the left (RM 4.5): a chain is one flat
 /// list, so it nests no deeper than a short one.
-#[derive(Drop)]
 #[cycle(static_tree)]
 pub struct StaticTree {
     pub kind: StaticKind,
+}
+
+// Written out: a derived drop is proved anew in each crate above.
+impl Drop for StaticTree {
+    #[cycle(static_tree)]
+    fn drop(self) {
+        let StaticTree { kind: _ } = self;
+    }
 }
 
 /// The forms of a static expression.
@@ -28,11 +35,21 @@ pub enum StaticKind {
 }
 
 /// An operator and what stands right of it.
-#[derive(Drop)]
 #[cycle(static_tree)]
 pub struct StaticOperand {
     pub operator: Operator,
     pub operand: StaticTree,
+}
+
+// Written out: a derived drop is proved anew in each crate above.
+impl Drop for StaticOperand {
+    #[cycle(static_tree)]
+    fn drop(self) {
+        let StaticOperand {
+            operator: _,
+            operand: _,
+        } = self;
+    }
 }
 
 impl Model for StaticTree {
@@ -119,7 +136,8 @@ impl StaticTree {
     fn opened(self, alloc: Global) -> Result<(Box<StaticTree>, Vec<StaticOperand>), AllocError>
         ensures { IfOk result (λ p. with_operands p.0.value p.1.items ≡ self) }
     {
-        match self.kind {
+        let StaticTree { kind } = self;
+        match kind {
             StaticKind::Operations(first, others) => Ok((first, others)),
             kind => {
                 let first = Box::new(alloc, StaticTree { kind })?;

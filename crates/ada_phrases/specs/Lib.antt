@@ -9,3 +9,4 @@ pub mod Applied
 pub mod Steps
 pub mod DecisionView
 pub mod Pairs
+pub use Rattle.ada_judged

@@ -23,6 +23,7 @@ mod scope;
 mod suffixes;
 mod tests;
 
+pub use ada_judged::{Form, Judged, Kind, StaticTree};
 pub use circuits::Role;
 pub use decisions::Decisions;
 pub use names::Denoted;

@@ -186,13 +186,23 @@ pub fn stands_in(instances: &[Instance], generic: Option<u32>, instance: u32) ->
 
 /// The sizes of the types of a program: a row for each type, with an entry for each instance. Each is
 /// computed once, so types that double stay small.
-#[derive(Drop)]
 pub struct TypeSizes<'a> {
     pub(crate) program: &'a Program,
     last_instance: u32,
     rows: Vec<Seq<Option<u32>>>,
     ghost instances: { last_instance ≡ length program.now.instances },
     ghost exact: { rows.items ≡ table_of program.now (types_of program.now.types) },
+}
+
+// Written out: a derived drop is proved anew in each crate above.
+impl<'a> Drop for TypeSizes<'a> {
+    fn drop(self) {
+        let TypeSizes {
+            program: _,
+            last_instance: _,
+            rows: _,
+        } = self;
+    }
 }
 
 impl<'a> TypeSizes<'a> {

@@ -14,3 +14,4 @@ pub mod Units
 pub mod Limits
 pub mod Legal
 pub mod Refusals
+pub use Rattle.ada_meaning

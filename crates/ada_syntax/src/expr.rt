@@ -47,11 +47,18 @@ pub enum LogicalOperator {
 }
 
 /// An expression, and the place of its first token.
-#[derive(Drop)]
 #[cycle(expr)]
 pub struct Expr {
     pub pos: Pos,
     pub kind: ExprKind,
+}
+
+// Written out: a derived drop is proved anew in each crate above.
+impl Drop for Expr {
+    #[cycle(expr)]
+    fn drop(self) {
+        let Expr { pos: _, kind: _ } = self;
+    }
 }
 
 impl Model for Expr {
@@ -77,9 +84,18 @@ impl Model for Expr {
 }
 
 impl Expr {
-    ghost use Rattle.std.specs.Prelude.{◌≡◌, IfOk};
+    ghost use Rattle.std.specs.Prelude.{◌≡◌, IfOk, IsTrue};
     ghost use Rattle.ada_syntax.specs.Tree as tree;
-    ghost use Rattle.ada_syntax.specs.TreeView.{with_operands, joined};
+    ghost use Rattle.ada_syntax.specs.TreeView.{expr_at, has_operators, with_operands, joined};
+
+    /// The place and the form of the expression, taken out of it.
+    pub fn into_parts(self) -> (Pos, ExprKind)
+        ensures form { expr_at result.0 result.1 ≡ self }
+        ensures chain { IsTrue (has_operators result.1) }
+    {
+        let Expr { pos, kind } = self;
+        (pos, kind)
+    }
 
     /// The place of the first token.
     #[tactic(auto, using(crate::proofs::Places::places))]
@@ -230,9 +246,19 @@ pub enum ExprKind {
 }
 
 /// An operator and what stands right of it.
-#[derive(Drop)]
 #[cycle(expr)]
 pub struct Operand {
     pub operator: BinaryOperator,
     pub operand: Expr,
+}
+
+// Written out: a derived drop is proved anew in each crate above.
+impl Drop for Operand {
+    #[cycle(expr)]
+    fn drop(self) {
+        let Operand {
+            operator: _,
+            operand: _,
+        } = self;
+    }
 }

@@ -18,11 +18,21 @@ impl Drop for Identifier {
 }
 
 /// A name: an identifier, and what stands behind it, from the left.
-#[derive(Drop)]
 #[cycle(expr)]
 pub struct Name {
     pub prefix: Identifier,
     pub suffixes: Vec<Suffix>,
+}
+
+// Written out: a derived drop is proved anew in each crate above.
+impl Drop for Name {
+    #[cycle(expr)]
+    fn drop(self) {
+        let Name {
+            prefix: _,
+            suffixes: _,
+        } = self;
+    }
 }
 
 impl Model for Name {
@@ -66,7 +76,6 @@ impl Name {
 }
 
 /// What stands behind a part of a name.
-#[derive(Drop)]
 #[cycle(expr)]
 pub enum Suffix {
     /// `. id`: a part of a package, or a component of a record (RM 4.1.3).
@@ -75,4 +84,16 @@ pub enum Suffix {
     Attribute(Identifier),
     /// `( expr {, expr} )`: an index, a conversion or a call (RM 4.1.1, 4.6, 6.4). At least one.
     Applied(Vec<Expr>),
+}
+
+// Written out: a derived drop is proved anew in each crate above.
+impl Drop for Suffix {
+    #[cycle(expr)]
+    fn drop(self) {
+        match self {
+            Suffix::Selected(_) => {}
+            Suffix::Attribute(_) => {}
+            Suffix::Applied(_) => {}
+        }
+    }
 }

@@ -46,10 +46,17 @@ pub enum ExceptionName {
 }
 
 /// An expression.
-#[derive(Drop)]
 #[cycle(expr)]
 pub struct Expr {
     pub kind: ExprKind,
+}
+
+// Written out: a derived drop is proved anew in each crate above.
+impl Drop for Expr {
+    #[cycle(expr)]
+    fn drop(self) {
+        let Expr { kind: _ } = self;
+    }
 }
 
 impl Model for Expr {
@@ -76,9 +83,18 @@ impl Model for Expr {
 }
 
 impl Expr {
-    ghost use Rattle.std.specs.Prelude.{◌≡◌, IfOk};
+    ghost use Rattle.std.specs.Prelude.{◌≡◌, IfOk, IsTrue};
     ghost use Rattle.ada_meaning.specs.Tree as tree;
-    ghost use Rattle.ada_tree.specs.View.{static_of, object_of, sign_of, relation_of, label_of, with_operands, parts_of, scalar_range_of, callee_of, actuals_of};
+    ghost use Rattle.ada_tree.specs.View.{expr_at, has_operators, static_of, object_of, sign_of, relation_of, label_of, with_operands, parts_of, scalar_range_of, callee_of, actuals_of};
+
+    /// The form of the expression, taken out of it.
+    pub fn into_kind(self) -> ExprKind
+        ensures form { expr_at result ≡ self }
+        ensures chain { IsTrue (has_operators result) }
+    {
+        let Expr { kind } = self;
+        kind
+    }
 
     /// A numeral, or an enumeration literal by its position number.
     pub fn literal(value: i32) -> Expr
@@ -242,7 +258,6 @@ pub enum ExprKind {
 }
 
 /// A selector of a name (RM 4.1.1, 4.1.3).
-#[derive(Drop)]
 #[cycle(expr)]
 pub enum Selector {
     /// The component of a record with this place among its components.
@@ -251,19 +266,47 @@ pub enum Selector {
     Element(ScalarRange, Expr),
 }
 
+// Written out: a derived drop is proved anew in each crate above.
+impl Drop for Selector {
+    #[cycle(expr)]
+    fn drop(self) {
+        match self {
+            Selector::Component(_) => {}
+            Selector::Element(_, _) => {}
+        }
+    }
+}
+
 /// An operator and what stands right of it.
-#[derive(Drop)]
 #[cycle(expr)]
 pub struct Operand {
     pub operator: Operator,
     pub operand: Expr,
 }
 
+// Written out: a derived drop is proved anew in each crate above.
+impl Drop for Operand {
+    #[cycle(expr)]
+    fn drop(self) {
+        let Operand {
+            operator: _,
+            operand: _,
+        } = self;
+    }
+}
+
 /// The expression of a decision.
-#[derive(Drop)]
 #[cycle(expr)]
 pub struct Test {
     pub kind: TestKind,
+}
+
+// Written out: a derived drop is proved anew in each crate above.
+impl Drop for Test {
+    #[cycle(expr)]
+    fn drop(self) {
+        let Test { kind: _ } = self;
+    }
 }
 
 impl Model for Test {
@@ -290,9 +333,18 @@ impl Model for Test {
 }
 
 impl Test {
-    ghost use Rattle.std.specs.Prelude.{◌≡◌, IfOk};
+    ghost use Rattle.std.specs.Prelude.{◌≡◌, IfOk, IsTrue};
     ghost use Rattle.ada_meaning.specs.Tree as tree;
-    ghost use Rattle.ada_tree.specs.View.{neutral_of, with_tests};
+    ghost use Rattle.ada_tree.specs.View.{test_at, has_forms, neutral_of, with_tests};
+
+    /// The form of the test, taken out of it.
+    pub fn into_kind(self) -> TestKind
+        ensures form { test_at result ≡ self }
+        ensures chain { IsTrue (has_forms result) }
+    {
+        let Test { kind } = self;
+        kind
+    }
 
     /// A condition, which begins at this place.
     pub fn condition(pos: Pos, operand: Expr) -> Test
@@ -353,7 +405,6 @@ pub enum ShortCircuit {
 }
 
 /// An actual parameter (RM 6.4.1).
-#[derive(Drop)]
 #[cycle(expr)]
 pub enum Actual {
     /// An expression, for a scalar parameter of mode in.
@@ -364,4 +415,17 @@ pub enum Actual {
     Part(Object, Vec<Selector>, ScalarRange),
     /// An object or a part of one, for a composite parameter of any mode.
     Composite(Object, Vec<Selector>),
+}
+
+// Written out: a derived drop is proved anew in each crate above.
+impl Drop for Actual {
+    #[cycle(expr)]
+    fn drop(self) {
+        match self {
+            Actual::Expression(_) => {}
+            Actual::Variable(_, _) => {}
+            Actual::Part(_, _, _) => {}
+            Actual::Composite(_, _) => {}
+        }
+    }
 }

@@ -183,7 +183,6 @@ pub struct UnitEntry {
 /// A program. Subprograms are numbered by their places from 0, and so are composite types and the
 /// constants of each generic; instances are numbered from 1. The numbers of declared exceptions are
 /// their places among `exceptions`, from 5 on.
-#[derive(Drop)]
 pub struct Program {
     pub subprograms: Seq<Subprogram>,
     /// The number of the main procedure.
@@ -196,4 +195,21 @@ pub struct Program {
     pub exceptions: Seq<Raisable>,
     /// The library units, in the order of the files.
     pub units: Seq<UnitEntry>,
+}
+
+// Written out: a derived drop is proved anew in each crate above.
+impl Drop for Program {
+    fn drop(self) {
+        let Program {
+            subprograms: _,
+            main: _,
+            types: _,
+            objects: _,
+            constants: _,
+            instances: _,
+            declared: _,
+            exceptions: _,
+            units: _,
+        } = self;
+    }
 }

@@ -17,10 +17,19 @@ use cov_base::{CondIx, DecEntry, Level, Place, Pos, Vector};
 use std::alloc::{AllocError, Global};
 
 /// What was found so far: what is left to show, and the pairs that are shown.
-#[derive(Drop)]
 pub(crate) struct Found {
     pub(crate) findings: Vec<Finding>,
     pub(crate) pairs: Vec<PairLine>,
+}
+
+// Written out: a derived drop is proved anew in each crate above.
+impl Drop for Found {
+    fn drop(self) {
+        let Found {
+            findings: _,
+            pairs: _,
+        } = self;
+    }
 }
 
 /// Adds the pair that shows a condition to matter; where there is none and its decision is covered,

@@ -10,9 +10,15 @@ use std::alloc::{AllocError, Global};
 use std::marker::Model;
 
 /// The vectors of a decision, in the order of their events. Contracts see them as a list.
-#[derive(Drop)]
 pub(crate) struct Evaluations {
     vectors: Vec<Vector>,
+}
+
+// Written out: a derived drop is proved anew in each crate above.
+impl Drop for Evaluations {
+    fn drop(self) {
+        let Evaluations { vectors: _ } = self;
+    }
 }
 
 impl Model for Evaluations {

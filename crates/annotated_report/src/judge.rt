@@ -21,11 +21,21 @@ use std::alloc::{AllocError, Global};
 
 /// What was judged: what is left to show and the pairs, each in order, and how many statements and
 /// decisions are covered.
-#[derive(Drop)]
 pub(crate) struct Judged {
     pub(crate) found: Found,
     pub(crate) statements: usize,
     pub(crate) decisions: usize,
+}
+
+// Written out: a derived drop is proved anew in each crate above.
+impl Drop for Judged {
+    fn drop(self) {
+        let Judged {
+            found: _,
+            statements: _,
+            decisions: _,
+        } = self;
+    }
 }
 
 /// Adds what decisions and their conditions show and lack at a level, by the marks of the statements

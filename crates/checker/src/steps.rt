@@ -4,7 +4,6 @@ ghost use Rattle.std.specs.Prelude.{◌≡◌};
 ghost use Rattle.ada_rules.specs.Denoted as rules;
 ghost use Rattle.walked_program.specs.Judging.{IsMainThere, ComesToEnd, ComesToJudged};
 
-use ada_demands::Instances;
 use ada_entities::{Refusal, refused};
 use ada_library::{Library, has_main, headings};
 use ada_phrases::Step;
@@ -13,7 +12,7 @@ use cov_base::{Failure, Pos};
 use library_units::{all_bodies, all_shown, instances_before};
 use program_walk::Walk;
 use std::alloc::Global;
-use walked_program::WholeWalk;
+use walked_program::{Instances, WholeWalk};
 
 /// Where the first file begins: there a program without its main unit is refused.
 fn nowhere() -> Pos

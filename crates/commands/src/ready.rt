@@ -21,17 +21,29 @@ pub mod sources;
 mod traces;
 
 /// A file to be written.
-#[derive(Drop)]
 pub struct ReadyFile<'a> {
     pub name: &'a str,
     pub bytes: Vec<u8>,
 }
 
+// Written out: a derived drop is proved anew in each crate above.
+impl<'a> Drop for ReadyFile<'a> {
+    fn drop(self) {
+        let ReadyFile { name: _, bytes: _ } = self;
+    }
+}
+
 /// What a command made: the file that it writes, if it does, and the text that it puts.
-#[derive(Drop)]
 pub struct Ready<'a> {
     pub file: Option<ReadyFile<'a>>,
     pub text: Vec<u8>,
+}
+
+// Written out: a derived drop is proved anew in each crate above.
+impl<'a> Drop for Ready<'a> {
+    fn drop(self) {
+        let Ready { file: _, text: _ } = self;
+    }
 }
 
 /// The bytes of the file in this place among those that the command reads.

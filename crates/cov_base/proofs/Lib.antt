@@ -4,3 +4,4 @@ pub mod Bits
 pub mod Follows
 pub mod Reached
 pub mod Postfix
+pub mod Drops

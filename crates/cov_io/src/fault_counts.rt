@@ -6,10 +6,19 @@ ghost use Rattle.cov_io.specs.Outside.{Rose};
 use crate::files::FileFault;
 
 /// How many reads and how many writes have failed. Each count stops at `u64::MAX`.
-#[derive(Drop)]
 pub struct FaultCounts {
     pub reads: u64,
     pub writes: u64,
+}
+
+// Written out: a derived drop is proved anew in each crate above.
+impl Drop for FaultCounts {
+    fn drop(self) {
+        let FaultCounts {
+            reads: _,
+            writes: _,
+        } = self;
+    }
 }
 
 impl FaultCounts {

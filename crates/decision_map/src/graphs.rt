@@ -11,10 +11,19 @@ use cov_base::DecEntry;
 use std::alloc::{AllocError, Global};
 
 /// The graph of a decision, and whether it is a tree.
-#[derive(Drop)]
 pub(crate) struct DecisionGraph {
     pub(crate) graph: Graph,
     pub(crate) is_tree: bool,
+}
+
+// Written out: a derived drop is proved anew in each crate above.
+impl Drop for DecisionGraph {
+    fn drop(self) {
+        let DecisionGraph {
+            graph: _,
+            is_tree: _,
+        } = self;
+    }
 }
 
 /// The graph of a decision.

@@ -29,7 +29,8 @@ pub fn bounds<'a>(parser: Parser, tokens: &'a [Token]) -> Parsed<'a, Bounds>
 fn mark<'a>(low: Expr, tokens: &'a [Token]) -> Parsed<'a, DiscreteRange>
     ensures { Shows (λ q. read.mark_alone (read.name_alone low) tokens.now ≡ q) result }
 {
-    match low.kind {
+    let (_, kind) = low.into_parts();
+    match kind {
         ExprKind::Name(name) => Ok((DiscreteRange::Mark(name), tokens)),
         _ => Err(Fault::Syntax(tokens)),
     }

@@ -13,7 +13,7 @@ use Rattle.ada_rules.specs.Environment.{State, Given, given, map_given, Env}
 use Rattle.ada_rules.specs.Expressions.{entered_constant, value_named}
 use Rattle.ada_rules.specs.Declarations.{numbered, known_constant, lying_in, without_value}
 use Rattle.ada_entities.specs.EntityViews.{value_or}
-use Rattle.ada_demands.proofs.NamedLaws.{value_stays}
+use Rattle.program_walk.specs.ada_demands.proofs.NamedLaws.{value_stays}
 
 -- a constant of a generic by its number
 pub numbered_as : (g : ℕ) (r : Range) (e v w : Static) (known : Option Static) (s n m : State) → value_named g e s ≡ given v n

@@ -13,8 +13,8 @@ use Rattle.ada_entities.specs.declared.entity.ConstantValue.{ConstantValue}
 use Rattle.ada_entities.specs.declared.types.Subtype.{Subtype}
 use Rattle.ada_entities.specs.Views.{subtype_of}
 use Rattle.ada_entities.specs.EntityViews.{Tables, constant_of}
-use Rattle.ada_demands.specs.declared.statics.Statics.{Statics}
-use Rattle.ada_demands.specs.StaticsViews.{noted}
+use Rattle.program_walk.specs.ada_demands.specs.declared.statics.Statics.{Statics}
+use Rattle.program_walk.specs.ada_demands.specs.StaticsViews.{noted}
 
 -- what a rule gives
 abbrev pub Enters : (old new : Statics) → (State → Given type.Static) → ConstantValue → Type 0

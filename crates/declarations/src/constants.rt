@@ -10,11 +10,11 @@ ghost use Rattle.ada_rules.specs.Statics.{bounds_in, value_in};
 ghost use Rattle.ada_entities.specs.EntityViews.{constant_of, value_or};
 ghost use Rattle.declarations.specs.Constants.{Enters, GivesKnown, IsLocalKnown, IsLibraryConstant, IsLocalConstant};
 
-use ada_demands::{Instances, Statics};
 use ada_entities::{ConstantValue, Subtype};
 use ada_judged::StaticTree;
 use ada_syntax::Constancy;
 use ada_tree::{Owner, ScalarRange, Static, StaticValue};
+use program_walk::{Instances, Statics};
 use std::alloc::{AllocError, Global};
 
 /// A value of this text.

@@ -13,12 +13,23 @@ pub(crate) const EXCEPTIONS: u32 = 5;
 
 /// Code that is part of no kernel yet, the latest last, the conditions that are part of no decision,
 /// the bodies of the next kernel, and the image of the latest one.
-#[derive(Drop)]
 pub struct Draft {
     codes: Vec<Code>,
     conditions: Vec<Node>,
     bodies: Vec<Body>,
     image: Option<Image>,
+}
+
+// Written out: a derived drop is proved anew in each crate above.
+impl Drop for Draft {
+    fn drop(self) {
+        let Draft {
+            codes: _,
+            conditions: _,
+            bodies: _,
+            image: _,
+        } = self;
+    }
 }
 
 /// A word, an array of two words, and a record of such an array and a word.

@@ -6,10 +6,17 @@ use std::alloc::{AllocError, Global};
 use std::marker::Model;
 
 /// Operations in order.
-#[derive(Drop)]
 #[cycle(code)]
 pub struct Code {
     pub ops: Vec<Op>,
+}
+
+// Written out: a derived drop is proved anew in each crate above.
+impl Drop for Code {
+    #[cycle(code)]
+    fn drop(self) {
+        let Code { ops: _ } = self;
+    }
 }
 
 impl Model for Code {
@@ -67,7 +74,6 @@ impl Code {
 }
 
 /// An operation.
-#[derive(Drop)]
 #[cycle(code)]
 pub enum Op {
     /// One that holds no others.
@@ -107,15 +113,58 @@ pub enum Op {
     },
 }
 
+// Written out: a derived drop is proved anew in each crate above.
+impl Drop for Op {
+    #[cycle(code)]
+    fn drop(self) {
+        match self {
+            Op::Simple(_) => {}
+            Op::Choose {
+                slot: _,
+                if_true: _,
+                if_false: _,
+            } => {}
+            Op::Forever(_) => {}
+            Op::ForLoop(_) => {}
+            Op::Exit => {}
+            Op::Returns => {}
+            Op::Catch {
+                body: _,
+                slot: _,
+                handler: _,
+            } => {}
+            Op::Decide {
+                decision: _,
+                instance: _,
+                slot: _,
+                nodes: _,
+            } => {}
+            Op::Call { body: _ } => {}
+        }
+    }
+}
+
 /// A node of a decision: the code of its condition, the slot that holds its value then, and where its
 /// edges lead. The condition is True where the slot is 1.
-#[derive(Drop)]
 #[cycle(code)]
 pub struct Node {
     pub operand: Code,
     pub slot: Slot,
     pub on_true: Edge,
     pub on_false: Edge,
+}
+
+// Written out: a derived drop is proved anew in each crate above.
+impl Drop for Node {
+    #[cycle(code)]
+    fn drop(self) {
+        let Node {
+            operand: _,
+            slot: _,
+            on_true: _,
+            on_false: _,
+        } = self;
+    }
 }
 
 /// Where an edge leads: to an outcome, or past this many nodes of those that follow.

@@ -12,7 +12,7 @@ use Rattle.ada_meaning.specs.Program.{Program}
 use Rattle.ada_rules.specs.Environment.{typing, beginning_state}
 use Rattle.ada_rules.specs.Library.{Library, is_package_body, units_but_bodies}
 use Rattle.ada_rules.specs.Units.{Walked, all_interfaces, all_bodies_judged, world_before}
-use Rattle.legal_instances.specs.Ordered.{IsWholeOrder}
+use Rattle.legal_types.specs.legal_instances.specs.Ordered.{IsWholeOrder}
 use Rattle.legal_programs.specs.Walked.{IsLegal}
 use Rattle.legal_programs.proofs.Passed.{of_ok}
 use Rattle.legal_counts.proofs.ExceptionNames.{item_exceptions, units_exceptions, units_few}

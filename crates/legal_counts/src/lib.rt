@@ -30,7 +30,7 @@ ghost use Rattle.legal_counts.specs.LibraryWords.{library_words, words_of_units}
 ghost use Rattle.ada_rules.specs.Entities.{Standard};
 ghost use Rattle.ada_rules.specs.Limits.{most_words_of_library, most_words_of_subprogram, sum_in, words_in};
 ghost use Rattle.ada_syntax.specs.declared.unit.Unit.{Unit as LibraryUnit};
-ghost use Rattle.legal_instances.specs.InOrder.{UnitsRise};
+ghost use Rattle.legal_types.specs.legal_instances.specs.InOrder.{UnitsRise};
 ghost use Rattle.legal_counts.specs.ObjectWords.{words_of_objects};
 ghost use Rattle.legal_laws.specs.Bounded.{IsBounded};
 ghost use Rattle.ada_meaning.specs.Tree.{shape_of};
@@ -98,7 +98,7 @@ pub fn each_exception_has_a_token()
     ensures { (standard : Standard) (units : List LibraryUnit) (main : List ℕ) (p : Program)
         → IsLegal (library_of standard units) main p → length p.declared ≤ sum_by unit_nodes units }
 {
-    legal_instances::orders_of_legal_programs_are_whole();
+    legal_types::orders_of_legal_programs_are_whole();
 }
 
 /// The objects of each subprogram of a legal program take no more words than the limit, in each instance in
@@ -119,7 +119,7 @@ pub fn words_are_within_limits()
         → Everywhere (IsBounded p inst) s.objects → Everywhere (λ t.
         type_size (values_of p) inst t ≡ Some (words_in is.walked.world.instances inst t)) s.objects }
 {
-    legal_instances::instances_have_their_facts();
+    legal_types::instances_have_their_facts();
 }
 
 /// The words of the objects of the library level of a legal program, counted by units, are no more than the
@@ -134,7 +134,7 @@ pub fn library_words_are_within_limits()
         → library_words p is.walked.world.instances ≤ most_words_of_library
         → program_size p ≡ Some (library_words p is.walked.world.instances) }
 {
-    legal_instances::instances_have_their_facts();
+    legal_types::instances_have_their_facts();
 }
 
 /// Where no unit of a legal program is a generic or an instance, the objects of the library level stand in no

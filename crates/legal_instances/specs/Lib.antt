@@ -4,3 +4,4 @@ pub mod Looked
 pub mod Within
 pub mod Resolved
 pub mod Worked
+pub use Rattle.legal_programs

@@ -4,3 +4,4 @@ pub mod Numbers
 pub mod Marked
 pub mod Told
 pub mod Worked
+pub use Rattle.legal_instances

@@ -11,8 +11,8 @@ use Rattle.ada_rules.specs.Environment.{typing, beginning_state}
 use Rattle.ada_rules.specs.Library.{Library, is_package_body, units_but_bodies}
 use Rattle.ada_rules.specs.Units.{Walked, all_interfaces, all_bodies_judged, world_before}
 use Rattle.legal_instances.specs.Ordered.{IsWholeOrder}
-use Rattle.legal_programs.specs.Walked.{IsLegal}
-use Rattle.legal_programs.proofs.Passed.{of_ok}
+use Rattle.legal_instances.specs.legal_programs.specs.Walked.{IsLegal}
+use Rattle.legal_instances.specs.legal_programs.proofs.Passed.{of_ok}
 use Rattle.legal_types.specs.TypeTokens.{item_types, units_types}
 use Rattle.program_weights.specs.TypeWeights.{types_weight}
 use Rattle.legal_types.specs.Weights.{Weighs}

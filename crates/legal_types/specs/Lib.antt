@@ -1,2 +1,3 @@
 pub mod TypeTokens
 pub mod Weights
+pub use Rattle.legal_instances

@@ -8,9 +8,11 @@ ghost use Rattle.ada_syntax.specs.declared.unit.Unit.{Unit as LibraryUnit};
 ghost use Rattle.ada_meaning.specs.Program.{Program};
 ghost use Rattle.ada_rules.specs.Entities.{Standard};
 ghost use Rattle.ada_rules.specs.Library.{library_of};
-ghost use Rattle.legal_programs.specs.Walked.{IsLegal};
+ghost use Rattle.legal_instances.specs.legal_programs.specs.Walked.{IsLegal};
 ghost use Rattle.legal_types.specs.TypeTokens.{units_types};
 ghost use Rattle.program_weights.specs.TypeWeights.{types_weight};
+
+pub use legal_instances::{instances_have_their_facts, orders_of_legal_programs_are_whole};
 
 /// The composite types that a legal program declares weigh no more than the declarations of types in its
 /// units have tokens.

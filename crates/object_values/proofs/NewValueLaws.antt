@@ -11,7 +11,7 @@ use Rattle.ada_rules.specs.Expressions.{itself, judged}
 use Rattle.ada_rules.specs.Declarations.{NewValue, any_value, value_for, known_of, value_place, new_value}
 use Rattle.ada_entities.specs.declared.fault.Refusal.{Refusal}
 use Rattle.ada_entities.specs.Answers.{refusal, Refuses, refused_at, no_memory}
-use Rattle.ada_phrases.proofs.Parts.{passes_on, in_part}
+use Rattle.program_walk.specs.ada_phrases.proofs.Parts.{passes_on, in_part}
 
 abbrev any_new : NewValue
 any_new = record { value = any_value; known = None }

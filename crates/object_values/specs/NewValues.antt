@@ -21,8 +21,8 @@ use Rattle.ada_judged.specs.declared.judged.Judged.{Judged}
 use Rattle.ada_judged.specs.declared.kind.Kind.{Kind}
 use Rattle.ada_judged.specs.Views.{kind_of}
 use Rattle.ada_judged.specs.JudgedView.{form_of, variable_in, judged_of}
-use Rattle.ada_phrases.specs.declared.decisions.Decisions.{Decisions}
-use Rattle.ada_phrases.specs.Answers.{counted}
+use Rattle.program_walk.specs.ada_phrases.specs.declared.decisions.Decisions.{Decisions}
+use Rattle.program_walk.specs.ada_phrases.specs.Answers.{counted}
 use Rattle.program_walk.specs.declared.site.Site.{Site}
 use Rattle.program_walk.specs.declared.symbols.Symbols.{Symbols}
 use Rattle.program_walk.specs.Sites.{StandsAt}

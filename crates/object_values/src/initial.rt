@@ -11,11 +11,10 @@ use crate::reach::placing;
 use crate::single::single_value;
 use ada_entities::{Refusal, Subtype, refused};
 use ada_judged::{Form, Judged, Kind, StaticTree};
-use ada_phrases::{Decisions, Role, Step};
 use ada_syntax::Initial;
 use ada_tree::{Expr, NewValue as TreeValue, Range, ScalarRange};
 use cov_base::{Failure, Pos};
-use program_walk::{Site, Symbols};
+use program_walk::{Decisions, Role, Site, Step, Symbols};
 use std::alloc::{AllocError, Global};
 
 /// What an object is set to, and the static value of the expression, where it stands in no `others`.

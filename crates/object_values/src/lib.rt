@@ -9,3 +9,4 @@ mod single;
 
 pub use initial::{NewValue, new_value};
 pub use place::value_place;
+pub use program_walk::{Accepted, Asks, Notes, Place, Site, Symbols};

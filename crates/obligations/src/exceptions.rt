@@ -18,10 +18,16 @@ pub(crate) struct ExceptionPlace {
 }
 
 /// A declared exception, by its full name in lower case.
-#[derive(Drop)]
 pub(crate) struct NamedException {
     pub place: ExceptionPlace,
     pub name: Bytes,
+}
+
+// Written out: a derived drop is proved anew in each crate above.
+impl Drop for NamedException {
+    fn drop(self) {
+        let NamedException { place: _, name: _ } = self;
+    }
 }
 
 /// A unit's name, a point, and the name of what is declared in the unit.

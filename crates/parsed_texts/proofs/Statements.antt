@@ -25,7 +25,7 @@ use Rattle.ada_parser.specs.Grammar.{IsUnit, a_unit, AreUnits, one_unit, more_un
 use Rattle.ada_rules.specs.Statements.{declarations_in}
 use Rattle.legal_programs.specs.TextPlaces.{kind_places, declared_places, places, all_places, branch_places, alternative_places, handler_places, handled_places, body_places, items_places, unit_places, units_places}
 use Rattle.legal_programs.specs.InText.{Rise}
-use Rattle.legal_instances.specs.InOrder.{UnitsRise}
+use Rattle.legal_texts.specs.legal_instances.specs.InOrder.{UnitsRise}
 use Rattle.parsed_texts.specs.Places.{IsInFiles, AreInFiles}
 use Rattle.parsed_texts.specs.Parsed.{AreOfFiles}
 use Rattle.parsed_texts.proofs.Files.{Ordered, InOrder, IsRead, files_ordered, files_within, more_files}

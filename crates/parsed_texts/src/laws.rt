@@ -9,7 +9,7 @@ ghost use Rattle.expression_parser.specs.declared.extent.Extent.{Extent};
 ghost use Rattle.expression_parser.specs.declared.extent.Extent.TheVariants.{Generics};
 ghost use Rattle.legal_counts.specs.Choices.{UnitsHaveChoices};
 ghost use Rattle.legal_counts.specs.ConditionPlaces.{units_conditions};
-ghost use Rattle.legal_instances.specs.InOrder.{UnitsRise};
+ghost use Rattle.legal_texts.specs.legal_instances.specs.InOrder.{UnitsRise};
 ghost use Rattle.legal_programs.specs.DecisionPlaces.{units_decisions};
 ghost use Rattle.legal_programs.specs.InText.{Rise};
 ghost use Rattle.legal_programs.specs.PlainUnits.{ArePlainUnits};

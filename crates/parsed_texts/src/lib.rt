@@ -12,3 +12,8 @@ pub use laws::{
     files_without_generics_are_packages, names_of_files_are_ascii, statements_of_files_rise,
     texts_have_choices, units_of_files_rise,
 };
+pub use legal_counts::{
+    each_exception_has_a_token, library_words_of_packages_are_within_limits,
+    nodes_and_types_have_tokens, words_are_within_limits,
+};
+pub use legal_texts::programs_of_packages_are_well_formed;

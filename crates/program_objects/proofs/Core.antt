@@ -10,7 +10,7 @@ use Rattle.ada_syntax.specs.Nodes.{unit_nodes}
 use Rattle.ada_syntax.specs.declared.unit.Unit.{Unit as LibraryUnit}
 use Rattle.ada_tree.specs.Programs.{program_of}
 use Rattle.ada_parser.specs.Opening.{open_extent}
-use Rattle.legal_counts.specs.ConditionPlaces.{units_conditions}
+use Rattle.parsed_texts.specs.legal_counts.specs.ConditionPlaces.{units_conditions}
 use Rattle.legal_programs.specs.DecisionPlaces.{units_decisions}
 use Rattle.legal_programs.specs.TextPlaces.{units_places}
 use Rattle.program_objects.proofs.Legal.{compilable_law, made_of, passes_law, behaves_law, in_time_law}

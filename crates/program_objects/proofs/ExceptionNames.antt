@@ -10,8 +10,8 @@ use Rattle.ada_parser.specs.Opening.{open_extent}
 use Rattle.ada_syntax.specs.Nodes.{unit_nodes}
 use Rattle.ada_syntax.specs.declared.unit.Unit.{Unit as LibraryUnit}
 use Rattle.program_weights.specs.Wholes.{whole_library}
-use Rattle.legal_names.proofs.Programs.{every_ordered, names_of}
-use Rattle.legal_names.specs.Named.{IsNamed}
+use Rattle.parsed_texts.specs.legal_names.proofs.Programs.{every_ordered, names_of}
+use Rattle.parsed_texts.specs.legal_names.specs.Named.{IsNamed}
 use Rattle.legal_programs.proofs.Passed.{is_legal}
 use Rattle.parsed_texts.proofs.Spelling.{spelled_of}
 use Rattle.program_objects.specs.Made.{exceptions_in, IsExceptionName}

@@ -25,8 +25,8 @@ use Rattle.ada_tree.specs.View as view
 use Rattle.ada_tree.specs.Weights.{type_nodes}
 use Rattle.program_weights.specs.Wholes.{DeclaresTypes, whole_library}
 use Rattle.generic_expand.specs.Limits.{declared_copies}
-use Rattle.legal_counts.specs.ObjectWords as text
-use Rattle.legal_instances.specs.InOrder.{UnitsRise}
+use Rattle.parsed_texts.specs.legal_counts.specs.ObjectWords as text
+use Rattle.parsed_texts.specs.legal_instances.specs.InOrder.{UnitsRise}
 use Rattle.legal_laws.specs.Bounded.{IsBounded, AreObjectsBounded}
 use Rattle.legal_programs.proofs.Passed.{is_legal, legal_comes}
 use Rattle.legal_programs.specs.DecisionPlaces.{units_decisions}
@@ -34,7 +34,7 @@ use Rattle.legal_programs.specs.InText.{Rise}
 use Rattle.legal_programs.specs.PlainUnits.{ArePlainUnits}
 use Rattle.legal_programs.specs.TextPlaces.{units_places}
 use Rattle.program_weights.specs.TypeWeights.{types_weight as declared_weight}
-use Rattle.legal_texts.specs.UnitTexts.{AreUnitTexts}
+use Rattle.parsed_texts.specs.legal_texts.specs.UnitTexts.{AreUnitTexts}
 use Rattle.lower.specs.Standing.{AreTypesNamed, IsSized, IsWithinLimits, most_declared_words, size_of, words_of_objects}
 use Rattle.lower.proofs.LaidObjects.{named_known}
 use Rattle.parsed_texts.proofs.Decisions.{decisions_rise}

@@ -8,9 +8,9 @@ use Rattle.ada_meaning.specs.Tree.{Label}
 use Rattle.ada_meaning.specs.Collected.{Decision, labels_of, decisions_of}
 use Rattle.ada_meaning.specs.Obligations.{inserted, in_order, ordered_labels, ordered_decisions, statement_entry, decision_entry, instance_entry, no_instance, predefined_names, obligations_of, numbers}
 use Rattle.ada_meaning.specs.Program.{Instance, Program}
-use Rattle.legal_counts.proofs.ConditionUnits.{conditions_placed}
-use Rattle.legal_counts.proofs.HeldDecisions.{all_held}
-use Rattle.legal_counts.proofs.NodesOfUnits.{few_nodes}
+use Rattle.parsed_texts.specs.legal_counts.proofs.ConditionUnits.{conditions_placed}
+use Rattle.parsed_texts.specs.legal_counts.proofs.HeldDecisions.{all_held}
+use Rattle.parsed_texts.specs.legal_counts.proofs.NodesOfUnits.{few_nodes}
 use Rattle.legal_programs.specs.DecisionPlaces.{units_decisions}
 use Rattle.legal_programs.specs.InText.{IsBehind, Rise}
 use Rattle.legal_programs.specs.TextPlaces.{units_places}

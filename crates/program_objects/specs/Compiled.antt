@@ -5,7 +5,7 @@ use Rattle.std.specs.List.{All}
 use Rattle.ada_meaning.specs.Obligations.{obligations_of}
 use Rattle.ada_meaning.specs.Program.{Program}
 use Rattle.ada_syntax.specs.declared.unit.Unit.{Unit as LibraryUnit}
-use Rattle.legal_counts.specs.ConditionPlaces.{units_conditions}
+use Rattle.parsed_texts.specs.legal_counts.specs.ConditionPlaces.{units_conditions}
 use Rattle.legal_programs.specs.DecisionPlaces.{units_decisions}
 use Rattle.legal_programs.specs.TextPlaces.{units_places}
 use Rattle.program_objects.specs.Held.{HoldsImage}

@@ -14,8 +14,8 @@ use Rattle.ada_syntax.specs.Nodes.{unit_nodes}
 use Rattle.ada_syntax.specs.declared.unit.Unit.{Unit as LibraryUnit}
 use Rattle.cov_base.specs.Expr.{negates_once}
 use Rattle.cov_base.specs.Lists.{Everywhere}
-use Rattle.legal_counts.specs.ObjectWords.{words_of_objects}
-use Rattle.legal_counts.specs.ConditionPlaces.{units_conditions}
+use Rattle.parsed_texts.specs.legal_counts.specs.ObjectWords.{words_of_objects}
+use Rattle.parsed_texts.specs.legal_counts.specs.ConditionPlaces.{units_conditions}
 use Rattle.legal_programs.specs.DecisionPlaces.{units_decisions}
 use Rattle.legal_programs.specs.TextPlaces.{units_places}
 use Rattle.lower.specs.Standing.{IsSized, most_declared_words}

@@ -12,12 +12,11 @@ ghost use Rattle.program_objects.specs.Kernels.{CanBeLaid, nodes_of};
 ghost use Rattle.program_objects.specs.Texts.{AreUnitsOf, IsOfText, IsPlain};
 ghost use Rattle.lower.specs.Standing.{AreTypesNamed};
 
-use legal_counts::{
-    each_exception_has_a_token, library_words_of_packages_are_within_limits,
-    nodes_and_types_have_tokens, words_are_within_limits,
-};
 use legal_programs::{obligations_are_numbered, obligations_stand_in_the_text};
-use legal_texts::programs_of_packages_are_well_formed;
+use parsed_texts::{
+    each_exception_has_a_token, library_words_of_packages_are_within_limits,
+    nodes_and_types_have_tokens, programs_of_packages_are_well_formed, words_are_within_limits,
+};
 
 /// The units of a legal program come to no more than 4,096 nodes.
 pub fn legal_units_are_few()

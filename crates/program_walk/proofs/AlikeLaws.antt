@@ -27,15 +27,15 @@ use Rattle.ada_entities.specs.Views.{identity_of, type_of, subtype_of}
 use Rattle.ada_entities.specs.EntityViews.{Tables, constant_of, values_of, is_variable, variable_of, awaits_body, no_routine, routine_by, awaiting, routine_of, entity_of}
 use Rattle.ada_entities.specs.RoutineViews.{parameter_of, result_of, routine_in}
 use Rattle.ada_entities.proofs.Agreement.{Agree, type_agrees, subtype_agrees}
-use Rattle.ada_judged.specs.declared.judged.Variable.{Variable}
-use Rattle.ada_judged.specs.declared.judged.Form.{Form}
-use Rattle.ada_judged.specs.declared.judged.Form.TheVariants as form
-use Rattle.ada_judged.specs.declared.judged.Judged.{Judged}
-use Rattle.ada_judged.specs.declared.kind.Kind.{Kind}
-use Rattle.ada_judged.specs.declared.kind.Kind.TheVariants as kind
-use Rattle.ada_judged.specs.Views.{kind_of}
-use Rattle.ada_judged.specs.JudgedView as judged
-use Rattle.ada_judged.specs.JudgedView.{is_indexed, form_of, variable_in, is_name, judged_of}
+use Rattle.ada_phrases.specs.ada_judged.specs.declared.judged.Variable.{Variable}
+use Rattle.ada_phrases.specs.ada_judged.specs.declared.judged.Form.{Form}
+use Rattle.ada_phrases.specs.ada_judged.specs.declared.judged.Form.TheVariants as form
+use Rattle.ada_phrases.specs.ada_judged.specs.declared.judged.Judged.{Judged}
+use Rattle.ada_phrases.specs.ada_judged.specs.declared.kind.Kind.{Kind}
+use Rattle.ada_phrases.specs.ada_judged.specs.declared.kind.Kind.TheVariants as kind
+use Rattle.ada_phrases.specs.ada_judged.specs.Views.{kind_of}
+use Rattle.ada_phrases.specs.ada_judged.specs.JudgedView as judged
+use Rattle.ada_phrases.specs.ada_judged.specs.JudgedView.{is_indexed, form_of, variable_in, is_name, judged_of}
 use Rattle.ada_phrases.specs.declared.names.Denoted.{Denoted}
 use Rattle.ada_phrases.specs.declared.names.Denoted.TheVariants as denoted
 use Rattle.ada_phrases.specs.DenotedView.{denotes}

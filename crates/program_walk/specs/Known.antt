@@ -16,11 +16,11 @@ use Rattle.ada_entities.specs.declared.units.Interface.{Interface}
 use Rattle.ada_entities.specs.declared.units.Interface.TheVariants as interface
 use Rattle.ada_entities.specs.Views.{is_known_owner, is_known}
 use Rattle.ada_entities.specs.Tables.{are_known, is_earlier}
-use Rattle.ada_judged.specs.declared.kind.Kind.{Kind}
-use Rattle.ada_judged.specs.declared.kind.Kind.TheVariants as kind
-use Rattle.ada_judged.specs.declared.judged.Form.{Form}
-use Rattle.ada_judged.specs.declared.judged.Form.TheVariants as form
-use Rattle.ada_judged.specs.declared.judged.Judged.{Judged}
+use Rattle.ada_phrases.specs.ada_judged.specs.declared.kind.Kind.{Kind}
+use Rattle.ada_phrases.specs.ada_judged.specs.declared.kind.Kind.TheVariants as kind
+use Rattle.ada_phrases.specs.ada_judged.specs.declared.judged.Form.{Form}
+use Rattle.ada_phrases.specs.ada_judged.specs.declared.judged.Form.TheVariants as form
+use Rattle.ada_phrases.specs.ada_judged.specs.declared.judged.Judged.{Judged}
 use Rattle.ada_phrases.specs.declared.names.Denoted.{Denoted}
 use Rattle.ada_phrases.specs.declared.names.Denoted.TheVariants as denoted
 use Rattle.program_walk.specs.declared.extent.Extent.{Extent}

@@ -22,3 +22,5 @@ pub mod Objects
 pub mod Owners
 pub mod Standing
 pub mod UnitGenerics
+pub use Rattle.ada_phrases
+pub use Rattle.ada_demands

@@ -15,8 +15,8 @@ use Rattle.ada_entities.specs.declared.fault.Refusal.{Refusal}
 use Rattle.ada_entities.specs.Answers.{Answers}
 use Rattle.ada_entities.specs.Views.{TypeTables, type_of}
 use Rattle.ada_entities.specs.EntityViews.{Tables, values_of}
-use Rattle.ada_judged.specs.declared.kind.Kind.{Kind as CodeKind}
-use Rattle.ada_judged.specs.Views.{kind_of}
+use Rattle.ada_phrases.specs.ada_judged.specs.declared.kind.Kind.{Kind as CodeKind}
+use Rattle.ada_phrases.specs.ada_judged.specs.Views.{kind_of}
 use Rattle.ada_demands.specs.declared.statics.Statics.{Statics}
 use Rattle.ada_demands.specs.StaticsViews.{noted}
 use Rattle.program_walk.specs.declared.asks.Accepted.{Accepted}

@@ -15,7 +15,7 @@ use Rattle.ada_entities.specs.declared.types.Subtype.{Subtype}
 use Rattle.ada_entities.specs.Answers.{Answers}
 use Rattle.ada_entities.specs.Views.{subtype_of}
 use Rattle.ada_entities.specs.EntityViews.{Tables}
-use Rattle.ada_judged.specs.Views.{kind_of}
+use Rattle.ada_phrases.specs.ada_judged.specs.Views.{kind_of}
 use Rattle.ada_demands.specs.declared.statics.Statics.{Statics}
 use Rattle.ada_demands.specs.StaticsViews.{noted}
 use Rattle.program_walk.specs.declared.part.Valued.{Valued}

@@ -4,12 +4,12 @@ ghost use Rattle.std.specs.Prelude.{◌≡◌};
 ghost use Rattle.ada_demands.specs.DemandViews.{test_of};
 ghost use Rattle.ada_entities.specs.EntityViews.{Tables};
 ghost use Rattle.ada_entities.specs.Views.{TypeTables};
-ghost use Rattle.ada_judged.specs.Views.{kind_of};
+ghost use Rattle.ada_phrases.specs.ada_judged.specs.Views.{kind_of};
 ghost use Rattle.program_walk.specs.Parts.{accepts_of, asks_of};
 
 use ada_demands::Test;
 use ada_entities::{AdaType, Values};
-use ada_judged::{Kind, StaticTree};
+use ada_phrases::{Kind, StaticTree};
 use ada_tree::ScalarRange;
 
 /// Of which types the expression may be.

@@ -7,8 +7,7 @@ ghost use Rattle.program_walk.specs.Known.{IsFreshExtent, awaits, knows_instance
 use ada_entities::{
     AdaType, Component, Definition, Entity, Interface, Parameter, ResultMark, Routine, RoutineName,
 };
-use ada_judged::{Form, Judged, Kind};
-use ada_phrases::Denoted;
+use ada_phrases::{Denoted, Form, Judged, Kind};
 use ada_tree::Owner;
 use std::alloc::{AllocError, Global};
 

@@ -39,6 +39,8 @@ mod table_laws;
 mod unit_generics;
 mod walk;
 
+pub use ada_demands::{Instances, Statics};
+pub use ada_phrases::{Decisions, Role, Step};
 pub use asks::{Accepted, Asks};
 pub use context::{Context, Level, Returning};
 pub use counts::Counts;

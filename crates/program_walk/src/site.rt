@@ -6,7 +6,7 @@ ghost use Rattle.ada_rules.specs.Entities.{key};
 ghost use Rattle.ada_rules.specs.Environment.{Env};
 ghost use Rattle.ada_rules.specs.Expressions as rules;
 ghost use Rattle.ada_entities.specs.EntityViews.{Tables};
-ghost use Rattle.ada_judged.specs.JudgedView.{judged_of};
+ghost use Rattle.ada_phrases.specs.ada_judged.specs.JudgedView.{judged_of};
 ghost use Rattle.ada_phrases.specs.Closing.{role_of};
 ghost use Rattle.ada_phrases.specs.DecisionView.{decision_of};
 ghost use Rattle.ada_phrases.specs.DenotedView.{denotes};
@@ -15,8 +15,7 @@ ghost use Rattle.program_walk.specs.Exact.{IsScopeOf};
 
 use crate::symbols::Symbols;
 use ada_entities::{Entity, Refusal, key};
-use ada_judged::Judged;
-use ada_phrases::{Decisions, Denoted, Role, Scope, Step, decision, denoted, judged};
+use ada_phrases::{Decisions, Denoted, Judged, Role, Scope, Step, decision, denoted, judged};
 use ada_syntax::{Expr, Identifier, Name};
 use ada_tree::Decision;
 use cov_base::{Failure, Pos};

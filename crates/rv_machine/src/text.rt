@@ -11,10 +11,19 @@ use std::marker::Model;
 
 /// The words of a text, and the instruction that each of them holds, if it holds one. Contracts see
 /// the words.
-#[derive(Drop)]
 pub struct DecodedText<'a> {
     words: &'a [u32],
     instructions: Vec<Option<Instr>>,
+}
+
+// Written out: a derived drop is proved anew in each crate above.
+impl<'a> Drop for DecodedText<'a> {
+    fn drop(self) {
+        let DecodedText {
+            words: _,
+            instructions: _,
+        } = self;
+    }
 }
 
 impl<'a> Model for DecodedText<'a> {

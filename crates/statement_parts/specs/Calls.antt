@@ -13,8 +13,8 @@ use Rattle.ada_entities.specs.EntityViews.{Tables, routine_by, routine_of}
 use Rattle.ada_entities.specs.RoutineViews.{routine_in}
 use Rattle.ada_phrases.specs.declared.names.Denoted.{Denoted}
 use Rattle.ada_phrases.specs.DenotedView.{denotes}
-use Rattle.program_walk.specs.declared.symbols.Symbols.{Symbols}
-use Rattle.program_walk.specs.SymbolViews.{Begins, IsKnown}
+use Rattle.object_values.specs.program_walk.specs.declared.symbols.Symbols.{Symbols}
+use Rattle.object_values.specs.program_walk.specs.SymbolViews.{Begins, IsKnown}
 use Rattle.statement_parts.specs.Simple.{in_tree}
 
 -- a call of this subprogram, as it is seen

@@ -18,7 +18,7 @@ use Rattle.ada_entities.specs.EntityViews.{Tables, values_of}
 use Rattle.ada_demands.specs.declared.statics.Statics.{Statics}
 use Rattle.ada_demands.specs.StaticsViews.{noted}
 use Rattle.ada_phrases.specs.Scopes.{step_of}
-use Rattle.program_walk.specs.declared.place.Place.{Place}
+use Rattle.object_values.specs.program_walk.specs.declared.place.Place.{Place}
 use Rattle.statement_parts.specs.declared.selectors.Selector.{Selector}
 use Rattle.statement_parts.specs.Selectors.{selector_in}
 use Rattle.statement_parts.specs.Simple.{in_tree, in_program}

@@ -24,8 +24,8 @@ use Rattle.ada_phrases.specs.declared.decisions.Decisions.{Decisions}
 use Rattle.ada_phrases.specs.declared.scope.Step.{Step}
 use Rattle.ada_phrases.specs.Answers.{counted}
 use Rattle.ada_phrases.specs.Scopes.{step_of}
-use Rattle.program_walk.specs.declared.site.Site.{Site}
-use Rattle.program_walk.specs.Sites.{StandsAt}
+use Rattle.object_values.specs.program_walk.specs.declared.site.Site.{Site}
+use Rattle.object_values.specs.program_walk.specs.Sites.{StandsAt}
 use Rattle.statement_parts.specs.Simple.{in_program}
 
 -- what `return` gives: nothing, or a value of a subtype

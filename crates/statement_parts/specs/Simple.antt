@@ -15,8 +15,8 @@ use Rattle.ada_rules.specs.Statements.{one, target, call_of, exception_of, typed
 use Rattle.ada_entities.specs.declared.fault.Refusal.{Refusal}
 use Rattle.ada_entities.specs.EntityViews.{Tables}
 use Rattle.ada_phrases.specs.declared.decisions.Decisions.{Decisions}
-use Rattle.program_walk.specs.declared.site.Site.{Site}
-use Rattle.program_walk.specs.Sites.{ComesTo}
+use Rattle.object_values.specs.program_walk.specs.declared.site.Site.{Site}
+use Rattle.object_values.specs.program_walk.specs.Sites.{ComesTo}
 use Rattle.ada_entities.specs.Trees.{shapes_in_tree}
 
 -- a statement of the typed program, whose composite types are unfolded from the checker's table

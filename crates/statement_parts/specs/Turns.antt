@@ -21,8 +21,8 @@ use Rattle.ada_demands.specs.declared.spans.ListedSpans.{ListedSpans}
 use Rattle.ada_demands.specs.SpanViews.{Begins}
 use Rattle.ada_phrases.specs.declared.decisions.Decisions.{Decisions}
 use Rattle.ada_phrases.specs.Answers.{counted}
-use Rattle.program_walk.specs.declared.site.Site.{Site}
-use Rattle.program_walk.specs.Sites.{StandsAt}
+use Rattle.object_values.specs.program_walk.specs.declared.site.Site.{Site}
+use Rattle.object_values.specs.program_walk.specs.Sites.{StandsAt}
 use Rattle.statement_parts.specs.declared.turns.Turns.{Turns}
 
 abbrev pub turns_in : Tables → Turns → rules.Turns

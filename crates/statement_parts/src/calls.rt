@@ -12,7 +12,7 @@ use ada_phrases::{Decisions, Denoted};
 use ada_syntax::Name;
 use ada_tree::{Actual, Callee, Label, Owner, Statement, StatementKind};
 use cov_base::{Failure, Seq};
-use program_walk::{Site, Symbols};
+use object_values::{Site, Symbols};
 use std::alloc::{AllocError, Global};
 
 /// What calls name, as it is seen (RM 12.3).

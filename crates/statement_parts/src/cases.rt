@@ -15,7 +15,7 @@ use ada_entities::{Refusal, Values, refused};
 use ada_phrases::Step;
 use ada_tree::{Alternative, Choice, Label, Statement, StatementKind};
 use cov_base::{Failure, Pos, Seq};
-use program_walk::Place;
+use object_values::Place;
 use std::alloc::{AllocError, Global};
 
 /// Whether a choice is `others`.

@@ -5,7 +5,7 @@ ghost use Rattle.ada_meaning.specs.Tree as tree;
 ghost use Rattle.ada_tree.specs.View as view;
 ghost use Rattle.ada_rules.specs.Plan.{answer_at};
 ghost use Rattle.ada_rules.specs.Statements as rules;
-ghost use Rattle.program_walk.specs.Sites.{ComesTo};
+ghost use Rattle.object_values.specs.program_walk.specs.Sites.{ComesTo};
 ghost use Rattle.ada_syntax.specs.declared.statement.ExceptionChoice.TheVariants as taken;
 ghost use Rattle.statement_parts.specs.Handlers.{may_be_others, others_choice, caught_in, all_caught_in, IsOthers};
 
@@ -16,7 +16,7 @@ use ada_phrases::{Decisions, Step};
 use ada_syntax::{ExceptionChoice as TextChoice, Name};
 use ada_tree::{ExceptionChoice, ExceptionName};
 use cov_base::{Failure, Pos, Seq};
-use program_walk::Site;
+use object_values::Site;
 use std::alloc::Global;
 
 /// Where a choice of a handler stands: `others` has to stand alone in the last handler.

@@ -4,7 +4,7 @@ ghost use Rattle.ada_syntax.specs.declared.statement.Choice.TheVariants as text;
 ghost use Rattle.std.specs.Prelude.{◌≡◌};
 ghost use Rattle.ada_tree.specs.View.{static_of, static_value_of};
 ghost use Rattle.ada_rules.specs.Statements as rules;
-ghost use Rattle.program_walk.specs.Places.{ComesTo};
+ghost use Rattle.object_values.specs.program_walk.specs.Places.{ComesTo};
 ghost use Rattle.statement_parts.specs.Selectors.{selector_in};
 ghost use Rattle.statement_parts.specs.Choices.{choice_in, all_choices_in};
 
@@ -14,7 +14,7 @@ use ada_entities::Refusal;
 use ada_syntax::{Bounds, Choice as TextChoice, Expr};
 use ada_tree::{Choice, Owner, Static, StaticValue};
 use cov_base::{Failure, Pos, Seq};
-use program_walk::{Accepted, Asks, Notes, Place};
+use object_values::{Accepted, Asks, Notes, Place};
 use std::alloc::Global;
 
 /// A value of the text as a static expression.

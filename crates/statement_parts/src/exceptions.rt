@@ -15,7 +15,7 @@ use ada_phrases::{Decisions, Denoted};
 use ada_syntax::Name;
 use ada_tree::{ExceptionName, Label, Statement, StatementKind};
 use cov_base::Failure;
-use program_walk::Site;
+use object_values::Site;
 use std::alloc::Global;
 
 /// The exception that a name denotes, where it denotes one.

@@ -14,7 +14,7 @@ use ada_phrases::{Decisions, Role, Step};
 use ada_syntax::Expr;
 use ada_tree::{Label, Statement, StatementKind};
 use cov_base::Failure;
-use program_walk::Site;
+use object_values::Site;
 use std::alloc::Global;
 
 /// `return;`, where the subprogram has no result.

@@ -6,7 +6,7 @@ ghost use Rattle.ada_rules.specs.Statements as rules;
 ghost use Rattle.ada_entities.specs.EntityViews.{Tables, values_of};
 ghost use Rattle.ada_entities.specs.Views.{scalar_type_of};
 ghost use Rattle.ada_judged.specs.JudgedView.{judged_of};
-ghost use Rattle.program_walk.specs.Sites.{ComesTo};
+ghost use Rattle.object_values.specs.program_walk.specs.Sites.{ComesTo};
 ghost use Rattle.statement_parts.specs.Selectors.{selector_in};
 
 use crate::handing::paired;
@@ -18,7 +18,7 @@ use ada_phrases::{Decisions, Role};
 use ada_syntax::Expr as TextExpr;
 use ada_tree::Expr;
 use cov_base::Failure;
-use program_walk::Site;
+use object_values::Site;
 use std::alloc::{AllocError, Global};
 
 /// The selector of a case statement: its expression, its type, and the values that choices name.

@@ -8,7 +8,7 @@ ghost use Rattle.ada_entities.specs.EntityViews.{Tables};
 ghost use Rattle.ada_judged.specs.JudgedView.{variable_of};
 ghost use Rattle.ada_phrases.specs.declared.names.Denoted.TheVariants as denoted;
 ghost use Rattle.ada_phrases.specs.DenotedView.{denotes};
-ghost use Rattle.program_walk.specs.Sites.{ComesTo};
+ghost use Rattle.object_values.specs.program_walk.specs.Sites.{ComesTo};
 ghost use Rattle.statement_parts.specs.Simple.{assigning, States};
 
 use crate::typing::typed;
@@ -18,8 +18,7 @@ use ada_phrases::{Decisions, Denoted};
 use ada_syntax::{Initial, Name};
 use ada_tree::{Label, NewValue, Object, Statement, StatementKind};
 use cov_base::Failure;
-use object_values::new_value;
-use program_walk::Site;
+use object_values::{Site, new_value};
 use std::alloc::Global;
 
 /// What the step of names goes on with.

@@ -7,7 +7,7 @@ ghost use Rattle.ada_entities.specs.EntityViews.{Tables, entity_of, values_of};
 ghost use Rattle.ada_entities.specs.Views.{scalar_type_of, subtype_of};
 ghost use Rattle.ada_judged.specs.JudgedView.{judged_of};
 ghost use Rattle.ada_demands.specs.SpanViews.{listed, Begins};
-ghost use Rattle.program_walk.specs.Changes.{UnlessMemory};
+ghost use Rattle.object_values.specs.program_walk.specs.Changes.{UnlessMemory};
 ghost use Rattle.statement_parts.specs.Turns.{turns_in, AreValuesBetween, AreTurnsBetween, IsTurned, Lengthens};
 
 use crate::handing::paired;
@@ -19,7 +19,7 @@ use ada_phrases::{Decisions, Role};
 use ada_syntax::{Bounds, DiscreteRange};
 use ada_tree::{LoopRange, Object};
 use cov_base::Failure;
-use program_walk::Site;
+use object_values::Site;
 use std::alloc::{AllocError, Global};
 
 /// The range of a loop parameter: its values as the loop takes them, its subtype, and the values that a

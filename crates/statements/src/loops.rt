@@ -18,10 +18,19 @@ use std::alloc::{AllocError, Global};
 
 /// The beginning of a for loop: the number of its parameter among the objects of the subprogram, and its
 /// values.
-#[derive(Drop)]
 pub(crate) struct Begun {
     pub(crate) parameter: u32,
     pub(crate) turns: Turns,
+}
+
+// Written out: a derived drop is proved anew in each crate above.
+impl Drop for Begun {
+    fn drop(self) {
+        let Begun {
+            parameter: _,
+            turns: _,
+        } = self;
+    }
 }
 
 /// The order in which a loop takes its values.
@@ -39,10 +48,11 @@ impl Begun {
     pub(crate) fn scheme(self, order: Source) -> ForScheme
         ensures { IsScheme self order result }
     {
+        let Begun { parameter, turns } = self;
         ForScheme {
-            parameter: self.parameter,
+            parameter,
             direction: direction(order),
-            values: self.turns.over,
+            values: turns.over,
         }
     }
 }

@@ -18,11 +18,20 @@ pub struct LocalObject {
 }
 
 /// The objects of a body in its frame, and the first slot behind them.
-#[derive(Drop)]
 pub struct FrameLayout {
     /// By number.
     pub objects: Seq<LocalObject>,
     pub base: u32,
+}
+
+// Written out: a derived drop is proved anew in each crate above.
+impl Drop for FrameLayout {
+    fn drop(self) {
+        let FrameLayout {
+            objects: _,
+            base: _,
+        } = self;
+    }
 }
 
 /// A number of slots: it stands still at 2^32 - 1.

@@ -140,12 +140,23 @@ impl Fixed for VectorEntry {
 /// What a consolidated file holds, in lists of others: the closing digest of the object that was run,
 /// those of the traces of its runs, the statements that started, and the evaluations that were
 /// completed. Contracts see the lists.
-#[derive(Drop)]
 pub struct ConsolidatedParts<'a> {
     pub object: Digest,
     pub runs: &'a [Digest],
     pub starts: &'a [StartEntry],
     pub vectors: &'a [VectorEntry],
+}
+
+// Written out: a derived drop is proved anew in each crate above.
+impl<'a> Drop for ConsolidatedParts<'a> {
+    fn drop(self) {
+        let ConsolidatedParts {
+            object: _,
+            runs: _,
+            starts: _,
+            vectors: _,
+        } = self;
+    }
 }
 
 impl<'a> Model for ConsolidatedParts<'a> {

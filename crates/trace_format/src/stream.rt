@@ -15,13 +15,25 @@ use std::alloc::{AllocError, Global};
 const PART: usize = 65_536;
 
 /// A file that is read from its front. Its bytes before the part in memory are hashed.
-#[derive(Drop)]
 pub struct Stream {
     name: String,
     part: Vec<u8>,
     at: usize,
     fetched: u64,
     hasher: Sha256,
+}
+
+// Written out: a derived drop is proved anew in each crate above.
+impl Drop for Stream {
+    fn drop(self) {
+        let Stream {
+            name: _,
+            part: _,
+            at: _,
+            fetched: _,
+            hasher: _,
+        } = self;
+    }
 }
 
 impl Stream {

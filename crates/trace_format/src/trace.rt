@@ -137,12 +137,23 @@ fn entry_at(bytes: &[u8]) -> (u32, u32, u8)
 
 /// The same, of entries that stand in lists of others: it is written without a copy of them.
 /// Contracts see the trace.
-#[derive(Drop)]
 pub struct TraceParts<'a> {
     pub object: Digest,
     pub ending: u32,
     pub blocks: &'a [Block],
     pub history: &'a [HistoryEntry],
+}
+
+// Written out: a derived drop is proved anew in each crate above.
+impl<'a> Drop for TraceParts<'a> {
+    fn drop(self) {
+        let TraceParts {
+            object: _,
+            ending: _,
+            blocks: _,
+            history: _,
+        } = self;
+    }
 }
 
 impl<'a> Model for TraceParts<'a> {

@@ -13,5 +13,6 @@ mod texts;
 mod unit_entries;
 
 pub use program::{discard_program, program_of};
+pub use program_walk::Walk;
 pub use texts::type_texts;
 pub use unit_entries::entries;

@@ -3,13 +3,12 @@
 ghost use Rattle.unit_walk.specs.Interfaces.{ComesToUnit, ComesToUnits, PassesUnits};
 
 use crate::shown_packages::package_shown;
-use ada_demands::Instances;
 use ada_entities::{Entity, Refusal, key};
 use ada_library::{Library, item_name, seen};
 use ada_phrases::Step;
 use ada_syntax::{LibraryItem, Unit};
 use cov_base::Failure;
-use program_walk::Walk;
+use program_walk::{Instances, Walk};
 use std::alloc::Global;
 use unit_walk::{UnitPlace, instance_shown, subprogram_shown};
 

@@ -9,11 +9,10 @@ ghost use Rattle.unit_walk.specs.Walked.{ComesToInterface, Passes};
 ghost use Rattle.unit_interfaces.specs.Packages.{KeepsInnermost, IsInterfaceWith, IsKnownWith};
 
 use crate::items::package_items;
-use ada_demands::Instances;
 use ada_entities::{Interface, Refusal, Region};
 use ada_syntax::{Formal, PackageSpecification};
 use cov_base::{Failure, Seq};
-use program_walk::{Symbols, Walk};
+use program_walk::{Instances, Symbols, Walk};
 use std::alloc::{AllocError, Global};
 use unit_walk::{
     UnitPlace, closed_by, enter_unit, formals_declared, leave_unit, note_library_words,

@@ -16,10 +16,19 @@ use std::alloc::{AllocError, Global};
 
 /// What an instance is one of, by the number of the generic's unit, where it is one; and what it has for
 /// the formals, in order.
-#[derive(Drop)]
 pub struct Instantiated {
     pub generic: Option<u32>,
     pub actuals: Vec<InstanceActual>,
+}
+
+// Written out: a derived drop is proved anew in each crate above.
+impl Drop for Instantiated {
+    fn drop(self) {
+        let Instantiated {
+            generic: _,
+            actuals: _,
+        } = self;
+    }
 }
 
 /// The formals of a generic, if there is one.

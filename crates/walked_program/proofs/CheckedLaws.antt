@@ -33,8 +33,8 @@ use Rattle.ada_tree.specs.declared.types.TypeDeclaration.{TypeDeclaration}
 use Rattle.ada_tree.specs.Programs.{types_of}
 use Rattle.ada_entities.specs.Trees.{shapes_in_tree}
 use Rattle.typed_program.specs.Assembled.{HasTypes, IsProgramOf}
-use Rattle.program_walk.specs.States.{state_of}
-use Rattle.program_walk.specs.Walks.{Begins}
+use Rattle.typed_program.specs.program_walk.specs.States.{state_of}
+use Rattle.typed_program.specs.program_walk.specs.Walks.{Begins}
 use Rattle.word_limits.specs.Excess.{HasUnits, IsFirstExcess}
 use Rattle.walked_program.specs.declared.fault.CheckFault.{CheckFault}
 use Rattle.walked_program.specs.declared.fault.CheckFault.TheVariants.{Naming, Typing, Limit}

@@ -4,10 +4,10 @@ use Rattle.std.proofs.lemmas.List.{append-nil}
 use Rattle.ada_entities.specs.EntityViews.{Tables}
 use Rattle.ada_demands.specs.SpanEntries.{listed_of}
 use Rattle.ada_demands.specs.SpanViews.{listed}
-use Rattle.program_walk.specs.Exact.{exact}
-use Rattle.program_walk.proofs.WalkLaws.{exact_begins}
-use Rattle.program_walk.specs.declared.walk.Walk.{Walk}
-use Rattle.program_walk.specs.Walks.{Begins}
+use Rattle.typed_program.specs.program_walk.specs.Exact.{exact}
+use Rattle.typed_program.specs.program_walk.proofs.WalkLaws.{exact_begins}
+use Rattle.typed_program.specs.program_walk.specs.declared.walk.Walk.{Walk}
+use Rattle.typed_program.specs.program_walk.specs.Walks.{Begins}
 
 -- the tables that have just what a walk has declared and listed
 abbrev pub tables_there : Walk → Tables

@@ -17,8 +17,8 @@ use Rattle.ada_tree.specs.Weights.{definition_nodes, type_nodes, stands_in}
 use Rattle.ada_rules.specs.Environment.{Declares}
 use Rattle.ada_entities.specs.EntityViews.{Tables}
 use Rattle.ada_entities.specs.Trees.{shape_in_tree, AreIn}
-use Rattle.program_walk.specs.declared.found.DeclaredType.{DeclaredType}
-use Rattle.program_walk.specs.States.{types_in, subtype_there, declared_type_of}
+use Rattle.typed_program.specs.program_walk.specs.declared.found.DeclaredType.{DeclaredType}
+use Rattle.typed_program.specs.program_walk.specs.States.{types_in, subtype_there, declared_type_of}
 use Rattle.program_weights.specs.TypeWeights.{component_count, shape_weight, words_weight, types_weight}
 use Rattle.typed_program.specs.TypeTexts.{with_text, texts_of, IsNumbered, number_behind, AreNumbered, AreAllTexts}
 use Rattle.program_weights.specs.TypeWeights.{types_weight_in, AreDeclared}

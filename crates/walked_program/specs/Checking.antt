@@ -19,8 +19,8 @@ use Rattle.ada_entities.specs.EntityViews.{Tables}
 use Rattle.ada_entities.specs.TypeTable.{tables}
 use Rattle.ada_library.specs.declared.library.Library.{Library}
 use Rattle.ada_phrases.specs.declared.scope.Step.TheVariants as step
-use Rattle.program_walk.specs.States.{state_of}
-use Rattle.program_walk.specs.Walks.{Begins}
+use Rattle.typed_program.specs.program_walk.specs.States.{state_of}
+use Rattle.typed_program.specs.program_walk.specs.Walks.{Begins}
 use Rattle.word_limits.specs.Excess.{HasUnits}
 use Rattle.walked_program.specs.declared.fault.CheckFault.{CheckFault}
 use Rattle.walked_program.specs.declared.fault.CheckFault.TheVariants.{Naming, Typing, Limit}

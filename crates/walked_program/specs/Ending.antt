@@ -6,7 +6,7 @@ use Rattle.ada_rules.specs.Statics.{Facts}
 use Rattle.ada_rules.specs.Units.{all_with_constants}
 use Rattle.ada_tree.specs.Programs.{constant_of}
 use Rattle.ada_entities.specs.declared.fault.Refusal.{Refusal}
-use Rattle.program_walk.specs.Walks.{IsBeginning}
+use Rattle.typed_program.specs.program_walk.specs.Walks.{IsBeginning}
 use Rattle.walked_program.specs.declared.whole_walk.WholeWalk.{WholeWalk}
 
 -- Nothing was looked at of so many units, and instances have this.

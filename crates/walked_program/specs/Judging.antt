@@ -16,10 +16,10 @@ use Rattle.ada_library.specs.declared.library.Library.{Library}
 use Rattle.ada_library.specs.LibraryView.{IsLibrary}
 use Rattle.ada_phrases.specs.declared.scope.Step.{Step}
 use Rattle.ada_phrases.specs.Scopes.{step_of}
-use Rattle.program_walk.specs.declared.walk.Walk.{Walk}
-use Rattle.program_walk.specs.States.{state_of}
-use Rattle.program_walk.specs.Walks.{Begins, IsBeginning}
-use Rattle.program_walk.specs.Standing.{StandsBefore}
+use Rattle.typed_program.specs.program_walk.specs.declared.walk.Walk.{Walk}
+use Rattle.typed_program.specs.program_walk.specs.States.{state_of}
+use Rattle.typed_program.specs.program_walk.specs.Walks.{Begins, IsBeginning}
+use Rattle.typed_program.specs.program_walk.specs.Standing.{StandsBefore}
 use Rattle.walked_program.specs.declared.whole_walk.WholeWalk.{WholeWalk}
 
 -- The main unit is there, or the program is refused where its first file begins.

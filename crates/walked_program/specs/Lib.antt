@@ -1,3 +1,4 @@
 pub mod Checking
 pub mod Judging
 pub mod Ending
+pub use Rattle.ada_demands

@@ -11,6 +11,7 @@ mod fault;
 mod laws;
 mod whole_walk;
 
+pub use ada_demands::Instances;
 pub use behind::{naming, program, typing};
 pub use fault::CheckFault;
 pub use laws::a_refusal_is_of_a_broken_rule;

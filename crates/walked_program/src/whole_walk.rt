@@ -6,8 +6,8 @@ ghost use Rattle.walked_program.specs.Ending.{BeginsWith, EndsWith};
 use ada_demands::Instances;
 use ada_entities::Refusal;
 use cov_base::Failure;
-use program_walk::Walk;
 use std::alloc::{AllocError, Global};
+use typed_program::Walk;
 
 /// What the walk over all units leaves: what it has declared and found, and what instances have for the
 /// formals and the constants of their generics.

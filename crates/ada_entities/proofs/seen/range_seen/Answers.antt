@@ -1,5 +1,5 @@
 use Rattle.std.proofs.Common.{sym, ap, ◌∙◌}
-use Rattle.ada_meaning.specs.Seen.{range_seen}
+use Rattle.ada_rules.specs.ada_meaning.specs.Seen.{range_seen}
 use Rattle.ada_tree.specs.View.{scalar_range_of}
 use Rattle.ada_entities.proofs.SeenLaws.{between_after, formal_after}
 use Rattle.ada_entities.proofs.seen.range_seen.Goals as goal

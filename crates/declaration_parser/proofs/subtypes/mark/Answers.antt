@@ -5,5 +5,5 @@ use Rattle.declaration_parser.proofs.subtypes.mark.Goals as goal
 
 pub returns : goal.returns
 returns c =
-    let p = no_name_alone c.low.inside.pos c.low.inside.kind c.low.invariant c.in_default.not-Name in
-    ap (λ z. read.mark_alone z c.args.tokens.now) (sym (ap read.name_alone c.low.view_is) ∙ p)
+    let p = no_name_alone c.into_parts-kind.result.0 c.into_parts-kind.result.1 c.into_parts-kind.ensures.chain c.in_default.not-Name in
+    ap (λ z. read.mark_alone z c.args.tokens.now) (sym (ap read.name_alone c.into_parts-kind.ensures.form) ∙ p)

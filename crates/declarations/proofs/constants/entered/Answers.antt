@@ -1,6 +1,6 @@
 use Rattle.std.proofs.Common.{sym, ap, ◌∙◌}
 use Rattle.ada_rules.specs.Environment.{given}
-use Rattle.ada_demands.specs.StaticsViews.{noted}
+use Rattle.program_walk.specs.ada_demands.specs.StaticsViews.{noted}
 use Rattle.declarations.proofs.constants.entered.Goals as goal
 
 pub returns : goal.returns

@@ -2,7 +2,7 @@ use Rattle.std.proofs.Common.{Some, option_map, refl, ◌∙◌}
 use Rattle.ada_tree.specs.View.{scalar_range_of, static_value_of}
 use Rattle.ada_rules.specs.Declarations.{known_constant}
 use Rattle.ada_entities.specs.Views.{subtype_of}
-use Rattle.ada_demands.specs.StaticsViews.{noted}
+use Rattle.program_walk.specs.ada_demands.specs.StaticsViews.{noted}
 use Rattle.declarations.proofs.ConstantLaws.{constant_known}
 use Rattle.declarations.proofs.constants.library_constant.Goals as goal
 

@@ -2,7 +2,7 @@ use Rattle.std.proofs.Common.{Some, sym, ap, ◌∙◌}
 use Rattle.std.proofs.lemmas.Result.{IfOk-weaker}
 use Rattle.ada_tree.specs.View.{scalar_range_of, static_value_of}
 use Rattle.ada_rules.specs.Environment.{given}
-use Rattle.ada_demands.specs.StaticsViews.{noted}
+use Rattle.program_walk.specs.ada_demands.specs.StaticsViews.{noted}
 use Rattle.declarations.proofs.ConstantLaws.{numbered_here, numbered_nowhere}
 use Rattle.declarations.proofs.constants.library_known.Goals as goal
 

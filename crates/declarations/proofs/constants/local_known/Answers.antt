@@ -3,7 +3,7 @@ use Rattle.std.proofs.lemmas.Result.{IfOk-weaker}
 use Rattle.ada_tree.specs.View.{scalar_range_of, static_value_of}
 use Rattle.ada_rules.specs.Environment.{given}
 use Rattle.ada_rules.specs.Declarations.{lying_in}
-use Rattle.ada_demands.specs.StaticsViews.{noted}
+use Rattle.program_walk.specs.ada_demands.specs.StaticsViews.{noted}
 use Rattle.declarations.proofs.ConstantLaws.{numbered_as, numbered_nowhere, lying_is}
 use Rattle.declarations.proofs.constants.local_known.Goals as goal
 

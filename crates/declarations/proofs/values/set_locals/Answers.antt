@@ -10,7 +10,7 @@ use Rattle.program_walk.specs.Going.{region_in}
 use Rattle.object_values.specs.NewValues.{new_value_of}
 use Rattle.program_walk.proofs.GoingLaws.{is_in, is_in_local, goes_noted}
 use Rattle.program_walk.proofs.HidingLaws.{symbols_stay}
-use Rattle.ada_demands.specs.StaticsViews.{noted}
+use Rattle.program_walk.specs.ada_demands.specs.StaticsViews.{noted}
 use Rattle.declarations.specs.Locals.{made_of}
 use Rattle.declarations.specs.Made.{behind}
 use Rattle.declarations.proofs.KindLaws.{behind_refused}

@@ -2,9 +2,9 @@ use Rattle.std.proofs.Common.{◌≡◌, Ok, sym, ap, ◌∙◌, rules}
 use Rattle.ada_rules.specs.Environment.{given}
 use Rattle.ada_entities.specs.Views.{subtype_of}
 use Rattle.ada_judged.specs.JudgedView.{judged_of}
-use Rattle.ada_phrases.specs.Answers.{counted}
-use Rattle.ada_phrases.specs.Scopes.{step_of}
-use Rattle.ada_phrases.proofs.Parts.{answers_as}
+use Rattle.program_walk.specs.ada_phrases.specs.Answers.{counted}
+use Rattle.program_walk.specs.ada_phrases.specs.Scopes.{step_of}
+use Rattle.program_walk.specs.ada_phrases.proofs.Parts.{answers_as}
 use Rattle.object_values.specs.NewValues.{new_value_of}
 use Rattle.object_values.proofs.NewValueLaws.{refused_there, named_there, typed_there}
 use Rattle.object_values.proofs.initial.new_value.Goals as goal

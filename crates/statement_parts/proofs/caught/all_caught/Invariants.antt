@@ -5,7 +5,7 @@ use Rattle.ada_rules.specs.Environment.{State, Env}
 use Rattle.ada_rules.specs.Statements as rules
 use Rattle.ada_entities.specs.EntityViews.{Tables}
 use Rattle.ada_phrases.specs.Answers.{counted, before}
-use Rattle.program_walk.specs.Sites.{StandsAt}
+use Rattle.object_values.specs.program_walk.specs.Sites.{StandsAt}
 use Rattle.statement_parts.specs.Handlers.{may_be_others, all_caught_in}
 use Rattle.statement_parts.proofs.caught.all_caught.Given as goal
 

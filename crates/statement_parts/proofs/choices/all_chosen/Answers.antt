@@ -4,7 +4,7 @@ use Rattle.ada_tree.specs.View.{choice_of}
 use Rattle.ada_rules.specs.Environment.{given}
 use Rattle.ada_phrases.specs.Answers.{before}
 use Rattle.ada_phrases.proofs.Parts.{refused_as}
-use Rattle.program_walk.specs.Places.{with_notes}
+use Rattle.object_values.specs.program_walk.specs.Places.{with_notes}
 use Rattle.statement_parts.specs.Selectors.{selector_in}
 use Rattle.statement_parts.proofs.Walks.{none_before, item_passes, item_refused, items_end}
 use Rattle.statement_parts.proofs.ChoiceLaws.{one, all, choices_walk}

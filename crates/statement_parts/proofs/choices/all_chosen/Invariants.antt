@@ -5,7 +5,7 @@ use Rattle.ada_rules.specs.Environment.{State, Env}
 use Rattle.ada_rules.specs.Statements as rules
 use Rattle.ada_entities.specs.EntityViews.{Tables}
 use Rattle.ada_phrases.specs.Answers.{before}
-use Rattle.program_walk.specs.Places.{StandsAt, with_notes}
+use Rattle.object_values.specs.program_walk.specs.Places.{StandsAt, with_notes}
 use Rattle.statement_parts.specs.Selectors.{selector_in}
 use Rattle.statement_parts.specs.Choices.{all_choices_in}
 use Rattle.statement_parts.proofs.choices.all_chosen.Given as goal

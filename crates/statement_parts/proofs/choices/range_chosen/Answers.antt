@@ -5,8 +5,8 @@ use Rattle.ada_rules.specs.Statics.{in_order}
 use Rattle.ada_rules.specs.Environment.{given, demanded}
 use Rattle.ada_phrases.specs.Answers.{counted}
 use Rattle.ada_demands.specs.StaticsViews.{noted}
-use Rattle.program_walk.specs.Places.{with_notes}
-use Rattle.program_walk.specs.Parts.{valued_of}
+use Rattle.object_values.specs.program_walk.specs.Places.{with_notes}
+use Rattle.object_values.specs.program_walk.specs.Parts.{valued_of}
 use Rattle.statement_parts.specs.Selectors.{selector_in}
 use Rattle.statement_parts.proofs.ChoiceLaws.{low_refused, high_refused, range_passes}
 use Rattle.statement_parts.proofs.choices.range_chosen.Goals as goal

@@ -1,8 +1,8 @@
 use Rattle.std.proofs.Common.{rules, Ok, sym, ap, ◌∙◌}
 use Rattle.ada_meaning.specs.Tree.{value_choice}
 use Rattle.ada_rules.specs.Environment.{given}
-use Rattle.program_walk.specs.Places.{with_notes}
-use Rattle.program_walk.specs.Parts.{valued_of}
+use Rattle.object_values.specs.program_walk.specs.Places.{with_notes}
+use Rattle.object_values.specs.program_walk.specs.Parts.{valued_of}
 use Rattle.statement_parts.specs.Selectors.{selector_in}
 use Rattle.statement_parts.proofs.ChoiceLaws.{value_refused, value_passes}
 use Rattle.statement_parts.proofs.choices.value_chosen.Goals as goal

@@ -1,6 +1,6 @@
 use Rattle.std.proofs.Common.{[], ap, ◌∙◌}
 use Rattle.std.proofs.lemmas.Result.{err_from_is_err_and}
-use Rattle.ada_demands.specs.SpanViews.{listed}
+use Rattle.program_walk.specs.ada_demands.specs.SpanViews.{listed}
 use Rattle.program_walk.specs.declared.walk.Walk.{Walk}
 use Rattle.program_walk.specs.Walks.{Begins}
 use Rattle.program_walk.specs.Going.{region_in}

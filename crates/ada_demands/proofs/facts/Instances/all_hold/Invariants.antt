@@ -2,7 +2,7 @@
 use Rattle.std.proofs.Common.{◌≡◌, drop}
 use Rattle.std.specs.List.{list_all}
 use Rattle.ada_rules.specs.Statics.{holds}
-use Rattle.ada_entities.specs.EntityViews.{Tables}
+use Rattle.ada_judged.specs.ada_entities.specs.EntityViews.{Tables}
 use Rattle.ada_demands.specs.DemandViews.{test_of}
 use Rattle.ada_demands.specs.SpanViews.{listed, Begins}
 use Rattle.ada_demands.proofs.facts.Instances.all_hold.Given as goal

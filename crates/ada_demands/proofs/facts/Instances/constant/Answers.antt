@@ -3,7 +3,7 @@ use Rattle.ada_meaning.specs.Resolved.{owner_in}
 use Rattle.ada_meaning.specs.Statics.{static_value}
 use Rattle.ada_tree.specs.View.{owner_of, static_by, static_value_of}
 use Rattle.ada_rules.specs.Statics.{instance_values, value_in}
-use Rattle.ada_entities.specs.EntityViews.{value_or}
+use Rattle.ada_judged.specs.ada_entities.specs.EntityViews.{value_or}
 use Rattle.ada_demands.specs.KnownViews.{known_values}
 use Rattle.ada_demands.proofs.TreeLaws.{value_by}
 use Rattle.ada_demands.proofs.facts.Instances.constant.Goals as goal

@@ -1,6 +1,6 @@
 -- The first demand that fails is the first among those that are left.
 use Rattle.std.proofs.Common.{◌≡◌, map, drop}
-use Rattle.ada_entities.specs.EntityViews.{Tables}
+use Rattle.ada_judged.specs.ada_entities.specs.EntityViews.{Tables}
 use Rattle.ada_demands.specs.DemandViews.{demand_of}
 use Rattle.ada_demands.specs.Meeting.{failing_of, lent}
 use Rattle.ada_demands.specs.SpanViews.{listed, Begins}

@@ -2,7 +2,7 @@ use Rattle.std.proofs.Common.{◌≡◌, drop}
 use Rattle.ada_judged.specs.StaticView.{static_size}
 use Rattle.ada_tree.specs.View.{static_value_of}
 use Rattle.ada_rules.specs.Environment.{State, given}
-use Rattle.ada_entities.specs.EntityViews.{Tables}
+use Rattle.ada_judged.specs.ada_entities.specs.EntityViews.{Tables}
 use Rattle.ada_demands.specs.StaticsViews.{noted, chain_named}
 use Rattle.ada_demands.proofs.TreeLaws.{operands_size}
 use Rattle.ada_demands.proofs.statics.Statics.+named.Given as goal

@@ -1,6 +1,6 @@
 use Rattle.std.proofs.Common.{ap, ◌∙◌}
 use Rattle.ada_meaning.specs.Tree as tree
-use Rattle.ada_rules.specs.Denoted.{part_of}
+use Rattle.ada_entities.specs.ada_rules.specs.Denoted.{part_of}
 use Rattle.ada_tree.specs.View.{parts_of, with_selector}
 use Rattle.ada_entities.specs.Views.{subtype_of}
 use Rattle.ada_judged.specs.JudgedView.{is_indexed, variable_of}

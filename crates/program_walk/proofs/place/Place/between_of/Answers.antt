@@ -2,7 +2,7 @@ use Rattle.std.proofs.Common.{Ok, option_map, sym, ap, ◌∙◌}
 use Rattle.ada_rules.specs.Types.{of_type, common}
 use Rattle.ada_rules.specs.Environment.{given}
 use Rattle.ada_rules.specs.Declarations.{index_between}
-use Rattle.ada_judged.specs.Views.{kind_of}
+use Rattle.ada_phrases.specs.ada_judged.specs.Views.{kind_of}
 use Rattle.ada_demands.specs.StaticsViews.{noted}
 use Rattle.program_walk.specs.Parts.{valued_of}
 use Rattle.program_walk.proofs.IndexLaws.{none_refused, some_passes}

@@ -1,5 +1,5 @@
 use Rattle.std.proofs.Common.{Ok, sym, ap, ◌∙◌}
-use Rattle.ada_judged.specs.Views.{kind_of}
+use Rattle.ada_phrases.specs.ada_judged.specs.Views.{kind_of}
 use Rattle.ada_demands.specs.StaticsViews.{noted}
 use Rattle.ada_rules.specs.Environment.{given, demanded}
 use Rattle.program_walk.specs.Parts.{accepts_of, asks_of, valued_of}

@@ -1,6 +1,6 @@
 use Rattle.std.proofs.Common.{Ok, sym, ap, ◌∙◌, rules}
 use Rattle.ada_rules.specs.Environment.{given}
-use Rattle.ada_judged.specs.JudgedView.{judged_of}
+use Rattle.ada_phrases.specs.ada_judged.specs.JudgedView.{judged_of}
 use Rattle.ada_phrases.specs.Answers.{counted}
 use Rattle.ada_phrases.specs.Scopes.{step_of}
 use Rattle.ada_phrases.proofs.Parts.{answers_as}
