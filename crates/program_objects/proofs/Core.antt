@@ -13,7 +13,7 @@ use Rattle.ada_parser.specs.Opening.{open_extent}
 use Rattle.parsed_texts.specs.legal_counts.specs.ConditionPlaces.{units_conditions}
 use Rattle.legal_programs.specs.DecisionPlaces.{units_decisions}
 use Rattle.legal_programs.specs.TextPlaces.{units_places}
-use Rattle.program_objects.proofs.Legal.{compilable_law, made_of, passes_law, behaves_law, in_time_law}
+use Rattle.program_objects.proofs.Legal.{passes_law, behaves_law, in_time_law}
 use Rattle.program_objects.proofs.MarksOf.{marks_law}
 use Rattle.program_objects.proofs.Placing.{text_bound}
 use Rattle.program_objects.specs.Built.{HasPlainName, CanBeNamed, AreLegal, AreTyped, IsBuiltOf}
@@ -131,7 +131,7 @@ module _ (files : List SourceFile) (main : List ℕ) (p : Program) (nodes : ℕ)
     plain = (passes_law (length files) legal.units lower p o legal.program text few compiled).1;
     sources = built.sources;
     obligations = built.obligations;
-    marks = marks_law p o (compilable_law legal.units p text few) (made_of (length files) legal.units lower p o legal.program text compiled);
+    marks = marks_law p nodes built.kernel o text.numbered built.is_kernel built.holds;
     behaves = behaves_law (length files) legal.units lower p o legal.program text few compiled;
   }
 

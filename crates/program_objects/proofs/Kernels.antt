@@ -26,29 +26,26 @@ use Rattle.lower.specs.Schemes.{scheme_for}
 use Rattle.lower.proofs.LaidKernel.{kernel_law as laid_law}
 use Rattle.lower.proofs.LaidSizes.{covered_law}
 use Rattle.statement_code.specs.Copies.{AreCovered}
-use Rattle.statement_code.specs.Kernels.{AreOutside, IsWhole, Scheme}
+use Rattle.statement_code.specs.Kernels.{expanded_nodes, IsWhole, Scheme}
 use Rattle.statement_code.proofs.AllFuels.{kernel_law}
 use Rattle.statement_code.proofs.Kernels.{bytes_law, conditions_law, rows_law, well_formed_law, within_law}
 use Rattle.statement_code.proofs.Laid.{whole_law}
 use Rattle.storage_layout.specs.Layouts.{HasWord}
-use Rattle.statement_code.proofs.Once.{conditions_once, nodes_once, rows_once}
 use Rattle.statement_code.proofs.Own.{own_law}
-use Rattle.statement_code.specs.Sizes.{subprogram_nodes}
 
 -- a whole kernel of a program that can be compiled, with layouts of types that weigh so much
-pub whole_kernel : (p : Program) (k : Kernel) (s : Scheme) (types : ℕ) → IsCompilable p → AreOutside p.subprograms → IsWhole p k s → AreCovered k.layouts types
-    → sum_by subprogram_nodes p.subprograms + types ≤ 4096 → IsKernelOf p (sum_by subprogram_nodes p.subprograms + types) k
+pub whole_kernel : (p : Program) (k : Kernel) (s : Scheme) (types : ℕ) → IsCompilable p → IsWhole p k s → AreCovered k.layouts types → expanded_nodes p + types ≤ 4096
+    → IsKernelOf p (expanded_nodes p + types) k
 unfolding source.deepest
-whole_kernel p k s types able outside whole covered few =
-    let all = nodes_once p outside in
+whole_kernel p k s types able whole covered few =
     record {
       does = kernel_law p k s whole.is_kernel;
       formed = λ graph graphs. well_formed_law p k s whole graph (own_law p able.numbered graph graphs able.few_conditions);
-      rows = rows_law p k s whole ∙ rows_once p outside;
-      conditions = λ weight. conditions_law p k s whole weight ∙ ap (sum_by weight) (conditions_once p outside);
+      rows = rows_law p k s whole;
+      conditions = conditions_law p k s whole;
       exceptions = let e = whole.exceptions in omega (arith, e);
-      within = within_law p k s whole types covered (omega (arith, all, few));
-      short = bytes_law p k s whole types covered (sum_by subprogram_nodes p.subprograms + types) (omega (arith, all));
+      within = within_law p k s whole types covered few;
+      short = bytes_law p k s whole types covered (expanded_nodes p + types) (omega arith);
       few = few;
     }
 
@@ -60,7 +57,7 @@ laid_kernel t k able laid is words =
     let whole = whole_law p made (scheme_for t (copies_of (program_of t))) laid.well
     (laid_law t laid.well laid.named laid.limits (subst (λ (x : Kernel). Everywhere HasWord x.layouts) is words)) in
     subst (IsKernelOf p (nodes_of t)) (sym is)
-    (whole_kernel p made (scheme_for t (copies_of (program_of t))) (types_weight t) able laid.outside whole (covered_law t) laid.light)
+    (whole_kernel p made (scheme_for t (copies_of (program_of t))) (types_weight t) able whole (covered_law t) laid.light)
 
 -- the words of the library level lie within memory
 pub library_fits : (p : Program) (nodes : ℕ) (k : Kernel) (words : List ℕ) → IsKernelOf p nodes k → words ≡ k.library → AreWithin words

@@ -40,6 +40,7 @@ use Rattle.lower.proofs.LaidObjects.{named_known}
 use Rattle.parsed_texts.proofs.Decisions.{decisions_rise}
 use Rattle.parsed_texts.proofs.Statements.{statements_rise_weakly, units_rise}
 use Rattle.parsed_texts.proofs.Texts.{texts_of}
+use Rattle.statement_code.proofs.Once.{nodes_once}
 use Rattle.statement_code.specs.Sizes.{block_nodes, subprogram_nodes}
 use Rattle.program_objects.specs.Kernels.{CanBeLaid, nodes_of}
 use Rattle.program_objects.specs.Made.{exceptions_in}
@@ -130,7 +131,6 @@ laid_law files units main t h few of_text plain named light = record {
   well = plain.well;
   named = named;
   limits = limits_law t plain (let nodes = of_text.nodes in omega (arith, few, nodes)) (let declared = of_text.few_exceptions in omega (arith, few, declared));
-  outside = plain.outside;
   light = omega (arith, few, light);
 }
 
@@ -163,5 +163,6 @@ pub light_law : (files : ℕ) (units : List LibraryUnit) (main : List ℕ) (t : 
 light_law files units main t h types few =
     let p = program_of t in
     let is = is_legal (whole_library units) main p h.program.legal in
+    let once = nodes_once p (outside_law files units main p h) in
     let declared = (types is.walked (legal_comes (whole_library units) main p h.program.legal)).all in
-    omega (arith, types_light t (instances_none files units main p h) t.types, declared, few)
+    omega (arith, once, types_light t (instances_none files units main p h) t.types, declared, few)

@@ -10,6 +10,7 @@ use Rattle.legal_programs.specs.TextPlaces.{units_places}
 use Rattle.parsed_texts.proofs.Decisions.{decisions_rise}
 use Rattle.parsed_texts.proofs.Statements.{statements_rise}
 use Rattle.program_objects.proofs.Images.{image_behaves, image_ends_in_time}
+use Rattle.program_objects.proofs.PlainUnits.{outside_law}
 use Rattle.program_objects.proofs.Sound.{made_law}
 use Rattle.program_objects.proofs.Statements.{places_are_statements, decisions_stand}
 use Rattle.program_objects.specs.Behaves.{Behaves, EndsInTime}
@@ -22,12 +23,14 @@ use Rattle.program_objects.specs.Listed.{entry_at, obligations_at}
 use Rattle.object_format.specs.Fields.{are_statements, are_decisions}
 use Rattle.object_format.specs.Read.{HasObject, is_plain}
 use Rattle.object_format.specs.declared.object.Object.{Object}
+use Rattle.statement_code.specs.Kernels.{AreOutside}
 
-pub compilable_law : (units : List LibraryUnit) (p : Program) → IsOfText units p → sum_by unit_nodes units ≤ 4096 → IsCompilable p
-compilable_law units p text few =
+pub compilable_law : (units : List LibraryUnit) (p : Program) → AreOutside p.subprograms → IsOfText units p → sum_by unit_nodes units ≤ 4096 → IsCompilable p
+compilable_law units p outside text few =
     let nodes = text.nodes in
     let counted = labels_few p.subprograms in
     record {
+      outside = outside;
       numbered = text.numbered;
       in_order = text.statements_in_order;
       decisions_in_order = text.decisions_in_order;
@@ -64,7 +67,7 @@ made_of files units main p o h text compiled =
 module _ (files : ℕ) (units : List LibraryUnit) (main : List ℕ) (p : Program) (o : Object) (h : AreUnitsOf files units main p) (text : IsOfText units p)
     (few : sum_by unit_nodes units ≤ 4096) (compiled : IsCompiled units p o) where
   able : IsCompilable p
-  able = compilable_law units p text few
+  able = compilable_law units p (outside_law files units main p h) text few
 
   made : IsMadeOf p o
   made = made_of files units main p o h text compiled

@@ -26,3 +26,4 @@ pub mod UnfoldedSizes
 pub mod LaidPrograms
 mod ExceptionNames
 pub mod Expanded
+pub mod OneCopy

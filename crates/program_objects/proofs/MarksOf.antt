@@ -1,67 +1,102 @@
--- Each statement of a made object has its row, and each condition its branch.
-use Rattle.std.proofs.Common.{◌≡◌, ℕ, zero, suc, ◌+◌, ◌≤◌, ◌<◌, ◌==◌, cond, Bool, true, false, List, [], ◌∷◌, filter, length, map, slice_get, Option, Some, None, Contains, refl, sym, ap, ◌∙◌, subst, arith, ◌⊎◌, inl, inr}
+-- Each statement of a program has its row, and each condition its branch, in every instance in which it stands.
+use Rattle.std.proofs.Common.{◌≡◌, ℕ, ◌≤◌, ◌==◌, ◌&&◌, cond, Bool, true, false, nat_eq, List, [], ◌∷◌, filter, map, refl, sym, ap, ◌∙◌, subst, arith, ◌⊎◌, inl, inr}
 use Rattle.std.proofs.lemmas.Bool.Decides.{nat_tests}
-use Rattle.ada_meaning.specs.Collected.{labels_of, decisions_of}
-use Rattle.ada_meaning.specs.Obligations.{numbers, decision_entry}
+use Rattle.ada_meaning.specs.Obligations.{IsNumbered}
 use Rattle.ada_meaning.specs.Program.{Program}
-use Rattle.program_objects.proofs.Due.{Numbers, IsOf}
-use Rattle.program_objects.proofs.RowStarts.{start_at}
-use Rattle.program_objects.proofs.Sound.{starts_law, found_law, entries_long}
-use Rattle.program_objects.specs.Made.{IsCompilable, IsMadeOf}
-use Rattle.program_objects.specs.Source.{IsRowOf, IsRoleOf, IsCondition, HasItsMarks}
-use Rattle.cov_base.specs.declared.obligations.DecEntry.{DecEntry}
-use Rattle.cov_base.specs.Lists.{Everywhere, Somewhere}
+use Rattle.program_objects.proofs.Conditions.{conditions_of_linked}
+use Rattle.program_objects.proofs.Conditions.{named as named_condition}
+use Rattle.program_objects.proofs.RowStarts.{named, starts_of_linked}
+use Rattle.program_objects.specs.Held.{HoldsImage}
+use Rattle.program_objects.specs.Kernels.{IsKernelOf}
+use Rattle.program_objects.specs.Source.{IsRowOf, IsRoleOf, HasItsMarks}
+use Rattle.cov_base.specs.Lists.{Somewhere}
+use Rattle.kernel_code.proofs.PieceLaws.{pieces_are_marked}
+use Rattle.kernel_code.specs.Pieces.{kernel_pieces}
+use Rattle.kernel_ir.specs.declared.kernel.Kernel.{Kernel}
+use Rattle.kernel_ir.specs.Obligations.{Row as MarkedRow, Condition, rows, conditions}
 use Rattle.line_table.specs.declared.roles.Role.{Role}
 use Rattle.line_table.specs.declared.rows.Row.{Row}
 use Rattle.object_format.specs.declared.object.Object.{Object}
-use Rattle.object_format.specs.Fields.{condition_count}
 use Rattle.object_format.specs.RoleCheck.{is_condition, conditions_of}
 use Rattle.object_format.specs.RoleCheck.{condition_of as numbers_of}
 use Rattle.object_format.specs.RowCheck.{start_of}
+use Rattle.statement_code.proofs.Own.{some_weighs, weighs_some, equal_numbers, numbers_equal, once_law}
+use Rattle.statement_code.specs.Own.{MarksOnce, one_if, is_row, row_times, condition_times}
+use Rattle.statement_code.specs.Own.{is_condition as is_evaluated}
+
+pub there_in_map : {X Y : Type 0} (P : Y → Type 0) (f : X → Y) (xs : List X) → Somewhere (λ x. P (f x)) xs → Somewhere P (map f xs)
+there_in_map P f [] there = absurd there
+there_in_map P f (x ∷ xs) (inl is) = inl is
+there_in_map P f (x ∷ xs) (inr later) = inr (there_in_map P f xs later)
+
+pub map_there : {X Y : Type 0} (P : Y → Type 0) (f : X → Y) (xs : List X) → Somewhere P (map f xs) → Somewhere (λ x. P (f x)) xs
+map_there P f [] there = absurd there
+map_there P f (x ∷ xs) (inl is) = inl is
+map_there P f (x ∷ xs) (inr later) = inr (map_there P f xs later)
+
+-- where both of two tests hold, as counts
+both_count : (a b : Bool) → 1 ≤ one_if a → 1 ≤ one_if b → 1 ≤ one_if (a && b)
+both_count true b first second = second
+both_count false b first second = absurd (omega (arith, first))
+
+first_counts : (a b : Bool) → 1 ≤ one_if (a && b) → 1 ≤ one_if a
+first_counts true b both = omega arith
+first_counts false b both = both
+
+second_counts : (a b : Bool) → 1 ≤ one_if (a && b) → 1 ≤ one_if b
+second_counts true b both = both
+second_counts false b both = absurd (omega (arith, both))
+
+-- rows
 
 -- the two numbers of a start
-abbrev IsStart : (statement instance : ℕ) → ℕ × ℕ → Type 0
+abbrev pub IsStart : (statement instance : ℕ) → ℕ × ℕ → Type 0
 IsStart statement instance start = (start.0 ≡ statement) × (start.1 ≡ instance)
 
-row_start : (s i : ℕ) (rows : List Row) → Somewhere (IsRowOf s i) rows → Somewhere (IsStart s i) (map start_of rows)
-row_start s i [] here = absurd here
-row_start s i (r ∷ rows) (inl is) = inl is
-row_start s i (r ∷ rows) (inr later) = inr (row_start s i rows later)
+pub row_is_start : (s i : ℕ) (r : MarkedRow) → 1 ≤ one_if (is_row i s r) → IsStart s i (named r)
+row_is_start s i r counts = (
+  equal_numbers r.statement.0 s (second_counts (nat_eq r.instance.0 i) (nat_eq r.statement.0 s) counts),
+  equal_numbers r.instance.0 i (first_counts (nat_eq r.instance.0 i) (nat_eq r.statement.0 s) counts),
+)
 
-start_row : (s i : ℕ) (rows : List Row) → Somewhere (IsStart s i) (map start_of rows) → Somewhere (IsRowOf s i) rows
-start_row s i [] here = absurd here
-start_row s i (r ∷ rows) (inl is) = inl is
-start_row s i (r ∷ rows) (inr later) = inr (start_row s i rows later)
+pub start_is_row : (s i : ℕ) (r : MarkedRow) → IsStart s i (named r) → 1 ≤ one_if (is_row i s r)
+start_is_row s i r is =
+    both_count (nat_eq r.instance.0 i) (nat_eq r.statement.0 s) (numbers_equal r.instance.0 i is.1) (numbers_equal r.statement.0 s is.0)
 
-start_numbers : (s i from count : ℕ) → Somewhere (IsStart s i) (map start_at (numbers from count)) → (s < from + count) × (i ≡ 0)
-start_numbers s i from zero here = absurd here
-start_numbers s i from (suc count) (inl is) = (omega (arith, is.0), sym is.1)
-start_numbers s i from (suc count) (inr later) = let there = start_numbers s i (suc from) count later in (omega (arith, there.0), there.1)
+row_start : (s i : ℕ) (lines : List Row) → Somewhere (IsRowOf s i) lines → Somewhere (IsStart s i) (map start_of lines)
+row_start s i lines there = there_in_map (IsStart s i) start_of lines there
 
-order : (a b : ℕ) → (a ≡ b) ⊎ ((a < b) ⊎ (b < a))
-order zero zero = inl refl
-order zero (suc b) = inr (inl (omega arith))
-order (suc a) zero = inr (inr (omega arith))
-order (suc a) (suc b) = next (order a b)
-  where
-    next : (a ≡ b) ⊎ ((a < b) ⊎ (b < a)) → (suc a ≡ suc b) ⊎ ((suc a < suc b) ⊎ (suc b < suc a))
-    next (inl same) = inl (ap (λ n. suc n) same)
-    next (inr (inl less)) = inr (inl (omega (arith, less)))
-    next (inr (inr more)) = inr (inr (omega (arith, more)))
+start_row : (s i : ℕ) (lines : List Row) → Somewhere (IsStart s i) (map start_of lines) → Somewhere (IsRowOf s i) lines
+start_row s i lines there = map_there (IsStart s i) start_of lines there
 
-numbers_start : (s i from count : ℕ) → from ≤ s → s < from + count → i ≡ 0 → Somewhere (IsStart s i) (map start_at (numbers from count))
-numbers_start s i from zero low high is = absurd (omega (arith, low, high))
-numbers_start s i from (suc count) low high is = by_order (order from s) (λ less. numbers_start s i (suc from) count (omega (arith, less)) (omega (arith, high)) is)
-  where
-    by_order : (from ≡ s) ⊎ ((from < s) ⊎ (s < from)) → (from < s → Somewhere (IsStart s i) (map start_at (numbers (suc from) count))) → Somewhere (IsStart s i) (map start_at (numbers from (suc count)))
-    by_order (inl same) later = inl (same, sym is)
-    by_order (inr (inl less)) later = inr (later less)
-    by_order (inr (inr more)) later = absurd (omega (arith, more, low))
+-- starts that are those of marked rows
+row_counts : (s i : ℕ) (lines : List Row) (rs : List MarkedRow) → map start_of lines ≡ map named rs → Somewhere (IsRowOf s i) lines → 1 ≤ row_times i s rs
+row_counts s i lines rs are there =
+    weighs_some (λ r. one_if (is_row i s r)) (λ r. IsStart s i (named r)) (start_is_row s i) rs
+    (map_there (IsStart s i) named rs (subst (λ ss. Somewhere (IsStart s i) ss) are (row_start s i lines there)))
+
+counts_row : (s i : ℕ) (lines : List Row) (rs : List MarkedRow) → map start_of lines ≡ map named rs → 1 ≤ row_times i s rs → Somewhere (IsRowOf s i) lines
+counts_row s i lines rs are counts =
+    start_row s i lines
+    (subst (λ ss. Somewhere (IsStart s i) ss) (sym are) (there_in_map (IsStart s i) named rs (some_weighs (λ r. one_if (is_row i s r)) (λ r. IsStart s i (named r)) (row_is_start s i) rs counts)))
 
 -- conditions
 
-abbrev IsCase : (decision condition instance : ℕ) → (ℕ × ℕ) × ℕ → Type 0
+abbrev pub IsCase : (decision condition instance : ℕ) → (ℕ × ℕ) × ℕ → Type 0
 IsCase d c i found = (found.0.0 ≡ d) × (found.1 ≡ c) × (found.0.1 ≡ i)
+
+pub condition_is_case : (d c i : ℕ) (x : Condition) → 1 ≤ one_if (is_evaluated i d c x) → IsCase d c i (named_condition x)
+condition_is_case d c i x counts =
+    let rest = second_counts (nat_eq x.instance.0 i) (nat_eq x.decision.0 d && nat_eq x.at_node c) counts in (
+      equal_numbers x.decision.0 d (first_counts (nat_eq x.decision.0 d) (nat_eq x.at_node c) rest),
+      equal_numbers x.at_node c (second_counts (nat_eq x.decision.0 d) (nat_eq x.at_node c) rest),
+      equal_numbers x.instance.0 i (first_counts (nat_eq x.instance.0 i) (nat_eq x.decision.0 d && nat_eq x.at_node c) counts),
+    )
+
+pub case_is_condition : (d c i : ℕ) (x : Condition) → IsCase d c i (named_condition x) → 1 ≤ one_if (is_evaluated i d c x)
+case_is_condition d c i x is =
+    both_count (nat_eq x.instance.0 i) (nat_eq x.decision.0 d && nat_eq x.at_node c) (numbers_equal x.instance.0 i is.2)
+    (both_count (nat_eq x.decision.0 d) (nat_eq x.at_node c) (numbers_equal x.decision.0 d is.0) (numbers_equal x.at_node c is.1))
 
 kind_is : (n : ℕ) (b : Bool) → (n == 2) ≡ b → n ≡ 2 → b ≡ true
 kind_is n true test is = refl
@@ -92,49 +127,33 @@ case_role d c i (role ∷ roles) there = by_test (is_condition role) refl there 
     by_test true test (inr later) rest = inr (rest later)
     by_test false test later rest = inr (rest later)
 
--- a condition that is there, and its numbers
-there_case : (d c i : ℕ) (found : List Numbers) → Contains found ((d, i), c) → Somewhere (IsCase d c i) found
-there_case d c i [] (k, low, is) = absurd (omega (arith, low))
-there_case d c i (x ∷ xs) (zero, low, is) = inl (ap (λ (n : Numbers). n.0.0) is, ap (λ (n : Numbers). n.1) is, ap (λ (n : Numbers). n.0.1) is)
-there_case d c i (x ∷ xs) (suc k, low, is) = inr (there_case d c i xs (k, omega (arith, low), is))
+-- conditions that are those that are marked
+role_counts : (d c i : ℕ) (roles : List Role) (cs : List Condition) → conditions_of roles ≡ map named_condition cs → Somewhere (IsRoleOf d c i) roles → 1 ≤ condition_times i d c cs
+role_counts d c i roles cs are there =
+    weighs_some (λ x. one_if (is_evaluated i d c x)) (λ x. IsCase d c i (named_condition x)) (case_is_condition d c i) cs
+    (map_there (IsCase d c i) named_condition cs (subst (λ found. Somewhere (IsCase d c i) found) are (role_case d c i roles there)))
 
-case_known : (decisions : List DecEntry) (d c i : ℕ) (found : List Numbers) → Everywhere (IsOf decisions) found → Somewhere (IsCase d c i) found
-    → (c < condition_count (slice_get decisions d)) × (i ≡ 0)
-case_known decisions d c i [] known here = absurd here
-case_known decisions d c i (x ∷ xs) known (inl is) = (
-  subst (λ n. c < condition_count (slice_get decisions n)) is.0 (omega (arith, known.0.0, is.1)),
-  omega (arith, known.0.1, is.2),
-)
-case_known decisions d c i (x ∷ xs) known (inr later) = case_known decisions d c i xs known.1 later
+counts_role : (d c i : ℕ) (roles : List Role) (cs : List Condition) → conditions_of roles ≡ map named_condition cs → 1 ≤ condition_times i d c cs → Somewhere (IsRoleOf d c i) roles
+counts_role d c i roles cs are counts =
+    case_role d c i roles
+    (subst (λ found. Somewhere (IsCase d c i) found) (sym are)
+    (there_in_map (IsCase d c i) named_condition cs (some_weighs (λ x. one_if (is_evaluated i d c x)) (λ x. IsCase d c i (named_condition x)) (condition_is_case d c i) cs counts)))
 
--- a decision that has so many conditions is there
-counted_is : (decisions : List DecEntry) (d c : ℕ) → c < condition_count (slice_get decisions d) → IsCondition decisions d c
-counted_is decisions d c below = by (slice_get decisions d) refl below
-  where
-    by : (found : Option DecEntry) → slice_get decisions d ≡ found → c < condition_count found → IsCondition decisions d c
-    by None is below = absurd (omega (arith, below))
-    by (Some x) is below = (x, is, below)
-
-is_counted : (decisions : List DecEntry) (d c : ℕ) → IsCondition decisions d c → c < condition_count (slice_get decisions d)
-is_counted decisions d c (x, there, below) = subst (λ n. c < n) (sym (ap condition_count there)) below
-
-pub marks_law : (p : Program) (o : Object) → IsCompilable p → IsMadeOf p o → HasItsMarks o
-marks_law p o able made =
-    let n = length (labels_of p.subprograms) in
-    let hs = decisions_of p.subprograms in
-    let starts = starts_law p o able made in
-    let found = found_law p o able made in
-    let entries : o.obligations.decisions ≡ map decision_entry hs = ap (λ ob. ob.decisions) made.obligations in
-    let long : length o.obligations.statements ≡ n = ap (λ ob. length ob.statements) made.obligations ∙ entries_long p in
+pub marks_law : (p : Program) (nodes : ℕ) (k : Kernel) (o : Object) → IsNumbered p → IsKernelOf p nodes k → HoldsImage k o → HasItsMarks p o
+marks_law p nodes k o numbered is_kernel holds =
+    let marked = pieces_are_marked k in
+    let once : MarksOnce p (rows k) (conditions k) = once_law p numbered (rows k) (conditions k) is_kernel.rows is_kernel.conditions in
+    let starts : map start_of o.rows ≡ map named (rows k) =
+    ap (map start_of) holds.rows ∙ (starts_of_linked (kernel_pieces k) k.library marked.marks ∙ ap (map named) marked.rows_named) in
+    let found : conditions_of o.roles ≡ map named_condition (conditions k) =
+    ap conditions_of holds.roles ∙ (conditions_of_linked (kernel_pieces k) k.library marked.marks ∙ ap (map named_condition) marked.conditions_named) in
     record {
       rows = λ s i. (
-        λ there. let is = start_numbers s i 0 n (subst (λ ss. Somewhere (IsStart s i) ss) starts (row_start s i o.rows there)) in (omega (arith, is.0, long), is.1),
-        λ is. start_row s i o.rows (subst (λ ss. Somewhere (IsStart s i) ss) (sym starts) (numbers_start s i 0 n (omega arith) (omega (arith, is.0, long)) is.1)),
+        λ there. once.row_own i s (row_counts s i o.rows (rows k) starts there),
+        λ stands. let one = once.row_once i s stands in counts_row s i o.rows (rows k) starts (omega (arith, one)),
       );
       roles = λ d c i. (
-        λ there. let is = case_known (map decision_entry hs) d c i (conditions_of o.roles) found.known (role_case d c i o.roles there) in
-            (subst (λ ds. IsCondition ds d c) (sym entries) (counted_is (map decision_entry hs) d c is.0), is.1),
-        λ is. let below = is_counted (map decision_entry hs) d c (subst (λ ds. IsCondition ds d c) entries is.0) in
-            case_role d c i o.roles (subst (λ x. Somewhere (IsCase d c x) (conditions_of o.roles)) (sym is.1) (there_case d c 0 (conditions_of o.roles) (found.each d c below))),
+        λ there. once.condition_own i d c (role_counts d c i o.roles (conditions k) found there),
+        λ stands. let one = once.condition_once i d c stands in counts_role d c i o.roles (conditions k) found (omega (arith, one)),
       );
     }

@@ -1,5 +1,5 @@
 -- An object that is made of a program passes the checks of objects.
-use Rattle.std.proofs.Common.{◌≡◌, ◌≢◌, ℕ, ◌+◌, ◌*◌, ◌^◌, ◌≤◌, ◌<◌, ◌==◌, ◌&&◌, cond, Bool, true, false, nat_lt, nat_le, List, [], ◌∷◌, ◌++◌, filter, length, map, AllPairs, refl, sym, ap, ◌∙◌, subst, arith, lit≤, length-append}
+use Rattle.std.proofs.Common.{◌≡◌, ◌≢◌, ℕ, ◌+◌, ◌*◌, ◌^◌, ◌≤◌, ◌<◌, ◌==◌, ◌&&◌, cond, Bool, true, false, nat_lt, nat_le, List, [], ◌∷◌, ◌++◌, filter, length, map, sum_by, AllPairs, refl, sym, ap, ◌∙◌, subst, arith, lit≤, length-append}
 use Rattle.std.specs.List.{list_all, AllByRecursion}
 use Rattle.std.specs.Str.{is_utf8}
 use Rattle.std.proofs.lemmas.Bool.Decides.{nat_tests}
@@ -32,6 +32,7 @@ use Rattle.line_table.specs.declared.rows.Row.{Row as TableRow}
 use Rattle.linker.proofs.RowMarks.{rows_are_in_order}
 use Rattle.linker.specs.Linked.{linked}
 use Rattle.statement_code.specs.Fragments.{row_in}
+use Rattle.statement_code.proofs.Once.{conditions_once, rows_once}
 use Rattle.object_format.specs.Checked.{IsSound}
 use Rattle.object_format.specs.Counts.{IsCountable, AreCountable, InstanceFits, RegionFits, IsCounted}
 use Rattle.object_format.specs.Decisions.{AreExpression}
@@ -57,7 +58,7 @@ right_holds false b both = absurd (let x : ⊥ = cc in x)
 
 -- what rows start
 
-starts_of_labels : (ls : List tree.Label) → map named (map (row_in 0) ls) ≡ map start_at (map (λ l. l.number) ls)
+pub starts_of_labels : (ls : List tree.Label) → map named (map (row_in 0) ls) ≡ map start_at (map (λ l. l.number) ls)
 starts_of_labels [] = refl
 starts_of_labels (l ∷ ls) = ap (λ starts. start_at l.number ∷ starts) (starts_of_labels ls)
 
@@ -99,7 +100,7 @@ starts_law p o able made =
     let marked = pieces_are_marked made.kernel in
     ap (map start_of) made.holds.rows
     ∙ (starts_of_linked (kernel_pieces made.kernel) made.kernel.library marked.marks
-    ∙ (ap (map named) (marked.rows_named ∙ made.is_kernel.rows)
+    ∙ (ap (map named) (marked.rows_named ∙ (made.is_kernel.rows ∙ rows_once p able.outside))
     ∙ (starts_of_labels (labels_of p.subprograms)
     ∙ ap (map start_at) (subst (λ ls. map (λ l. l.number) ls ≡ numbers 0 (length ls)) able.in_order able.numbered.statements))))
 
@@ -111,7 +112,8 @@ found_law p o able made =
     let marked = pieces_are_marked k in
     let are : conditions_of o.roles ≡ map named_condition (conditions k) =
     ap conditions_of made.holds.roles ∙ (conditions_of_linked (kernel_pieces k) k.library marked.marks ∙ ap (map named_condition) marked.conditions_named) in
-    subst (λ cs. HaveConditions hs cs) (sym are) (conditions_found hs (conditions k) (numbers_law p able) made.is_kernel.conditions)
+    subst (λ cs. HaveConditions hs cs) (sym are)
+    (conditions_found hs (conditions k) (numbers_law p able) (λ weight. made.is_kernel.conditions weight ∙ ap (sum_by weight) (conditions_once p able.outside)))
 
 pub entries_long : (p : Program) → length (map entry_at (places_in p)) ≡ length (labels_of p.subprograms)
 entries_long p = length-map (places_in p) entry_at ∙ length-map (labels_of p.subprograms) (λ l. l.place)

@@ -1,6 +1,7 @@
 -- The obligations of programs without generics.
-use Rattle.std.specs.Prelude.{ℕ, List, [], ◌∷◌, ◌++◌, map}
+use Rattle.std.specs.Prelude.{◌≡◌, ℕ, ◌<◌, List, [], ◌∷◌, ◌++◌, length, map, slice_get, Some}
 use Rattle.cov_base.specs.declared.position.Pos.{Pos}
+use Rattle.cov_base.specs.declared.obligations.DecEntry.{DecEntry}
 use Rattle.cov_base.specs.declared.obligations.StmtEntry.{StmtEntry}
 use Rattle.cov_base.specs.declared.obligations.Region.{Region}
 use Rattle.cov_base.specs.declared.obligations.Obligations.{Obligations}
@@ -21,3 +22,7 @@ obligations_at places decisions declared regions = record {
   instances = no_instance ∷ [];
   exceptions = predefined_names ++ declared;
 }
+
+-- the decision with this number has a condition with that number
+abbrev pub IsCondition : List DecEntry → (decision condition : ℕ) → Type 0
+IsCondition decisions decision condition = (d : DecEntry) × (slice_get decisions decision ≡ Some d) × (condition < length d.conditions)

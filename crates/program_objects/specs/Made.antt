@@ -12,6 +12,7 @@ use Rattle.cov_base.specs.Lists.{Everywhere}
 use Rattle.program_objects.specs.Listed.{obligations_at}
 use Rattle.program_objects.specs.Kernels.{IsKernelOf}
 use Rattle.kernel_ir.specs.declared.kernel.Kernel.{Kernel}
+use Rattle.statement_code.specs.Kernels.{AreOutside}
 use Rattle.statement_code.specs.Sizes.{subprogram_nodes}
 use Rattle.object_format.specs.Counts.{FileFits, IsCountable}
 use Rattle.object_format.specs.Fields.{are_files, are_statements, are_decisions}
@@ -30,9 +31,11 @@ pub record IsExceptionName (name : List ℕ) : Type 0 where
   pub ascii : IsAscii name
   pub short : IsCountable name
 
--- a program that can be compiled today: it is within the limit on nodes; its statements and its decisions are numbered in the order in which
--- they stand; each decision has at most 32 conditions, and no `not` stands directly in another; its exceptions have names, and are few
+-- a program that can be compiled today: so far nothing stands in a generic; it is within the limit on nodes; its statements and its decisions are
+-- numbered in the order in which they stand; each decision has at most 32 conditions, and no `not` stands directly in another; its exceptions
+-- have names, and are few
 pub record IsCompilable (p : Program) : Type 0 where
+  pub outside : AreOutside p.subprograms
   pub numbered : IsNumbered p
   pub in_order : ordered_labels p ≡ labels_of p.subprograms
   pub decisions_in_order : ordered_decisions p ≡ decisions_of p.subprograms

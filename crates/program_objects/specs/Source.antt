@@ -1,11 +1,10 @@
 -- When an object is that of sources.
-use Rattle.std.specs.Prelude.{◌≡◌, ◌↔◌, ℕ, ◌+◌, ◌*◌, ◌<◌, ◌≤◌, true, List, [], length, map, sum_by, slice_get, Some}
+use Rattle.std.specs.Prelude.{◌≡◌, ◌↔◌, ℕ, ◌+◌, ◌*◌, ◌≤◌, true, List, [], length, map, sum_by}
 use Rattle.ada_meaning.specs.Obligations.{obligations_of}
 use Rattle.ada_meaning.specs.Program.{Program}
 use Rattle.ada_syntax.specs.Nodes.{unit_nodes}
 use Rattle.program_objects.specs.Behaves.{Behaves, EndsInTime}
 use Rattle.program_objects.specs.Legal.{IsLegal}
-use Rattle.cov_base.specs.declared.obligations.DecEntry.{DecEntry}
 use Rattle.cov_base.specs.declared.obligations.SourceFile.{SourceFile}
 use Rattle.cov_base.specs.Lists.{Somewhere}
 use Rattle.line_table.specs.declared.roles.Role.{Role}
@@ -14,6 +13,7 @@ use Rattle.object_format.specs.declared.object.FileEntry.{FileEntry}
 use Rattle.object_format.specs.declared.object.Object.{Object}
 use Rattle.object_format.specs.Read.{IsObject, is_plain}
 use Rattle.sha2.specs.Sha256.{sha256}
+use Rattle.statement_code.specs.Own.{IsStatementIn, IsConditionIn}
 
 -- how an object names a source
 abbrev pub entry_of_file : SourceFile → FileEntry
@@ -28,15 +28,11 @@ abbrev pub IsRoleOf : (decision condition instance : ℕ) → Role → Type 0
 IsRoleOf decision condition instance r =
     (r.kind.0 ≡ 2) × (r.decision.0 ≡ decision) × (r.condition.0 ≡ condition) × (r.instance.0 ≡ instance)
 
--- the decision with this number has a condition with that number
-abbrev pub IsCondition : List DecEntry → (decision condition : ℕ) → Type 0
-IsCondition decisions decision condition = (d : DecEntry) × (slice_get decisions decision ≡ Some d) × (condition < length d.conditions)
-
--- Each statement has a row and each condition a branch in every copy, and there is no other row and no other condition branch. Nothing
--- stands in a generic so far, so that the one copy of each is in instance 0.
-pub record HasItsMarks (o : Object) : Type 0 where
-  pub rows : (statement instance : ℕ) → Somewhere (IsRowOf statement instance) o.rows ↔ ((statement < length o.obligations.statements) × (instance ≡ 0))
-  pub roles : (decision condition instance : ℕ) → Somewhere (IsRoleOf decision condition instance) o.roles ↔ (IsCondition o.obligations.decisions decision condition × (instance ≡ 0))
+-- Each statement of a program has a row and each condition a branch in every instance in which it stands, and there is no other row and no
+-- other condition branch.
+pub record HasItsMarks (p : Program) (o : Object) : Type 0 where
+  pub rows : (statement instance : ℕ) → Somewhere (IsRowOf statement instance) o.rows ↔ IsStatementIn p instance statement
+  pub roles : (decision condition instance : ℕ) → Somewhere (IsRoleOf decision condition instance) o.roles ↔ IsConditionIn p instance decision condition
 
 -- The object is that of a legal program: it passes the checks, names the sources with their digests, has the program's obligations and
 -- marks each of them, and on every input does what the program means.
@@ -46,7 +42,7 @@ pub record IsObjectOf (files : List SourceFile) (main : List ℕ) (p : Program) 
   pub plain : is_plain o ≡ true
   pub sources : o.files ≡ map entry_of_file files
   pub obligations : o.obligations ≡ obligations_of p []
-  pub marks : HasItsMarks o
+  pub marks : HasItsMarks p o
   pub behaves : Behaves p o
 
 -- The object is cheap: where the program's execution ends, its runs end in time, and its text takes at most 240 bytes for each node and

@@ -33,7 +33,7 @@ pub use program_laws::{
     legal_programs_can_be_laid, legal_units_are_few,
 };
 pub use soundness::{
-    made_objects_pass_their_checks, rising_places_are_statements,
+    made_objects_pass_their_checks, obligations_stand_in_one_copy, rising_places_are_statements,
     roles_are_of_checks_structure_and_conditions, texts_are_bounded,
 };
 pub use sources::{built_objects_are_of_their_sources, legal_sources_are_not_refused};

@@ -1,6 +1,8 @@
 //! What objects of programs are.
 
-ghost use Rattle.std.specs.Prelude.{◌≡◌, ◌+◌, ◌*◌, ◌≤◌, ℕ, List, true, length, map};
+ghost use Rattle.std.specs.Prelude.{◌≡◌, ◌↔◌, ◌+◌, ◌*◌, ◌<◌, ◌≤◌, ℕ, List, true, length, map};
+ghost use Rattle.ada_meaning.specs.Collected.{labels_of, decisions_of};
+ghost use Rattle.ada_meaning.specs.Obligations.{decision_entry};
 ghost use Rattle.ada_meaning.specs.Program.{Program};
 ghost use Rattle.program_objects.specs.Held.{HoldsImage};
 ghost use Rattle.program_objects.specs.Kernels.{IsKernelOf};
@@ -8,7 +10,8 @@ ghost use Rattle.program_objects.specs.Made.{IsCompilable, IsMadeOf};
 ghost use Rattle.kernel_ir.specs.declared.kernel.Kernel.{Kernel};
 ghost use Rattle.parsed_texts.specs.Places.{AreInFiles};
 ghost use Rattle.cov_base.specs.declared.position.Pos.{Pos};
-ghost use Rattle.program_objects.specs.Listed.{entry_at};
+ghost use Rattle.program_objects.specs.Listed.{entry_at, IsCondition};
+ghost use Rattle.statement_code.specs.Own.{IsStatementIn, IsConditionIn};
 ghost use Rattle.cov_base.specs.TextOrder.{rise};
 ghost use Rattle.object_format.specs.Fields.{are_statements};
 ghost use Rattle.object_format.specs.Read.{HasObject, is_plain};
@@ -36,4 +39,14 @@ pub fn rising_places_are_statements()
 pub fn texts_are_bounded()
     ensures { (p : Program) (nodes : ℕ) (k : Kernel) (o : Object) → IsKernelOf p nodes k → HoldsImage k o
         → 4 * length o.text ≤ 240 * nodes + 4096 }
+{}
+
+/// Where nothing stands in a generic, each statement obligation and each condition stands in instance 0, and
+/// in no other.
+pub fn obligations_stand_in_one_copy()
+    ensures statements { (p : Program) → IsCompilable p → (number instance : ℕ)
+        → IsStatementIn p instance number ↔ ((number < length (labels_of p.subprograms)) × (instance ≡ 0)) }
+    ensures conditions { (p : Program) → IsCompilable p → (decision condition instance : ℕ)
+        → IsConditionIn p instance decision condition
+        ↔ (IsCondition (map decision_entry (decisions_of p.subprograms)) decision condition × (instance ≡ 0)) }
 {}

@@ -152,7 +152,7 @@ picked P [] there = absurd there
 picked P (x ∷ xs) (inl is) = record { item = x; is = is; there = inl refl }
 picked P (x ∷ xs) (inr there) = let more = picked P xs there in record { item = more.item; is = more.is; there = inr more.there }
 
-some_weighs : {X : Type 0} (weight : X → ℕ) (P : X → Type 0) → ((x : X) → 1 ≤ weight x → P x) → (xs : List X) → 1 ≤ sum_by weight xs → Somewhere P xs
+pub some_weighs : {X : Type 0} (weight : X → ℕ) (P : X → Type 0) → ((x : X) → 1 ≤ weight x → P x) → (xs : List X) → 1 ≤ sum_by weight xs → Somewhere P xs
 some_weighs weight P so [] le = absurd (omega (arith, le))
 some_weighs weight P so (x ∷ xs) le = by_weight (weight x) refl (λ l. some_weighs weight P so xs l)
   where
@@ -160,19 +160,19 @@ some_weighs weight P so (x ∷ xs) le = by_weight (weight x) refl (λ l. some_we
     by_weight zero is later = inr (later (omega (arith, le, is, sum_by-cons weight x xs)))
     by_weight (suc n) is later = inl (so x (omega (arith, is)))
 
-weighs_some : {X : Type 0} (weight : X → ℕ) (P : X → Type 0) → ((x : X) → P x → 1 ≤ weight x) → (xs : List X) → Somewhere P xs → 1 ≤ sum_by weight xs
+pub weighs_some : {X : Type 0} (weight : X → ℕ) (P : X → Type 0) → ((x : X) → P x → 1 ≤ weight x) → (xs : List X) → Somewhere P xs → 1 ≤ sum_by weight xs
 weighs_some weight P so [] there = absurd there
 weighs_some weight P so (x ∷ xs) (inl is) = omega (arith, so x is, sum_by-cons weight x xs)
 weighs_some weight P so (x ∷ xs) (inr there) = omega (arith, weighs_some weight P so xs there, sum_by-cons weight x xs)
 
-equal_numbers : (m n : ℕ) → 1 ≤ one_if (nat_eq m n) → m ≡ n
+pub equal_numbers : (m n : ℕ) → 1 ≤ one_if (nat_eq m n) → m ≡ n
 equal_numbers m n le = by_test (eqb_tells m n)
   where
     by_test : ((nat_eq m n ≡ true) × (m ≡ n)) ⊎ ((nat_eq m n ≡ false) × (m ≢ n)) → m ≡ n
     by_test (inl is) = is.1
     by_test (inr not) = absurd (omega (arith, le, ap one_if not.0))
 
-numbers_equal : (m n : ℕ) → m ≡ n → 1 ≤ one_if (nat_eq m n)
+pub numbers_equal : (m n : ℕ) → m ≡ n → 1 ≤ one_if (nat_eq m n)
 numbers_equal m n is = omega (arith, ap one_if (tested is))
   where
     tested : m ≡ n → nat_eq m n ≡ true
