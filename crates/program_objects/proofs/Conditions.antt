@@ -8,16 +8,20 @@ use Rattle.assembler.specs.declared.piece.Mark.TheVariants.{Row as RowMark, Role
 use Rattle.assembler.specs.declared.piece.Piece.{Piece}
 use Rattle.assembler.specs.Marks.{role_places, branch_places, is_branch_item}
 use Rattle.assembler.specs.Placed.{words_of, labels_of, labels_from, labels_at, labels}
+use Rattle.program_objects.specs.Held.{HoldsImage}
 use Rattle.cov_base.specs.Lists.{Everywhere}
+use Rattle.kernel_code.proofs.PieceLaws.{pieces_are_marked}
 use Rattle.kernel_code.specs.Marked.{conditions_marked}
-use Rattle.kernel_code.specs.Pieces.{conditions_of_pieces}
-use Rattle.kernel_ir.specs.Obligations.{Condition}
+use Rattle.kernel_code.specs.Pieces.{kernel_pieces, conditions_of_pieces}
+use Rattle.kernel_ir.specs.declared.kernel.Kernel.{Kernel}
+use Rattle.kernel_ir.specs.Obligations.{Condition, conditions}
 use Rattle.line_table.specs.declared.roles.Role.{Role}
 use Rattle.linker.proofs.Roles.{drop_splits, own_labels_are}
 use Rattle.linker.proofs.Words.{address_there}
 use Rattle.linker.specs.Laws.{AllMarked}
 use Rattle.linker.specs.Linked.{role_of, roles_from, linked}
 use Rattle.object_format.specs.RoleCheck.{is_condition, condition_of, conditions_of}
+use Rattle.object_format.specs.declared.object.Object.{Object}
 
 -- the numbers of a condition
 abbrev pub named : Condition → (ℕ × ℕ) × ℕ
@@ -93,3 +97,9 @@ conditions_from all own address (p ∷ ps) marked is_left =
 -- the roles of linked pieces have the conditions that the marks of the pieces name
 pub conditions_of_linked : (pieces : List Piece) (init : List ℕ) → AllMarked pieces → conditions_of (linked pieces init).roles ≡ map named (conditions_of_pieces pieces)
 conditions_of_linked pieces init marked = conditions_from (labels pieces) 0 0x10000 pieces marked refl
+
+-- those of an object that holds the image of a kernel are the kernel's
+pub conditions_held : (k : Kernel) (o : Object) → HoldsImage k o → conditions_of o.roles ≡ map named (conditions k)
+conditions_held k o holds =
+    let marked = pieces_are_marked k in
+    ap conditions_of holds.roles ∙ (conditions_of_linked (kernel_pieces k) k.library marked.marks ∙ ap (map named) marked.conditions_named)

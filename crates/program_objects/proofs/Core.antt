@@ -1,5 +1,5 @@
 -- The object that is built of a legal program and its sources is the sources' object, and cheap.
-use Rattle.std.proofs.Common.{◌≡◌, ℕ, ◌≤◌, ◌<◌, ◌&&◌, Bool, true, nat_lt, nat_le, List, [], ◌∷◌, length, map, sum_by, All, Result, Ok, Err, IfOk, refl, sym, ap, ◌∙◌, subst, arith}
+use Rattle.std.proofs.Common.{◌≡◌, ℕ, ◌≤◌, ◌<◌, ◌&&◌, Bool, true, nat_lt, nat_le, List, [], ◌∷◌, length, map, sum_by, All, refl, sym, ap, ◌∙◌, subst, arith}
 use Rattle.std.specs.List.{list_all, AllByRecursion}
 use Rattle.std.specs.Str.{is_utf8, str_to_ascii_lowercase}
 use Rattle.std.proofs.lemmas.Bool.Decides.{nat_tests}
@@ -8,7 +8,6 @@ use Rattle.std.proofs.lemmas.List.Elements.{All-from_recursion, recursion_from_A
 use Rattle.ada_meaning.specs.Program.{Program}
 use Rattle.ada_syntax.specs.Nodes.{unit_nodes}
 use Rattle.ada_syntax.specs.declared.unit.Unit.{Unit as LibraryUnit}
-use Rattle.ada_tree.specs.Programs.{program_of}
 use Rattle.ada_parser.specs.Opening.{open_extent}
 use Rattle.parsed_texts.specs.legal_counts.specs.ConditionPlaces.{units_conditions}
 use Rattle.legal_programs.specs.DecisionPlaces.{units_decisions}
@@ -16,14 +15,11 @@ use Rattle.legal_programs.specs.TextPlaces.{units_places}
 use Rattle.program_objects.proofs.Legal.{passes_law, behaves_law, in_time_law}
 use Rattle.program_objects.proofs.MarksOf.{marks_law}
 use Rattle.program_objects.proofs.Placing.{text_bound}
-use Rattle.program_objects.specs.Built.{HasPlainName, CanBeNamed, AreLegal, AreTyped, IsBuiltOf}
+use Rattle.program_objects.specs.Built.{HasPlainName, CanBeNamed, AreLegal, IsBuiltOf}
 use Rattle.program_objects.specs.Compiled.{IsCompiled}
 use Rattle.program_objects.specs.Legal.{IsLegal, AreProgram}
 use Rattle.program_objects.specs.Source.{entry_of_file, IsObjectOf, IsCheap}
 use Rattle.program_objects.specs.Texts.{IsOfText}
-use Rattle.program_weights.specs.Wholes.{DeclaresTypes, whole_library}
-use Rattle.program_objects.specs.declared.fault.SourceFault.{SourceFault}
-use Rattle.cov_base.specs.declared.failure.Failure.{Failure}
 use Rattle.cov_base.specs.declared.obligations.SourceFile.{SourceFile}
 use Rattle.cov_base.specs.Lists.{Everywhere}
 use Rattle.cov_base.specs.declared.position.Pos.{Pos}

@@ -1,5 +1,5 @@
 -- The object that holds the linked pieces of a program's kernel behaves as the program.
-use Rattle.std.proofs.Common.{◌≡◌, ℕ, ℤ, List, find, option_map, refl, sym, ap, ◌∙◌, ◌==◌}
+use Rattle.std.proofs.Common.{◌≡◌, ℕ, ℤ, List, find, option_map, refl, ap, ◌∙◌, ◌==◌}
 use Rattle.std.specs.Option.{option_and_then}
 use Rattle.ada_meaning.specs.Program.{Program}
 use Rattle.assembler.specs.Laws.{ArePlaced}
@@ -11,6 +11,7 @@ use Rattle.ada_meaning.specs.Collected.{decisions_of}
 use Rattle.program_objects.proofs.DecisionEntries.{object_graphs}
 use Rattle.program_objects.proofs.Kept.{rows_kept, conditions_kept}
 use Rattle.program_objects.proofs.Placing.{numbers_law}
+use Rattle.program_objects.proofs.Sound.{decisions_are}
 use Rattle.program_objects.specs.Made.{IsCompilable, IsMadeOf}
 use Rattle.decision_map.specs.Roles as map
 use Rattle.kernel_code.proofs.Implements.{code_implements}
@@ -62,7 +63,7 @@ implements p o able made sound =
     let pieces = kernel_pieces k in
     let graph = (facts_of o).graph in
     let hs = decisions_of p.subprograms in
-    let formed = made.is_kernel.formed graph (object_graphs o hs (ap (λ ob. ob.decisions) made.obligations) able.few_conditions able.once (numbers_law p able)) in
+    let formed = made.is_kernel.formed graph (object_graphs o hs (decisions_are p o able made) able.few_conditions able.once (numbers_law p able)) in
     let within = made.is_kernel.within in
     let holds = made.holds in
     let placeable = pieces_can_be_placed graph k formed within in

@@ -1,5 +1,5 @@
 -- A whole kernel is one of its program, and its image one of the program.
-use Rattle.std.proofs.Common.{◌≡◌, ℕ, ◌+◌, ◌≤◌, List, [], length, map, sum_by, Result, Ok, Err, IfOk, OnOk, sym, ap, ◌∙◌, subst, arith, length-append}
+use Rattle.std.proofs.Common.{◌≡◌, ℕ, ◌+◌, ◌≤◌, List, [], length, map, Result, Ok, Err, IfOk, OnOk, sym, ap, ◌∙◌, subst, arith, length-append}
 use Rattle.std.proofs.lemmas.List.{length-map}
 use Rattle.std.specs.declared.alloc.AllocError.{AllocError}
 use Rattle.ada_meaning.specs.Obligations.{obligations_of, predefined_names, ordered_exceptions, ListedException}

@@ -1,8 +1,10 @@
 -- Legal units can be compiled, and their object passes the checks and behaves.
-use Rattle.std.proofs.Common.{◌≡◌, ◌≤◌, ℕ, ◌<◌, length, map, true, List, [], sum_by, sym, ap, subst, ◌∙◌, arith}
+use Rattle.std.proofs.Common.{◌≡◌, ◌≤◌, ℕ, ◌<◌, length, map, true, List, [], ◌∷◌, sum_by, sym, ap, subst, ◌∙◌, arith, lit≤}
 use Rattle.std.proofs.lemmas.List.{length-map}
+use Rattle.std.proofs.lemmas.List.Elements.{All-from_recursion}
 use Rattle.ada_meaning.specs.Collected.{labels_of, decisions_of}
-use Rattle.ada_meaning.specs.Program.{Program}
+use Rattle.ada_meaning.specs.Obligations.{ordered_labels, statement_entry, decision_entry, instance_entry, no_instance}
+use Rattle.ada_meaning.specs.Program.{Instance, Program}
 use Rattle.ada_parser.specs.Opening.{open_extent}
 use Rattle.ada_syntax.specs.Nodes.{unit_nodes}
 use Rattle.ada_syntax.specs.declared.unit.Unit.{Unit as LibraryUnit}
@@ -10,43 +12,52 @@ use Rattle.legal_programs.specs.TextPlaces.{units_places}
 use Rattle.parsed_texts.proofs.Decisions.{decisions_rise}
 use Rattle.parsed_texts.proofs.Statements.{statements_rise}
 use Rattle.program_objects.proofs.Images.{image_behaves, image_ends_in_time}
-use Rattle.program_objects.proofs.PlainUnits.{outside_law}
 use Rattle.program_objects.proofs.Sound.{made_law}
-use Rattle.program_objects.proofs.Statements.{places_are_statements, decisions_stand}
+use Rattle.program_objects.proofs.Statements.{entries_at, places_are_statements, decisions_stand}
 use Rattle.program_objects.specs.Behaves.{Behaves, EndsInTime}
 use Rattle.program_objects.specs.Compiled.{IsCompiled}
-use Rattle.program_objects.specs.Made.{exceptions_in, IsCompilable, IsMadeOf}
+use Rattle.program_objects.specs.Made.{IsCompilable, IsMadeOf}
 use Rattle.program_objects.specs.Texts.{AreUnitsOf, IsOfText}
+use Rattle.program_objects.proofs.DecisionCounts.{decisions_few}
 use Rattle.program_objects.proofs.LabelCounts.{labels_few}
 use Rattle.cov_base.specs.Lists.{Everywhere}
-use Rattle.program_objects.specs.Listed.{entry_at, obligations_at}
-use Rattle.object_format.specs.Fields.{are_statements, are_decisions}
+use Rattle.program_objects.specs.Listed.{entry_at}
+use Rattle.object_format.specs.Counts.{InstanceFits, AreCountable}
+use Rattle.object_format.specs.Fields.{are_instances, are_statements, are_decisions}
 use Rattle.object_format.specs.Read.{HasObject, is_plain}
 use Rattle.object_format.specs.declared.object.Object.{Object}
-use Rattle.statement_code.specs.Kernels.{AreOutside}
 
-pub compilable_law : (units : List LibraryUnit) (p : Program) → AreOutside p.subprograms → IsOfText units p → sum_by unit_nodes units ≤ 4096 → IsCompilable p
-compilable_law units p outside text few =
+pub compilable_law : (units : List LibraryUnit) (p : Program) → IsOfText units p → sum_by unit_nodes units ≤ 4096 → IsCompilable p
+compilable_law units p text few =
     let nodes = text.nodes in
-    let counted = labels_few p.subprograms in
+    let labelled = labels_few p.subprograms in
+    let decided = decisions_few p.subprograms in
     record {
-      outside = outside;
       numbered = text.numbered;
       in_order = text.statements_in_order;
       decisions_in_order = text.decisions_in_order;
       few_conditions = text.few_conditions;
       once = text.once;
       few = omega (arith, few, nodes);
-      few_statements = omega (arith, counted, few, nodes);
+      few_statements = omega (arith, labelled, few, nodes);
+      few_decisions = omega (arith, decided, few, nodes);
       exceptions = text.exceptions;
       few_exceptions = let declared = text.few_exceptions in omega (arith, few, declared);
     }
+
+-- the entries of its statements are those of the places of the text
+entries_of : (units : List LibraryUnit) (p : Program) → IsOfText units p → map statement_entry (ordered_labels p) ≡ map entry_at (units_places units)
+entries_of units p text =
+    ap (map statement_entry) text.statements_in_order ∙ (entries_at (labels_of p.subprograms) ∙ ap (map entry_at) text.statements)
+
+-- no instance, beside all that stands in no generic
+alone_counted : AreCountable InstanceFits (no_instance ∷ [])
+alone_counted = (lit≤ tt, All-from_recursion InstanceFits (no_instance ∷ []) (lit≤ tt, tt))
 
 pub made_of : (files : ℕ) (units : List LibraryUnit) (main : List ℕ) (p : Program) (o : Object) → AreUnitsOf files units main p → IsOfText units p → IsCompiled units p o
     → IsMadeOf p o
 made_of files units main p o h text compiled =
     let hs = decisions_of p.subprograms in
-    let listed : o.obligations ≡ obligations_at (units_places units) hs (exceptions_in p) [] = compiled.obligations ∙ text.obligations in
     let count : length (labels_of p.subprograms) ≡ length (map entry_at (units_places units)) =
     sym (length-map (labels_of p.subprograms) (λ l. l.place)) ∙ (ap length text.statements ∙ sym (length-map (units_places units) entry_at)) in
     record {
@@ -54,26 +65,32 @@ made_of files units main p o h text compiled =
       nodes = compiled.nodes;
       is_kernel = compiled.is_kernel;
       holds = compiled.holds;
-      obligations = listed ∙ ap (λ ps. obligations_at ps hs (exceptions_in p) []) (sym text.statements);
+      obligations = compiled.obligations;
       files = compiled.files;
       names = compiled.names;
-      statements = ap (λ ob. are_statements (length o.files) ob.statements) listed
-          ∙ places_are_statements (length o.files) (units_places units) (statements_rise open_extent files units h.read) compiled.places;
-      decisions = ap (λ ob. are_decisions (length o.files) (length ob.statements) ob.decisions) listed
+      instances = ap (λ ob. are_instances (length o.files) ob.instances) compiled.obligations
+          ∙ ap (λ (is : List Instance). are_instances (length o.files) (no_instance ∷ map instance_entry is)) text.instances;
+      instance_names = subst (λ ob. AreCountable InstanceFits ob.instances) (sym compiled.obligations)
+          (subst (λ (is : List Instance). AreCountable InstanceFits (no_instance ∷ map instance_entry is)) (sym text.instances) alone_counted);
+      statements = ap (λ ob. are_statements (length o.files) ob.statements) compiled.obligations
+          ∙ (ap (are_statements (length o.files)) (entries_of units p text)
+          ∙ places_are_statements (length o.files) (units_places units) (statements_rise open_extent files units h.read) compiled.places);
+      decisions = ap (λ ob. are_decisions (length o.files) (length ob.statements) ob.decisions) compiled.obligations
+          ∙ ((λ i. are_decisions (length o.files) (length (entries_of units p text i)) (map decision_entry (text.decisions_in_order i)))
           ∙ decisions_stand (length o.files) (length (map entry_at (units_places units))) hs _ _ text.decisions text.conditions text.few_conditions
-          (subst (λ n. Everywhere (λ h. h.statement < n) hs) count text.held) (decisions_rise open_extent files units h.read) compiled.decisions compiled.conditions;
+          (subst (λ n. Everywhere (λ h. h.statement < n) hs) count text.held) (decisions_rise open_extent files units h.read) compiled.decisions compiled.conditions);
     }
 
 module _ (files : ℕ) (units : List LibraryUnit) (main : List ℕ) (p : Program) (o : Object) (h : AreUnitsOf files units main p) (text : IsOfText units p)
     (few : sum_by unit_nodes units ≤ 4096) (compiled : IsCompiled units p o) where
   able : IsCompilable p
-  able = compilable_law units p (outside_law files units main p h) text few
+  able = compilable_law units p text few
 
   made : IsMadeOf p o
   made = made_of files units main p o h text compiled
 
   pub passes_law : HasObject o × (is_plain o ≡ true)
-  passes_law = made_law p o able made
+  passes_law = let law = made_law p o able made in (law.0, law.1 text.instances)
 
   pub behaves_law : Behaves p o
   behaves_law = image_behaves p o able made passes_law.0.sound

@@ -5,7 +5,9 @@ pub mod RowStarts
 pub mod Conditions
 pub mod DecisionEntries
 pub mod Counts
-pub mod Due
+pub mod TextsOf
+pub mod Instances
+pub mod Found
 pub mod Roles
 pub mod Placing
 pub mod Statements
@@ -22,6 +24,7 @@ pub mod Texts
 pub mod UnitLaws
 mod Kernels
 mod LabelCounts
+mod DecisionCounts
 pub mod UnfoldedSizes
 pub mod LaidPrograms
 mod ExceptionNames

@@ -1,17 +1,15 @@
 -- Each statement of a program has its row, and each condition its branch, in every instance in which it stands.
-use Rattle.std.proofs.Common.{◌≡◌, ℕ, ◌≤◌, ◌==◌, ◌&&◌, cond, Bool, true, false, nat_eq, List, [], ◌∷◌, filter, map, refl, sym, ap, ◌∙◌, subst, arith, ◌⊎◌, inl, inr}
+use Rattle.std.proofs.Common.{◌≡◌, ℕ, ◌≤◌, ◌==◌, ◌&&◌, cond, Bool, true, false, nat_eq, List, [], ◌∷◌, filter, map, refl, sym, subst, arith, inl, inr}
 use Rattle.std.proofs.lemmas.Bool.Decides.{nat_tests}
 use Rattle.ada_meaning.specs.Obligations.{IsNumbered}
 use Rattle.ada_meaning.specs.Program.{Program}
-use Rattle.program_objects.proofs.Conditions.{conditions_of_linked}
+use Rattle.program_objects.proofs.Conditions.{conditions_held}
 use Rattle.program_objects.proofs.Conditions.{named as named_condition}
-use Rattle.program_objects.proofs.RowStarts.{named, starts_of_linked}
+use Rattle.program_objects.proofs.RowStarts.{named, starts_held}
 use Rattle.program_objects.specs.Held.{HoldsImage}
 use Rattle.program_objects.specs.Kernels.{IsKernelOf}
 use Rattle.program_objects.specs.Source.{IsRowOf, IsRoleOf, HasItsMarks}
 use Rattle.cov_base.specs.Lists.{Somewhere}
-use Rattle.kernel_code.proofs.PieceLaws.{pieces_are_marked}
-use Rattle.kernel_code.specs.Pieces.{kernel_pieces}
 use Rattle.kernel_ir.specs.declared.kernel.Kernel.{Kernel}
 use Rattle.kernel_ir.specs.Obligations.{Row as MarkedRow, Condition, rows, conditions}
 use Rattle.line_table.specs.declared.roles.Role.{Role}
@@ -24,7 +22,7 @@ use Rattle.statement_code.proofs.Own.{some_weighs, weighs_some, equal_numbers, n
 use Rattle.statement_code.specs.Own.{MarksOnce, one_if, is_row, row_times, condition_times}
 use Rattle.statement_code.specs.Own.{is_condition as is_evaluated}
 
-pub there_in_map : {X Y : Type 0} (P : Y → Type 0) (f : X → Y) (xs : List X) → Somewhere (λ x. P (f x)) xs → Somewhere P (map f xs)
+there_in_map : {X Y : Type 0} (P : Y → Type 0) (f : X → Y) (xs : List X) → Somewhere (λ x. P (f x)) xs → Somewhere P (map f xs)
 there_in_map P f [] there = absurd there
 there_in_map P f (x ∷ xs) (inl is) = inl is
 there_in_map P f (x ∷ xs) (inr later) = inr (there_in_map P f xs later)
@@ -50,16 +48,16 @@ second_counts false b both = absurd (omega (arith, both))
 -- rows
 
 -- the two numbers of a start
-abbrev pub IsStart : (statement instance : ℕ) → ℕ × ℕ → Type 0
+abbrev IsStart : (statement instance : ℕ) → ℕ × ℕ → Type 0
 IsStart statement instance start = (start.0 ≡ statement) × (start.1 ≡ instance)
 
-pub row_is_start : (s i : ℕ) (r : MarkedRow) → 1 ≤ one_if (is_row i s r) → IsStart s i (named r)
+row_is_start : (s i : ℕ) (r : MarkedRow) → 1 ≤ one_if (is_row i s r) → IsStart s i (named r)
 row_is_start s i r counts = (
   equal_numbers r.statement.0 s (second_counts (nat_eq r.instance.0 i) (nat_eq r.statement.0 s) counts),
   equal_numbers r.instance.0 i (first_counts (nat_eq r.instance.0 i) (nat_eq r.statement.0 s) counts),
 )
 
-pub start_is_row : (s i : ℕ) (r : MarkedRow) → IsStart s i (named r) → 1 ≤ one_if (is_row i s r)
+start_is_row : (s i : ℕ) (r : MarkedRow) → IsStart s i (named r) → 1 ≤ one_if (is_row i s r)
 start_is_row s i r is =
     both_count (nat_eq r.instance.0 i) (nat_eq r.statement.0 s) (numbers_equal r.instance.0 i is.1) (numbers_equal r.statement.0 s is.0)
 
@@ -82,10 +80,10 @@ counts_row s i lines rs are counts =
 
 -- conditions
 
-abbrev pub IsCase : (decision condition instance : ℕ) → (ℕ × ℕ) × ℕ → Type 0
+abbrev IsCase : (decision condition instance : ℕ) → (ℕ × ℕ) × ℕ → Type 0
 IsCase d c i found = (found.0.0 ≡ d) × (found.1 ≡ c) × (found.0.1 ≡ i)
 
-pub condition_is_case : (d c i : ℕ) (x : Condition) → 1 ≤ one_if (is_evaluated i d c x) → IsCase d c i (named_condition x)
+condition_is_case : (d c i : ℕ) (x : Condition) → 1 ≤ one_if (is_evaluated i d c x) → IsCase d c i (named_condition x)
 condition_is_case d c i x counts =
     let rest = second_counts (nat_eq x.instance.0 i) (nat_eq x.decision.0 d && nat_eq x.at_node c) counts in (
       equal_numbers x.decision.0 d (first_counts (nat_eq x.decision.0 d) (nat_eq x.at_node c) rest),
@@ -93,7 +91,7 @@ condition_is_case d c i x counts =
       equal_numbers x.instance.0 i (first_counts (nat_eq x.instance.0 i) (nat_eq x.decision.0 d && nat_eq x.at_node c) counts),
     )
 
-pub case_is_condition : (d c i : ℕ) (x : Condition) → IsCase d c i (named_condition x) → 1 ≤ one_if (is_evaluated i d c x)
+case_is_condition : (d c i : ℕ) (x : Condition) → IsCase d c i (named_condition x) → 1 ≤ one_if (is_evaluated i d c x)
 case_is_condition d c i x is =
     both_count (nat_eq x.instance.0 i) (nat_eq x.decision.0 d && nat_eq x.at_node c) (numbers_equal x.instance.0 i is.2)
     (both_count (nat_eq x.decision.0 d) (nat_eq x.at_node c) (numbers_equal x.decision.0 d is.0) (numbers_equal x.at_node c is.1))
@@ -141,12 +139,9 @@ counts_role d c i roles cs are counts =
 
 pub marks_law : (p : Program) (nodes : ℕ) (k : Kernel) (o : Object) → IsNumbered p → IsKernelOf p nodes k → HoldsImage k o → HasItsMarks p o
 marks_law p nodes k o numbered is_kernel holds =
-    let marked = pieces_are_marked k in
     let once : MarksOnce p (rows k) (conditions k) = once_law p numbered (rows k) (conditions k) is_kernel.rows is_kernel.conditions in
-    let starts : map start_of o.rows ≡ map named (rows k) =
-    ap (map start_of) holds.rows ∙ (starts_of_linked (kernel_pieces k) k.library marked.marks ∙ ap (map named) marked.rows_named) in
-    let found : conditions_of o.roles ≡ map named_condition (conditions k) =
-    ap conditions_of holds.roles ∙ (conditions_of_linked (kernel_pieces k) k.library marked.marks ∙ ap (map named_condition) marked.conditions_named) in
+    let starts = starts_held k o holds in
+    let found = conditions_held k o holds in
     record {
       rows = λ s i. (
         λ there. once.row_own i s (row_counts s i o.rows (rows k) starts there),

@@ -1,18 +1,15 @@
 -- The roles of a kernel are those of checks, of other control flow, and of its conditions, one for each branch.
-use Rattle.std.proofs.Common.{◌≡◌, ℕ, ◌+◌, ◌≤◌, ◌<◌, ◌==◌, ◌&&◌, ◌||◌, cond, if◌then◌else◌, Bool, true, false, nat_lt, nat_le, List, [], ◌∷◌, ◌++◌, filter, length, map, slice_get, Option, Some, None, option_map, Contains, refl, sym, ap, ◌∙◌, subst, arith}
+use Rattle.std.proofs.Common.{◌≡◌, ℕ, ◌+◌, ◌≤◌, ◌<◌, ◌==◌, ◌&&◌, ◌||◌, cond, if◌then◌else◌, Bool, true, false, nat_lt, nat_le, List, [], ◌∷◌, ◌++◌, filter, length, map, slice_get, Option, Some, None, option_map, refl, sym, ap, ◌∙◌, subst, arith}
 use Rattle.std.specs.List.{filter_map, cons_option, list_all, AllByRecursion}
 use Rattle.std.proofs.lemmas.Bool.{and_parts}
 use Rattle.std.proofs.lemmas.Bool.Decides.{nat_tests}
 use Rattle.std.proofs.lemmas.List.{length-map}
-use Rattle.ada_meaning.specs.Collected.{Decision}
-use Rattle.ada_meaning.specs.Obligations.{decision_entry}
 use Rattle.assembler.proofs.Codes.{all_append}
 use Rattle.assembler.specs.declared.piece.Mark.{Mark}
 use Rattle.assembler.specs.declared.piece.Mark.TheVariants.{Row as RowMark, Role as RoleMark}
 use Rattle.assembler.specs.declared.piece.Piece.{Piece}
 use Rattle.assembler.specs.Placed.{labels, labels_at}
-use Rattle.program_objects.proofs.Counts.{of_item}
-use Rattle.program_objects.proofs.Due.{IsOf, HaveConditions}
+use Rattle.program_objects.proofs.Found.{IsOf, HaveConditions}
 use Rattle.program_objects.specs.Held.{HoldsImage}
 use Rattle.cov_base.specs.declared.obligations.DecEntry.{DecEntry}
 use Rattle.cov_base.specs.Lists.{Everywhere}
@@ -120,10 +117,10 @@ held_are_made k o holds = ap (list_all is_made_role) holds.roles ∙ roles_are_m
 
 -- the conditions of decisions
 
-module _ (entries : List DecEntry) where
+module _ (entries : List DecEntry) (instances : ℕ) where
   -- such roles are roles of these decisions
 
-  by_kind : (role : Role) (b : Bool) → is_condition role ≡ b → is_made_role role ≡ true → (b ≡ true → IsOf entries (condition_of role)) → is_role entries 1 role ≡ true
+  by_kind : (role : Role) (b : Bool) → is_condition role ≡ b → is_made_role role ≡ true → (b ≡ true → IsOf entries instances (condition_of role)) → is_role entries instances role ≡ true
   by_kind role true is made known =
       let k = known refl in
       let parts = value_of role is made in
@@ -147,7 +144,7 @@ module _ (entries : List DecEntry) where
       value_of r two makes =
           one_is_least r.value (and_parts (r.kind.0 == 2) (r.value == 1)
           (sym (ap (λ b. b || ((r.kind.0 == 2) && (r.value == 1))) (other_is_none r.kind.0 (r.decision.0 == 0) (r.condition.0 == 0) (r.value == 0) (r.instance.0 == 0) two)) ∙ makes)).1
-  by_kind role false is made known = ap (λ b. b || is_condition_role entries 1 role) (other_of role is made)
+  by_kind role false is made known = ap (λ b. b || is_condition_role entries instances role) (other_of role is made)
     where
       drop_second : (a c d : Bool) → c ≡ false → (a || (c && d)) ≡ true → a ≡ true
       drop_second true c d none all = refl
@@ -157,19 +154,19 @@ module _ (entries : List DecEntry) where
       other_of : (r : Role) → is_condition r ≡ false → is_made_role r ≡ true → is_other_role r ≡ true
       other_of r two makes = drop_second (is_other_role r) (r.kind.0 == 2) (r.value == 1) two makes
 
-  roles_pass : (roles : List Role) → list_all is_made_role roles ≡ true → Everywhere (IsOf entries) (conditions_of roles) → list_all (is_role entries 1) roles ≡ true
+  roles_pass : (roles : List Role) → list_all is_made_role roles ≡ true → Everywhere (IsOf entries instances) (conditions_of roles) → list_all (is_role entries instances) roles ≡ true
   roles_pass [] made known = refl
   roles_pass (role ∷ roles) made known =
       let parts = and_parts (is_made_role role) (list_all is_made_role roles) made in
       by_test (is_condition role) refl parts.0 known (roles_pass roles parts.1)
     where
       by_test : (b : Bool) → is_condition role ≡ b → is_made_role role ≡ true
-          → Everywhere (IsOf entries) (map condition_of (cond b (role ∷ filter is_condition roles) (filter is_condition roles)))
-          → (Everywhere (IsOf entries) (conditions_of roles) → list_all (is_role entries 1) roles ≡ true) → list_all (is_role entries 1) (role ∷ roles) ≡ true
+          → Everywhere (IsOf entries instances) (map condition_of (cond b (role ∷ filter is_condition roles) (filter is_condition roles)))
+          → (Everywhere (IsOf entries instances) (conditions_of roles) → list_all (is_role entries instances) roles ≡ true) → list_all (is_role entries instances) (role ∷ roles) ≡ true
       by_test true is makes found rest =
-          both_hold (is_role entries 1 role) (list_all (is_role entries 1) roles) (by_kind role true is makes (λ e. found.0)) (rest found.1)
+          both_hold (is_role entries instances role) (list_all (is_role entries instances) roles) (by_kind role true is makes (λ e. found.0)) (rest found.1)
       by_test false is makes found rest =
-          both_hold (is_role entries 1 role) (list_all (is_role entries 1) roles) (by_kind role false is makes (λ e. absurd (let x : ⊥ = cc in x))) (rest found)
+          both_hold (is_role entries instances role) (list_all (is_role entries instances) roles) (by_kind role false is makes (λ e. absurd (let x : ⊥ = cc in x))) (rest found)
 
 -- how many roles there are
 
@@ -187,23 +184,16 @@ pub roles_few : (o : Object) → PassesRole o → length o.roles ≤ length o.te
 roles_few o passes =
     omega (arith, sym (length-map o.roles (λ (role : Role). role.address)) ∙ ap length passes.branches, branches_few 0x10000 o.text)
 
--- an object that holds the image of a kernel, whose conditions are those of numbered decisions
+-- an object that holds the image of a kernel, with conditions of these decisions in so many instances
 
-module _ (hs : List Decision) (k : Kernel) (o : Object) (holds : HoldsImage k o) (found : HaveConditions hs (conditions_of o.roles)) where
-  pub held_are_roles : list_all (is_role (map decision_entry hs) 1) o.roles ≡ true
-  held_are_roles = roles_pass (map decision_entry hs) o.roles (held_are_made k o holds) found.known
+module _ (entries : List DecEntry) (instances : ℕ) (k : Kernel) (o : Object) (holds : HoldsImage k o) (found : HaveConditions entries instances (conditions_of o.roles)) where
+  pub held_are_roles : list_all (is_role entries instances) o.roles ≡ true
+  held_are_roles = roles_pass entries instances o.roles (held_are_made k o holds) found.known
 
-  -- with a condition of a decision there is each other of it, in the one instance
-  whole : AreWhole (map decision_entry hs) (conditions_of o.roles)
-  whole c has n below =
-      let own = of_item (IsOf (map decision_entry hs)) (conditions_of o.roles) c found.known has in
-      let first : 0 ≡ c.0.1 = omega (arith, own.1) in
-      subst (λ i. Contains (conditions_of o.roles) ((c.0.0, i), n)) first (found.each c.0.0 n below)
-
-  pub held_passes : o.obligations.decisions ≡ map decision_entry hs → PassesRole o
+  pub held_passes : o.obligations.decisions ≡ entries → PassesRole o
   held_passes are = record {
     branches = ap (map (λ (role : Role). role.address)) holds.roles
         ∙ (roles_are_branches (kernel_pieces k) k.library (pieces_are_marked k).marks holds.items ∙ ap (branches_from 0x10000) (sym holds.text));
     single = found.single;
-    whole = subst (λ ds. AreWhole ds (conditions_of o.roles)) (sym are) whole;
+    whole = subst (λ ds. AreWhole ds (conditions_of o.roles)) (sym are) found.whole;
   }

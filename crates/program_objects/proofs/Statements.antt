@@ -5,9 +5,9 @@ use Rattle.std.specs.Ordering.{is_lt, is_le, ordering_then}
 use Rattle.std.specs.declared.cmp.Ordering.TheVariants.{Less, Equal, Greater}
 use Rattle.std.proofs.lemmas.Bool.Decides.{nat_tests}
 use Rattle.ada_meaning.specs.Collected.{Standing, after_if, after_while, after_exit, elsewhere, Decision, condition_places}
-use Rattle.ada_meaning.specs.Obligations.{letter_of, decision_entry, condition_entry}
+use Rattle.ada_meaning.specs.Obligations.{letter_of, statement_entry, decision_entry, condition_entry}
 use Rattle.cov_base.specs.TextOrder.{precedes}
-use Rattle.ada_meaning.specs.Tree.{shape_of, conditions_of}
+use Rattle.ada_meaning.specs.Tree.{Label, shape_of, conditions_of}
 use Rattle.legal_programs.specs.InText.{Rise}
 use Rattle.program_objects.proofs.DecisionEntries.{AreFew, conditions_many, size_positive}
 use Rattle.parsed_texts.specs.Places.{IsInFiles, AreInFiles}
@@ -47,6 +47,11 @@ first_below false false l m c d before = absurd (let x : ⊥ = cc in x)
 preceding_is_below : (a b : Pos) → precedes a b ≡ true → is_below (statement_key (entry_at a)) (statement_key (entry_at b)) ≡ true
 preceding_is_below a b before =
     first_below (nat_lt a.file b.file) (nat_eq a.file b.file) (nat_lt a.line b.line) (nat_eq a.line b.line) (nat_lt a.col b.col) (nat_eq a.col b.col) before
+
+-- the entries of statements are those of their places
+pub entries_at : (ls : List Label) → map statement_entry ls ≡ map entry_at (map (λ (l : Label). l.place) ls)
+entries_at [] = refl
+entries_at (l ∷ ls) = ap (λ es. statement_entry l ∷ es) (entries_at ls)
 
 abbrev key_rises : StmtEntry → StmtEntry → Bool
 key_rises one next = is_below (statement_key one) (statement_key next)

@@ -1,13 +1,13 @@
 -- A legal program stands in the text of its units.
-use Rattle.std.proofs.Common.{◌≡◌, ◌≤◌, ℕ, if◌then◌else◌, length, List, [], ◌∷◌, ◌++◌, map, sum_by, refl, sym, ap, ◌∙◌, subst}
+use Rattle.std.proofs.Common.{◌≡◌, ◌≤◌, ℕ, if◌then◌else◌, length, List, [], ◌∷◌, map, sum_by, refl, sym, ap, ◌∙◌, subst}
 use Rattle.cov_base.specs.TextOrder.{precedes}
 use Rattle.cov_base.specs.declared.position.Pos.{Pos}
 use Rattle.ada_syntax.specs.Nodes.{unit_nodes}
 use Rattle.ada_syntax.specs.declared.unit.Unit.{Unit as LibraryUnit}
 use Rattle.ada_meaning.specs.Tree.{Label}
 use Rattle.ada_meaning.specs.Collected.{Decision, labels_of, decisions_of}
-use Rattle.ada_meaning.specs.Obligations.{inserted, in_order, ordered_labels, ordered_decisions, statement_entry, decision_entry, instance_entry, no_instance, predefined_names, obligations_of, numbers}
-use Rattle.ada_meaning.specs.Program.{Instance, Program}
+use Rattle.ada_meaning.specs.Obligations.{inserted, in_order, ordered_labels, ordered_decisions, numbers}
+use Rattle.ada_meaning.specs.Program.{Program}
 use Rattle.parsed_texts.specs.legal_counts.proofs.ConditionUnits.{conditions_placed}
 use Rattle.parsed_texts.specs.legal_counts.proofs.HeldDecisions.{all_held}
 use Rattle.parsed_texts.specs.legal_counts.proofs.NodesOfUnits.{few_nodes}
@@ -24,15 +24,9 @@ use Rattle.parsed_texts.proofs.Statements.{statements_rise_weakly}
 use Rattle.parsed_texts.proofs.Texts.{texts_of}
 use Rattle.ada_parser.specs.Opening.{open_extent}
 use Rattle.program_weights.specs.Wholes.{whole_library}
-use Rattle.program_objects.specs.Listed.{entry_at, obligations_at}
-use Rattle.program_objects.specs.Made.{exceptions_in}
 use Rattle.program_objects.specs.Texts.{AreUnitsOf, IsOfText}
 use Rattle.program_objects.proofs.PlainUnits.{instances_none}
 use Rattle.program_objects.proofs.ExceptionNames.{names_law, few_law}
-
-entries_at : (ls : List Label) → map statement_entry ls ≡ map entry_at (map (λ (l : Label). l.place) ls)
-entries_at [] = refl
-entries_at (l ∷ ls) = ap (λ es. statement_entry l ∷ es) (entries_at ls)
 
 -- what stands in order stays in order
 first_stays : {X : Type 0} (place : X → Pos) (x : X) (ys : List X) → IsBehind (place x) (map place ys)
@@ -68,18 +62,6 @@ module _ (files : ℕ) (units : List LibraryUnit) (main : List ℕ) (p : Program
     stay : ordered_labels p ≡ labels_of p.subprograms
     stay = rise_stays (λ (l : Label). l.place) (labels_of p.subprograms) (subst Rise (sym placed) rises)
 
-    entries_are : map statement_entry (ordered_labels p) ≡ map entry_at (units_places units)
-    entries_are = ap (λ ls. map statement_entry ls) stay ∙ (entries_at (labels_of p.subprograms) ∙ ap (λ qs. map entry_at qs) placed)
-
-    obligations_are : obligations_of p [] ≡ obligations_at (units_places units) (decisions_of p.subprograms) (exceptions_in p) []
-    obligations_are = λ i. record {
-      statements = entries_are i;
-      decisions = map decision_entry (decisions_stay i);
-      regions = [];
-      instances = ap (λ (js : List Instance). no_instance ∷ map instance_entry js) (instances_none files units main p h) i;
-      exceptions = predefined_names ++ exceptions_in p;
-    }
-
     pub text_law : IsOfText units p
     text_law =
         let conditions = conditions_placed (whole_library units) main p is whole_is_whole in
@@ -94,7 +76,7 @@ module _ (files : ℕ) (units : List LibraryUnit) (main : List ℕ) (p : Program
           once = conditions.1;
           held = all_held p.subprograms labelled;
           nodes = few_nodes (whole_library units) main p is whole_is_whole (texts_have_choices units (texts_of open_extent files units h.read));
-          obligations = obligations_are;
+          instances = instances_none files units main p h;
           exceptions = names_law files units main p h;
           few_exceptions = few_law files units main p h declared;
         }

@@ -2,25 +2,18 @@
 use Rattle.std.specs.Prelude.{◌≡◌, ◌≤◌, ℕ, true, List, [], length, map, sum_by, IsAscii}
 use Rattle.std.specs.List.{All}
 use Rattle.ada_meaning.specs.Collected.{labels_of, decisions_of}
-use Rattle.ada_meaning.specs.Obligations.{IsNumbered, ordered_labels, ordered_decisions, ordered_exceptions}
+use Rattle.ada_meaning.specs.Obligations.{IsNumbered, ordered_labels, ordered_decisions, ordered_exceptions, obligations_of}
 use Rattle.ada_meaning.specs.Program.{Program}
 use Rattle.ada_meaning.specs.Tree.{shape_of, conditions_of}
 use Rattle.cov_base.specs.Expr.{negates_once}
 use Rattle.program_objects.specs.Held.{HoldsImage}
-use Rattle.cov_base.specs.declared.position.Pos.{Pos}
 use Rattle.cov_base.specs.Lists.{Everywhere}
-use Rattle.program_objects.specs.Listed.{obligations_at}
 use Rattle.program_objects.specs.Kernels.{IsKernelOf}
 use Rattle.kernel_ir.specs.declared.kernel.Kernel.{Kernel}
-use Rattle.statement_code.specs.Kernels.{AreOutside}
 use Rattle.statement_code.specs.Sizes.{subprogram_nodes}
-use Rattle.object_format.specs.Counts.{FileFits, IsCountable}
-use Rattle.object_format.specs.Fields.{are_files, are_statements, are_decisions}
+use Rattle.object_format.specs.Counts.{FileFits, InstanceFits, IsCountable, AreCountable}
+use Rattle.object_format.specs.Fields.{are_files, are_instances, are_statements, are_decisions}
 use Rattle.object_format.specs.declared.object.Object.{Object}
-
--- the places of a program's statements, in the order of its text
-abbrev pub places_in : Program → List Pos
-places_in p = map (λ l. l.place) (labels_of p.subprograms)
 
 -- the names of the exceptions that a program declares, in the order of their numbers
 abbrev pub exceptions_in : Program → List (List ℕ)
@@ -31,11 +24,9 @@ pub record IsExceptionName (name : List ℕ) : Type 0 where
   pub ascii : IsAscii name
   pub short : IsCountable name
 
--- a program that can be compiled today: so far nothing stands in a generic; it is within the limit on nodes; its statements and its decisions are
--- numbered in the order in which they stand; each decision has at most 32 conditions, and no `not` stands directly in another; its exceptions
--- have names, and are few
+-- a program that can be compiled: it is within the limit on nodes; its statements and its decisions are numbered in the order in which they
+-- stand, and are few; each decision has at most 32 conditions, and no `not` stands directly in another; its exceptions have names, and are few
 pub record IsCompilable (p : Program) : Type 0 where
-  pub outside : AreOutside p.subprograms
   pub numbered : IsNumbered p
   pub in_order : ordered_labels p ≡ labels_of p.subprograms
   pub decisions_in_order : ordered_decisions p ≡ decisions_of p.subprograms
@@ -43,18 +34,21 @@ pub record IsCompilable (p : Program) : Type 0 where
   pub once : Everywhere (λ h. negates_once (shape_of h.test) ≡ true) (decisions_of p.subprograms)
   pub few : sum_by subprogram_nodes p.subprograms ≤ 4096
   pub few_statements : length (labels_of p.subprograms) ≤ 4096
+  pub few_decisions : length (decisions_of p.subprograms) ≤ 4096
   pub exceptions : Everywhere IsExceptionName (exceptions_in p)
   pub few_exceptions : length (exceptions_in p) ≤ 4096
 
--- an object that is made of a program: it holds the image of a kernel of the program, its obligations are the program's statements, decisions
--- and exceptions, and the first two stand in order in its files
+-- an object that is made of a program: it holds the image of a kernel of the program, its obligations are the program's, and its files, the
+-- instances, the statements and the decisions are such as an object has
 pub record IsMadeOf (p : Program) (o : Object) : Type 0 where
   pub kernel : Kernel
   pub nodes : ℕ
   pub is_kernel : IsKernelOf p nodes kernel
   pub holds : HoldsImage kernel o
-  pub obligations : o.obligations ≡ obligations_at (places_in p) (decisions_of p.subprograms) (exceptions_in p) []
+  pub obligations : o.obligations ≡ obligations_of p []
   pub files : are_files o.files ≡ true
   pub names : All FileFits o.files
+  pub instances : are_instances (length o.files) o.obligations.instances ≡ true
+  pub instance_names : AreCountable InstanceFits o.obligations.instances
   pub statements : are_statements (length o.files) o.obligations.statements ≡ true
   pub decisions : are_decisions (length o.files) (length o.obligations.statements) o.obligations.decisions ≡ true

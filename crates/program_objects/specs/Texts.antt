@@ -2,7 +2,7 @@
 use Rattle.std.specs.Prelude.{◌≡◌, ◌<◌, ◌≤◌, ℕ, true, List, [], length, map, sum_by, slice_get, Some}
 use Rattle.ada_meaning.specs.Bodies.{StandsIn}
 use Rattle.ada_meaning.specs.Collected.{condition_places, labels_of, decisions_of}
-use Rattle.ada_meaning.specs.Obligations.{IsNumbered, ordered_labels, ordered_decisions, obligations_of}
+use Rattle.ada_meaning.specs.Obligations.{IsNumbered, ordered_labels, ordered_decisions}
 use Rattle.ada_meaning.specs.Program.{Program, Subprogram}
 use Rattle.ada_meaning.specs.Statics.{values_of}
 use Rattle.ada_meaning.specs.Tree.{shape_of, conditions_of}
@@ -23,7 +23,6 @@ use Rattle.parsed_texts.specs.Parsed.{AreOfFiles}
 use Rattle.statement_code.specs.Kernels.{AreOutside}
 use Rattle.statement_code.specs.Sizes.{subprogram_nodes}
 use Rattle.program_objects.specs.Legal.{AreProgram}
-use Rattle.program_objects.specs.Listed.{obligations_at}
 use Rattle.program_objects.specs.Made.{IsExceptionName, exceptions_in}
 
 -- units of so many files, and the program that they are; the main procedure's name is in lower case
@@ -33,8 +32,8 @@ pub record AreUnitsOf (files : ℕ) (units : List LibraryUnit) (main : List ℕ)
 
 -- The program stands in the text of its units. Its statements and its decisions stand at the places of the text, in its order, and are
 -- numbered so; each decision has the conditions of its text, of which there are at most 32, no `not` stands directly in another, and one of the
--- statements holds it; each node has a token that counts, and so has each exception that is declared, which has a name; and there are no other
--- obligations than these.
+-- statements holds it; each node has a token that counts, and so has each exception that is declared, which has a name; and so far there is no
+-- instance.
 pub record IsOfText (units : List LibraryUnit) (p : Program) : Type 0 where
   pub numbered : IsNumbered p
   pub statements : map (λ l. l.place) (labels_of p.subprograms) ≡ units_places units
@@ -46,7 +45,7 @@ pub record IsOfText (units : List LibraryUnit) (p : Program) : Type 0 where
   pub once : Everywhere (λ h. negates_once (shape_of h.test) ≡ true) (decisions_of p.subprograms)
   pub held : Everywhere (λ h. h.statement < length (labels_of p.subprograms)) (decisions_of p.subprograms)
   pub nodes : sum_by subprogram_nodes p.subprograms ≤ sum_by unit_nodes units
-  pub obligations : obligations_of p [] ≡ obligations_at (units_places units) (decisions_of p.subprograms) (exceptions_in p) []
+  pub instances : p.instances ≡ []
   pub exceptions : Everywhere IsExceptionName (exceptions_in p)
   pub few_exceptions : length (exceptions_in p) ≤ sum_by unit_nodes units
 

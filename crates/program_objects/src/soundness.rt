@@ -1,6 +1,6 @@
 //! What objects of programs are.
 
-ghost use Rattle.std.specs.Prelude.{◌≡◌, ◌↔◌, ◌+◌, ◌*◌, ◌<◌, ◌≤◌, ℕ, List, true, length, map};
+ghost use Rattle.std.specs.Prelude.{◌≡◌, ◌↔◌, ◌+◌, ◌*◌, ◌<◌, ◌≤◌, ℕ, List, [], true, length, map};
 ghost use Rattle.ada_meaning.specs.Collected.{labels_of, decisions_of};
 ghost use Rattle.ada_meaning.specs.Obligations.{decision_entry};
 ghost use Rattle.ada_meaning.specs.Program.{Program};
@@ -11,6 +11,7 @@ ghost use Rattle.kernel_ir.specs.declared.kernel.Kernel.{Kernel};
 ghost use Rattle.parsed_texts.specs.Places.{AreInFiles};
 ghost use Rattle.cov_base.specs.declared.position.Pos.{Pos};
 ghost use Rattle.program_objects.specs.Listed.{entry_at, IsCondition};
+ghost use Rattle.statement_code.specs.Kernels.{AreOutside};
 ghost use Rattle.statement_code.specs.Own.{IsStatementIn, IsConditionIn};
 ghost use Rattle.cov_base.specs.TextOrder.{rise};
 ghost use Rattle.object_format.specs.Fields.{are_statements};
@@ -24,9 +25,11 @@ pub fn roles_are_of_checks_structure_and_conditions()
     ensures { (p : Program) (o : Object) → IsCompilable p → IsMadeOf p o → PassesRole o }
 {}
 
-/// The object that is made of a program passes the checks of objects, and has a file.
+/// The object that is made of a program passes the checks of objects, and has a file; where the program has
+/// no instances, it is one of the language of the moment.
 pub fn made_objects_pass_their_checks()
-    ensures { (p : Program) (o : Object) → IsCompilable p → IsMadeOf p o → HasObject o × (is_plain o ≡ true) }
+    ensures { (p : Program) (o : Object) → IsCompilable p → IsMadeOf p o
+        → HasObject o × (p.instances ≡ [] → is_plain o ≡ true) }
 {}
 
 /// Places that rise, within files, are places of statements as an object has them.
@@ -44,9 +47,9 @@ pub fn texts_are_bounded()
 /// Where nothing stands in a generic, each statement obligation and each condition stands in instance 0, and
 /// in no other.
 pub fn obligations_stand_in_one_copy()
-    ensures statements { (p : Program) → IsCompilable p → (number instance : ℕ)
+    ensures statements { (p : Program) → IsCompilable p → AreOutside p.subprograms → (number instance : ℕ)
         → IsStatementIn p instance number ↔ ((number < length (labels_of p.subprograms)) × (instance ≡ 0)) }
-    ensures conditions { (p : Program) → IsCompilable p → (decision condition instance : ℕ)
-        → IsConditionIn p instance decision condition
+    ensures conditions { (p : Program) → IsCompilable p → AreOutside p.subprograms
+        → (decision condition instance : ℕ) → IsConditionIn p instance decision condition
         ↔ (IsCondition (map decision_entry (decisions_of p.subprograms)) decision condition × (instance ≡ 0)) }
 {}
