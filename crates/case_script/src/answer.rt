@@ -31,7 +31,8 @@ pub fn put_answer<S: Sink>(
     put_status(alloc, status, out)
 }
 
-fn put_status<S: Sink>(alloc: Global, status: u8, out: &mut S) -> Result<()> {
+/// Puts the number of a status.
+pub(crate) fn put_status<S: Sink>(alloc: Global, status: u8, out: &mut S) -> Result<()> {
     let line = format!(in alloc; "status {status}")?;
     put_line(line.as_str(), out)?;
     Ok(())

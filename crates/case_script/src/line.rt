@@ -63,6 +63,17 @@ pub enum Making<'a> {
     },
 }
 
+/// What fails outside during a call over files in memory.
+#[derive(Clone, Copy)]
+pub struct Plan<'a> {
+    /// Calls of the files, by their numbers from 0 with commas between, `-` for none.
+    pub calls: &'a str,
+    /// Puts, likewise.
+    pub puts: &'a str,
+    /// How many bytes there is room for.
+    pub room: usize,
+}
+
 /// What a line of a script asks for.
 #[derive(Clone, Copy)]
 pub enum Line<'a> {
@@ -78,6 +89,17 @@ pub enum Line<'a> {
     Call {
         words: Option<&'a str>,
         are_details_left_out: bool,
+    },
+    /// `keep NAME`: calls over files in memory have a copy of this file.
+    Keep {
+        name: &'a str,
+    },
+    /// `! CALLS PUTS ROOM WORDS`: prints this line, calls gnatcov with the words, of which the first is the
+    /// program's name and `-` are none, over the copies in memory, where this fails, and prints its status,
+    /// how many reads and writes failed, which files changed, and which of them a file `new` is like.
+    Trial {
+        plan: Plan<'a>,
+        words: &'a str,
     },
     /// `digest NAME`, `bytes NAME` or `absent NAME`: prints this of the file.
     Show {
@@ -102,6 +124,8 @@ impl<'a> Line<'a> {
         };
         match verb {
             "$" => Some(call(rest)),
+            "!" => trial(rest),
+            "keep" => Some(Line::Keep { name: rest }),
             "file" => Some(Line::Open(Opening::Whole { name: rest })),
             "change" => change(rest),
             "more" => more(rest),
@@ -134,6 +158,15 @@ fn call(words: &str) -> Line<'_> {
             are_details_left_out: false,
         },
     }
+}
+
+fn trial(rest: &str) -> Option<Line<'_>> {
+    let (calls, rest) = rest.split_once(' ')?;
+    let (puts, rest) = rest.split_once(' ')?;
+    let (room, words) = rest.split_once(' ')?;
+    let room = room.parse::<usize>().ok()?;
+    let plan = Plan { calls, puts, room };
+    Some(Line::Trial { plan, words })
 }
 
 fn change(rest: &str) -> Option<Line<'_>> {

@@ -4,7 +4,8 @@ ghost use Rattle.std.specs.Prelude.{◌≡◌, ◌++◌, ◌∷◌, [], OnOk, st
 
 use crate::answer::put_line;
 use crate::change::{closed, spliced};
-use crate::line::{Line, Making, Opening, Place, Shown, word_of};
+use crate::line::{Line, Making, Opening, Place, Plan, Shown, word_of};
+use crate::trial::Trial;
 use anyhow::{Result, bail};
 use cov_io::{FileFault, Files, Sink};
 use sha2::{Digest, Sha256};
@@ -73,7 +74,25 @@ fn add_line(text: &mut String, line: &str) -> Result<(), AllocError>
     text.push('\n')
 }
 
-/// A call of gnatcov that a line asks for.
+/// A call that a line asks for.
+pub enum Asked {
+    /// One over real files.
+    Call(Call),
+    /// One over files in memory, of which some fail.
+    Trial(Trial),
+}
+
+// Written out: a derived drop is proved anew in each crate above.
+impl Drop for Asked {
+    fn drop(self) {
+        match self {
+            Asked::Call(_) => {}
+            Asked::Trial(_) => {}
+        }
+    }
+}
+
+/// A call of gnatcov over real files.
 pub struct Call {
     /// The command words, the program's name first.
     pub words: Vec<String>,
@@ -99,7 +118,7 @@ impl Call {
         are_details_left_out: bool,
     ) -> Result<Self, AllocError> {
         Ok(Call {
-            words: words_of(alloc, words)?,
+            words: named_words(alloc, words)?,
             are_details_left_out,
         })
     }
@@ -109,19 +128,29 @@ impl Call {
 pub struct Script {
     alloc: Global,
     open: Option<OpenFile>,
+    /// The names of the files that calls over files in memory have copies of.
+    kept: Vec<String>,
 }
 
 // Written out: a derived drop is proved anew in each crate above.
 impl Drop for Script {
     fn drop(self) {
-        let Script { alloc: _, open: _ } = self;
+        let Script {
+            alloc: _,
+            open: _,
+            kept: _,
+        } = self;
     }
 }
 
 impl Script {
     /// A script of which nothing was played yet.
     pub fn new(alloc: Global) -> Self {
-        Script { alloc, open: None }
+        Script {
+            alloc,
+            open: None,
+            kept: Vec::new(alloc),
+        }
     }
 
     /// Plays the next line, over the files and the sink of the transcript. The call that it asks for, if
@@ -131,7 +160,7 @@ impl Script {
         line: &str,
         files: &mut F,
         out: &mut S,
-    ) -> Result<Option<Call>> {
+    ) -> Result<Option<Asked>> {
         match &mut self.open {
             Some(file) if line == "end" => file.close(files)?,
             Some(file) => {
@@ -150,7 +179,7 @@ impl Script {
         line: &str,
         files: &mut F,
         out: &mut S,
-    ) -> Result<Option<Call>> {
+    ) -> Result<Option<Asked>> {
         let alloc = self.alloc;
         match Line::of(line) {
             None => bail!("no line of a script: {line}"),
@@ -164,11 +193,23 @@ impl Script {
                 },
             ) => {
                 put_line(line, out)?;
-                return Ok(Some(Call::of(alloc, words, are_details_left_out)?));
+                let call = Call::of(alloc, words, are_details_left_out)?;
+                return Ok(Some(Asked::Call(call)));
+            }
+            Some(Line::Keep { name }) => add_word(alloc, &mut self.kept, name)?,
+            Some(Line::Trial { plan, words }) => {
+                put_line(line, out)?;
+                return Ok(Some(Asked::Trial(self.trial(plan, words, files)?)));
             }
             Some(Line::Show { what, name }) => show(alloc, what, name, files, out)?,
         }
         Ok(None)
+    }
+
+    /// A call over copies of the files that are kept.
+    fn trial<F: Files>(&self, plan: Plan<'_>, words: &str, files: &mut F) -> Result<Trial> {
+        let words = words_of(self.alloc, words)?;
+        Trial::of(self.alloc, words, self.kept.as_slice(), plan, files)
     }
 }
 
@@ -256,8 +297,17 @@ fn read<F: Files>(alloc: Global, name: &str, files: &mut F) -> Result<Vec<u8>, F
     Ok(bytes)
 }
 
-/// The command words, the program's name first.
-fn words_of(alloc: Global, words: Option<&str>) -> Result<Vec<String>, AllocError> {
+/// Words that blanks separate. `-` are none.
+fn words_of(alloc: Global, words: &str) -> Result<Vec<String>, AllocError> {
+    let mut all = Vec::new(alloc);
+    if words != "-" {
+        add_words(alloc, &mut all, words)?;
+    }
+    Ok(all)
+}
+
+/// The command words, behind the program's name.
+fn named_words(alloc: Global, words: Option<&str>) -> Result<Vec<String>, AllocError> {
     let mut all = Vec::new(alloc);
     add_word(alloc, &mut all, "gnatcov")?;
     if let Some(words) = words {

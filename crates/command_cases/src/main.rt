@@ -1,10 +1,10 @@
 //! Plays a script of commands, and prints the transcript: what each call of [`public_call::gnatcov`]
-//! over real files put, and its status. The script comes from standard input; [`case_script::Line`] has
-//! its language.
+//! over real files put, and its status; and the same of calls over files in memory, of which some fail.
+//! The script comes from standard input; [`case_script::Line`] has its language.
 #![tactic(auto)]
 
 use anyhow::Result;
-use case_script::{Call, Script, put_answer};
+use case_script::{Asked, Call, Script, Trial, put_answer, put_outcome};
 use cov_io::{Files, HostFiles, HostSink, MemSink, Sink};
 use public_call::gnatcov;
 use std::alloc::Global;
@@ -27,6 +27,21 @@ fn answer<F: Files, S: Sink>(alloc: Global, call: &Call, files: &mut F, out: &mu
     )
 }
 
+/// Calls gnatcov over files in memory, and puts what it put, its status, and what became of the files.
+fn answer_in_memory<S: Sink>(alloc: Global, trial: &Trial, out: &mut S) -> Result<()> {
+    let mut files = trial.files(alloc)?;
+    let mut output = trial.sink(alloc)?;
+    let status = gnatcov(alloc, trial.words.as_slice(), &mut files, &mut output);
+    put_outcome(
+        alloc,
+        trial,
+        &files,
+        output.as_slice(),
+        status.number(),
+        out,
+    )
+}
+
 /// Plays the script of standard input. A line that is none of its language ends it.
 fn main(rt: HostRuntime) -> Result<()> {
     let alloc = rt.alloc();
@@ -34,8 +49,11 @@ fn main(rt: HostRuntime) -> Result<()> {
     let mut out = HostSink::new(io::writer(&rt));
     let mut script = Script::new(alloc);
     for line in BufReader::new(alloc, rt.reader())?.lines(alloc) {
-        if let Some(call) = script.play(line?.as_str(), &mut files, &mut out)? {
-            answer(alloc, &call, &mut files, &mut out)?;
+        let asked = script.play(line?.as_str(), &mut files, &mut out)?;
+        match &asked {
+            Some(Asked::Call(call)) => answer(alloc, call, &mut files, &mut out)?,
+            Some(Asked::Trial(trial)) => answer_in_memory(alloc, trial, &mut out)?,
+            None => {}
         }
     }
     Ok(())
