@@ -2,7 +2,7 @@
 
 ghost use Rattle.std.specs.Prelude.{◌≡◌, OnOk};
 
-use anyhow::Result;
+use crate::fault::ScriptFault;
 use cov_io::{Sink, SinkFailed};
 use std::alloc::Global;
 
@@ -21,7 +21,7 @@ pub fn put_answer<S: Sink>(
     status: u8,
     are_details_left_out: bool,
     out: &mut S,
-) -> Result<()> {
+) -> Result<(), ScriptFault> {
     if are_details_left_out {
         let text = String::from_utf8_lossy(alloc, output)?;
         put_without_details(text.as_str(), out)?;
@@ -32,7 +32,11 @@ pub fn put_answer<S: Sink>(
 }
 
 /// Puts the number of a status.
-pub(crate) fn put_status<S: Sink>(alloc: Global, status: u8, out: &mut S) -> Result<()> {
+pub(crate) fn put_status<S: Sink>(
+    alloc: Global,
+    status: u8,
+    out: &mut S,
+) -> Result<(), ScriptFault> {
     let line = format!(in alloc; "status {status}")?;
     put_line(line.as_str(), out)?;
     Ok(())

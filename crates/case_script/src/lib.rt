@@ -7,12 +7,14 @@
 
 mod answer;
 mod change;
+mod fault;
 mod line;
 mod script;
 mod trial;
 
 pub use answer::put_answer;
 pub use change::{closed, spliced};
+pub use fault::ScriptFault;
 pub use line::{Line, Making, Opening, Place, Plan, Shown};
 pub use script::{Asked, Call, Script};
 pub use trial::{Trial, put_outcome};

@@ -4,9 +4,9 @@ ghost use Rattle.std.specs.Prelude.{◌≡◌, ◌++◌, ◌∷◌, [], OnOk, st
 
 use crate::answer::put_line;
 use crate::change::{closed, spliced};
+use crate::fault::ScriptFault;
 use crate::line::{Line, Making, Opening, Place, Plan, Shown, word_of};
 use crate::trial::Trial;
-use anyhow::{Result, bail};
 use cov_io::{FileFault, Files, Sink};
 use sha2::{Digest, Sha256};
 use std::alloc::{AllocError, Global};
@@ -160,7 +160,7 @@ impl Script {
         line: &str,
         files: &mut F,
         out: &mut S,
-    ) -> Result<Option<Asked>> {
+    ) -> Result<Option<Asked>, ScriptFault> {
         match &mut self.open {
             Some(file) if line == "end" => file.close(files)?,
             Some(file) => {
@@ -179,10 +179,10 @@ impl Script {
         line: &str,
         files: &mut F,
         out: &mut S,
-    ) -> Result<Option<Asked>> {
+    ) -> Result<Option<Asked>, ScriptFault> {
         let alloc = self.alloc;
         match Line::of(line) {
-            None => bail!("no line of a script: {line}"),
+            None => return Err(ScriptFault::Line),
             Some(Line::Remark) => put_line(line, out)?,
             Some(Line::Open(opening)) => self.open = Some(opened(alloc, opening, files)?),
             Some(Line::Make(making)) => make(alloc, making, files)?,
@@ -207,14 +207,23 @@ impl Script {
     }
 
     /// A call over copies of the files that are kept.
-    fn trial<F: Files>(&self, plan: Plan<'_>, words: &str, files: &mut F) -> Result<Trial> {
+    fn trial<F: Files>(
+        &self,
+        plan: Plan<'_>,
+        words: &str,
+        files: &mut F,
+    ) -> Result<Trial, ScriptFault> {
         let words = words_of(self.alloc, words)?;
         Trial::of(self.alloc, words, self.kept.as_slice(), plan, files)
     }
 }
 
 /// A file that is begun.
-fn opened<F: Files>(alloc: Global, opening: Opening<'_>, files: &mut F) -> Result<OpenFile> {
+fn opened<F: Files>(
+    alloc: Global,
+    opening: Opening<'_>,
+    files: &mut F,
+) -> Result<OpenFile, ScriptFault> {
     match opening {
         Opening::Whole { name } => Ok(OpenFile::new(alloc, name)?),
         Opening::Changed {
@@ -242,7 +251,7 @@ fn changed(
 }
 
 /// Writes a file.
-fn make<F: Files>(alloc: Global, making: Making<'_>, files: &mut F) -> Result<()> {
+fn make<F: Files>(alloc: Global, making: Making<'_>, files: &mut F) -> Result<(), ScriptFault> {
     match making {
         Making::More { name, count, text } => add_turns(alloc, name, count, text, files),
         Making::Splice {
@@ -271,8 +280,8 @@ fn splice<F: Files>(
     count: usize,
     hex: &str,
     files: &mut F,
-) -> Result<()> {
-    let others = hex::decode(alloc, hex)?;
+) -> Result<(), ScriptFault> {
+    let others = hex::decode(alloc, hex).map_err(|_| ScriptFault::Line)?;
     let at = place.within(bytes.len());
     let spliced = spliced(alloc, bytes, at, count, others.as_slice())?;
     files.write(name, spliced.as_slice())?;
@@ -337,7 +346,7 @@ fn add_turns<F: Files>(
     count: u32,
     text: &str,
     files: &mut F,
-) -> Result<()> {
+) -> Result<(), ScriptFault> {
     let mut bytes = Vec::new(alloc);
     let _ = files.read(name, &mut bytes);
     for turn in 0..count {
@@ -363,7 +372,7 @@ fn show<F: Files, S: Sink>(
     name: &str,
     files: &mut F,
     out: &mut S,
-) -> Result<()> {
+) -> Result<(), ScriptFault> {
     match what {
         Shown::Digest => show_digest(alloc, name, read(alloc, name, files)?.as_slice(), out),
         Shown::Bytes => show_bytes(alloc, name, read(alloc, name, files)?.as_slice(), out),
@@ -371,7 +380,12 @@ fn show<F: Files, S: Sink>(
     }
 }
 
-fn show_digest<S: Sink>(alloc: Global, name: &str, bytes: &[u8], out: &mut S) -> Result<()> {
+fn show_digest<S: Sink>(
+    alloc: Global,
+    name: &str,
+    bytes: &[u8],
+    out: &mut S,
+) -> Result<(), ScriptFault> {
     let digest = Sha256::digest(bytes);
     let digest = hex::encode(alloc, digest.as_slice())?;
     let line = format!(in alloc; "digest {name}: {digest}")?;
@@ -379,7 +393,12 @@ fn show_digest<S: Sink>(alloc: Global, name: &str, bytes: &[u8], out: &mut S) ->
     Ok(())
 }
 
-fn show_bytes<S: Sink>(alloc: Global, name: &str, bytes: &[u8], out: &mut S) -> Result<()> {
+fn show_bytes<S: Sink>(
+    alloc: Global,
+    name: &str,
+    bytes: &[u8],
+    out: &mut S,
+) -> Result<(), ScriptFault> {
     let head = format!(in alloc; "bytes {name}:")?;
     put_line(head.as_str(), out)?;
     for row in bytes.chunks(32) {
@@ -388,13 +407,18 @@ fn show_bytes<S: Sink>(alloc: Global, name: &str, bytes: &[u8], out: &mut S) -> 
     Ok(())
 }
 
-fn put_row<S: Sink>(alloc: Global, row: &[u8], out: &mut S) -> Result<()> {
+fn put_row<S: Sink>(alloc: Global, row: &[u8], out: &mut S) -> Result<(), ScriptFault> {
     let row = hex::encode(alloc, row)?;
     put_line(row.as_str(), out)?;
     Ok(())
 }
 
-fn show_absence<S: Sink>(alloc: Global, name: &str, is_absent: bool, out: &mut S) -> Result<()> {
+fn show_absence<S: Sink>(
+    alloc: Global,
+    name: &str,
+    is_absent: bool,
+    out: &mut S,
+) -> Result<(), ScriptFault> {
     let answer = if is_absent { "yes" } else { "no" };
     let line = format!(in alloc; "absent {name}: {answer}")?;
     put_line(line.as_str(), out)?;

@@ -1,8 +1,8 @@
 //! Calls over files in memory, of which some fail.
 
 use crate::answer::{put_line, put_status};
+use crate::fault::ScriptFault;
 use crate::line::Plan;
-use anyhow::{Result, anyhow};
 use cov_io::{Entry, Files, MemFiles, MemSink, Sink};
 use std::alloc::{AllocError, Global};
 
@@ -44,7 +44,7 @@ impl Trial {
         names: &[String],
         plan: Plan<'_>,
         files: &mut F,
-    ) -> Result<Self> {
+    ) -> Result<Self, ScriptFault> {
         Ok(Trial {
             words,
             kept: entries_of(alloc, names, files)?,
@@ -86,7 +86,7 @@ pub fn put_outcome<S: Sink>(
     output: &[u8],
     status: u8,
     out: &mut S,
-) -> Result<()> {
+) -> Result<(), ScriptFault> {
     out.put(output)?;
     if !output.is_empty() && !output.ends_with(b"\n") {
         out.put(b"\n")?;
@@ -97,7 +97,12 @@ pub fn put_outcome<S: Sink>(
     put_new(alloc, trial.kept.as_slice(), files, out)
 }
 
-fn put_faults<S: Sink>(alloc: Global, reads: u64, writes: u64, out: &mut S) -> Result<()> {
+fn put_faults<S: Sink>(
+    alloc: Global,
+    reads: u64,
+    writes: u64,
+    out: &mut S,
+) -> Result<(), ScriptFault> {
     let line = format!(in alloc; "failed: {reads} reads, {writes} writes")?;
     put_line(line.as_str(), out)?;
     Ok(())
@@ -109,7 +114,7 @@ fn put_changes<S: Sink>(
     kept: &[Entry],
     files: &MemFiles,
     out: &mut S,
-) -> Result<()> {
+) -> Result<(), ScriptFault> {
     for entry in kept {
         if files.get(entry.name.as_str()) != Some(entry.bytes.as_slice()) {
             put_change(alloc, entry.name.as_str(), out)?;
@@ -118,14 +123,19 @@ fn put_changes<S: Sink>(
     Ok(())
 }
 
-fn put_change<S: Sink>(alloc: Global, name: &str, out: &mut S) -> Result<()> {
+fn put_change<S: Sink>(alloc: Global, name: &str, out: &mut S) -> Result<(), ScriptFault> {
     let line = format!(in alloc; "changed: {name}")?;
     put_line(line.as_str(), out)?;
     Ok(())
 }
 
 /// Puts whether there is a new file, and which of the files it is like.
-fn put_new<S: Sink>(alloc: Global, kept: &[Entry], files: &MemFiles, out: &mut S) -> Result<()> {
+fn put_new<S: Sink>(
+    alloc: Global,
+    kept: &[Entry],
+    files: &MemFiles,
+    out: &mut S,
+) -> Result<(), ScriptFault> {
     let line = match files.get(NEW) {
         Some(bytes) => format!(in alloc; "new: as {name}", name = name_of(kept, bytes)),
         None => String::from_str(alloc, "new: none"),
@@ -136,13 +146,20 @@ fn put_new<S: Sink>(alloc: Global, kept: &[Entry], files: &MemFiles, out: &mut S
 
 /// The name of a file with these bytes.
 fn name_of<'a>(kept: &'a [Entry], bytes: &[u8]) -> &'a str {
-    kept.iter()
-        .find(|entry| entry.bytes.as_slice() == bytes)
-        .map_or("no other", |entry| entry.name.as_str())
+    for entry in kept {
+        if entry.bytes.as_slice() == bytes {
+            return entry.name.as_str();
+        }
+    }
+    "no other"
 }
 
 /// Copies in memory of the files with these names.
-fn entries_of<F: Files>(alloc: Global, names: &[String], files: &mut F) -> Result<Vec<Entry>> {
+fn entries_of<F: Files>(
+    alloc: Global,
+    names: &[String],
+    files: &mut F,
+) -> Result<Vec<Entry>, ScriptFault> {
     let mut entries = Vec::new(alloc);
     for name in names {
         let mut bytes = Vec::new(alloc);
@@ -167,14 +184,11 @@ fn add_entry(
 }
 
 /// Numbers with commas between, `-` for none.
-fn numbers_of(alloc: Global, text: &str) -> Result<Vec<u64>> {
+fn numbers_of(alloc: Global, text: &str) -> Result<Vec<u64>, ScriptFault> {
     let mut numbers = Vec::new(alloc);
     if text != "-" {
         for word in text.split(',') {
-            let number = word
-                .parse::<u64>()
-                .ok()
-                .ok_or(anyhow!("no number: {word}"))?;
+            let number = word.parse::<u64>().ok().ok_or(ScriptFault::Line)?;
             numbers.push(number)?;
         }
     }
