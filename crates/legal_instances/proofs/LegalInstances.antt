@@ -24,9 +24,10 @@ use Rattle.legal_programs.proofs.Passed.{of_ok}
 use Rattle.legal_instances.specs.InOrder.{UnitsRise}
 use Rattle.legal_instances.specs.Looked.{AreLookedAt}
 use Rattle.legal_instances.specs.Ordered.{HaveSameItems}
-use Rattle.legal_instances.proofs.KeptInstances.{made_behind}
+use Rattle.legal_instances.proofs.KeptInstances.{IsKept, made_behind}
 use Rattle.legal_instances.proofs.KeptInterfaces.{MakesAll, interfaces_so}
 use Rattle.legal_instances.proofs.KeptWalk.{instances_among}
+use Rattle.legal_instances.proofs.SortedKeys.{AreKeyed}
 use Rattle.legal_instances.proofs.Sums.{same_both, same_back}
 use Rattle.legal_instances.proofs.TextInstances.{AreBeside, units_once, same_once, same_chosen, in_text, beside}
 use Rattle.legal_instances.proofs.WholeOrder.{none_some, or_else, legal_order}
@@ -112,11 +113,18 @@ module _ (standard : Standard) (us : List LibraryUnit) (main : List ℕ) (p : Pr
   from_start : {X : Type 0} (xs : List X) (j : ℕ) → slice_get xs (0 + j) ≡ slice_get xs j
   from_start xs j = let none : 0 + j ≡ j = omega (arith) in ap (slice_get xs) none
 
+  -- each is that of its unit
+  abbrev pub IsOfUnit : Instance → ℕ → Type 0
+  IsOfUnit i n = IsKept us is.walk.seen.world.instances is.walk.seen.next.demands i n
+
+  pub keyed_in_places : AreKeyed IsOfUnit in_places (instances_among us (units_but_bodies 0 us))
+  keyed_in_places =
+      in_text us rise is.walk.seen.world.instances is.walk.seen.next.demands is.walk.seen.next.instances_declared made_all.keys made_all.made.kept keys_same
+
   seen_beside : AreBeside is.walk.seen.next.demands 0 in_places is.walk.seen.world.instances
   seen_beside =
       beside us rise is.walk.seen.world.instances is.walk.seen.next.demands 0 0 us in_places is.walk.seen.world.instances (from_start us) (first_number us)
-      made_all.made.counted (from_start is.walk.seen.world.instances)
-      (in_text us rise is.walk.seen.world.instances is.walk.seen.next.demands is.walk.seen.next.instances_declared made_all.keys made_all.made.kept keys_same)
+      made_all.made.counted (from_start is.walk.seen.world.instances) keyed_in_places
 
   pub all_beside : AreBeside is.walked.next.demands 0 in_places is.walked.world.instances
   all_beside =

@@ -2,13 +2,14 @@ mod Sums
 mod Picking
 mod Cycles
 mod WholeOrder
-mod InstanceNumbers
-mod KeptInstances
+pub mod InstanceNumbers
+pub mod KeptInstances
 mod KeptWalk
 mod KeptInterfaces
 mod SortedKeys
 mod TextInstances
 mod LegalInstances
+pub mod NumberedInstances
 mod WithinMore
 mod WithinNames
 mod WithinStatics

@@ -162,7 +162,7 @@ everywhere_at P [] (suc n) x h there = absurd (none_some there)
 everywhere_at P (y ∷ xs) zero x h there = subst P (ap (or_else y) there) h.0
 everywhere_at P (y ∷ xs) (suc n) x h there = everywhere_at P xs n x h.1 there
 
-places_rise : (us : List LibraryUnit) (n m : ℕ) (u v : LibraryUnit) → UnitsRise us → n < m → slice_get us n ≡ Some u → slice_get us m ≡ Some v
+pub places_rise : (us : List LibraryUnit) (n m : ℕ) (u v : LibraryUnit) → UnitsRise us → n < m → slice_get us n ≡ Some u → slice_get us m ≡ Some v
     → precedes u.item_pos v.item_pos ≡ true
 places_rise us n zero u v rise less h k = absurd (none less)
   where
@@ -225,19 +225,19 @@ module _ (us : List LibraryUnit) (rise : UnitsRise us) (facts : List Facts) (dem
       (same_both (reverse ns) ns (instances_among us (units_but_bodies 0 us)) (same_reversed ns) same)))
       sorted.keyed
 
-  abbrev AreFrom : ℕ → List LibraryUnit → Type 0
+  abbrev pub AreFrom : ℕ → List LibraryUnit → Type 0
   AreFrom k vs = (j : ℕ) → slice_get us (k + j) ≡ slice_get vs j
 
   abbrev FactsFrom : ℕ → List Facts → Type 0
   FactsFrom c fs = (j : ℕ) → slice_get facts (c + j) ≡ slice_get fs j
 
-  from_next : (k : ℕ) (v : LibraryUnit) (vs : List LibraryUnit) → AreFrom k (v ∷ vs) → AreFrom (k + 1) vs
+  pub from_next : (k : ℕ) (v : LibraryUnit) (vs : List LibraryUnit) → AreFrom k (v ∷ vs) → AreFrom (k + 1) vs
   from_next k v vs h j = let count : (k + 1) + j ≡ k + suc j = omega (arith) in ap (slice_get us) count ∙ h (suc j)
 
   facts_next : (c : ℕ) (f : Facts) (fs : List Facts) → FactsFrom c (f ∷ fs) → FactsFrom (c + 1) fs
   facts_next c f fs h j = let count : (c + 1) + j ≡ c + suc j = omega (arith) in ap (slice_get facts) count ∙ h (suc j)
 
-  unit_here : (k : ℕ) (v : LibraryUnit) (vs : List LibraryUnit) → AreFrom k (v ∷ vs) → slice_get us k ≡ Some v
+  pub unit_here : (k : ℕ) (v : LibraryUnit) (vs : List LibraryUnit) → AreFrom k (v ∷ vs) → slice_get us k ≡ Some v
   unit_here k v vs h = let none : k ≡ k + 0 = omega (arith) in ap (slice_get us) none ∙ h 0
 
   no_more : (fs : List Facts) → length fs ≡ 0 → fs ≡ []

@@ -53,7 +53,7 @@ literals_ordered n some few =
     ((refl, last_in_base n some few), first_to_last n some)
 
 module _ (p : Program) (facts : List Facts) (has : HaveFacts p.instances facts) (are : Everywhere AreFactsInBase facts) (inst : ℕ) (shape_of : tree.Object → Shape)
-    (declared : AdaType → Type 0) (apart : AreApart declared) (Sees : tree.Object → Type 0) where
+    (declared : AdaType → Type 0) (apart : AreApart p declared) (Sees : tree.Object → Type 0) where
   abbrev Places : Env → Type 0
   Places env = IsEnv p inst declared shape_of Sees env
 

@@ -2,12 +2,14 @@
 use Rattle.std.proofs.Common.{◌≡◌, ◌<◌, ◌+◌, ℕ, nat_eq, true, List, [], ◌∷◌, ◌++◌, refl, sym, ap, ◌∙◌, arith, inl, inr}
 use Rattle.std.specs.Prelude.{◌&&◌}
 use Rattle.std.proofs.lemmas.Bool.{eqb-true, false≢true}
+use Rattle.ada_meaning.specs.Program.{Program}
 use Rattle.ada_meaning.specs.Types.{Owner, here, of_instance}
 use Rattle.ada_rules.specs.Environment.{State, Env, owner_of, new_identity}
 use Rattle.ada_rules.specs.Types.{Identity, integer, natural, positive, boolean, declared_in, same_owner, same_identity, AdaType, identity_of}
 use Rattle.legal_laws.specs.Known.{AreApart}
 use Rattle.legal_laws.specs.Standing.{with_type, with_types, AreOlder}
 use Rattle.legal_laws.proofs.Passing.{both_true}
+use Rattle.legal_laws.proofs.AlikeTypes.{alike_equal}
 
 owner_is : (a b : Owner) → same_owner a b ≡ true → a ≡ b
 owner_is here here h = refl
@@ -21,7 +23,7 @@ number_is o q u v n m h =
     let first = both_true (same_owner o q) (nat_eq u v) last.0 in
     λ i. declared_in (owner_is o q first.0 i) (eqb-true u v first.1 i) (eqb-true n m last.1 i)
 
-identity_is : (i j : Identity) → same_identity i j ≡ true → i ≡ j
+pub identity_is : (i j : Identity) → same_identity i j ≡ true → i ≡ j
 identity_is integer integer h = refl
 identity_is natural natural h = refl
 identity_is positive positive h = refl
@@ -33,7 +35,7 @@ abbrev number_in : Identity → ℕ → ℕ
 number_in (declared_in o u n) m = n
 number_in i m = m
 
-same_number : (o : Owner) (u n m : ℕ) → declared_in o u n ≡ declared_in o u m → n ≡ m
+pub same_number : (o : Owner) (u n m : ℕ) → declared_in o u n ≡ declared_in o u m → n ≡ m
 same_number o u n m e = ap (λ i. number_in i 0) e
 
 not_less : (n : ℕ) → n < n → ⊥
@@ -43,13 +45,13 @@ module _ (declared : AdaType → Type 0) (env : Env) (s : State) (new : AdaType)
   is_older : (t : AdaType) → declared t → identity_of t ≡ identity_of new → ⊥
   is_older t h e = not_less s.types (older t s.types h (e ∙ is))
 
-  pub apart_with : AreApart declared → AreApart (with_type declared new)
-  apart_with apart t u (inl h) (inl k) same = apart t u h k same
-  apart_with apart t u (inl h) (inr k) same =
+  pub apart_with : (p : Program) → AreApart p declared → AreApart p (with_type declared new)
+  apart_with p apart t u (inl h) (inl k) same = apart t u h k same
+  apart_with p apart t u (inl h) (inr k) same =
       absurd (is_older t h (identity_is (identity_of t) (identity_of u) same ∙ ap identity_of k))
-  apart_with apart t u (inr h) (inl k) same =
+  apart_with p apart t u (inr h) (inl k) same =
       absurd (is_older u k (sym (identity_is (identity_of t) (identity_of u) same) ∙ ap identity_of h))
-  apart_with apart t u (inr h) (inr k) same = h ∙ sym k
+  apart_with p apart t u (inr h) (inr k) same = alike_equal p t u (h ∙ sym k)
 
   pub older_with : (after : State) → after.types ≡ s.types + 1 → AreOlder (with_type declared new) env after
   older_with after more t n (inl h) e = let few = older t n h e in omega (arith, few, more)

@@ -133,7 +133,7 @@ module _ (p : Program) (facts : List Facts) (has : HaveFacts p.instances facts) 
                 (redefined_known p inst (with_type types u) shape_of Sees (key i) (mark (new_identity env s) x.value.subtype) x.value.region
                 (h.known (final_counted env.generic env q x.value.subtype x.next all).serves (all.serves.limits.0 refl).0) h.region);
             world = st.world;
-            apart = apart_with types env s u h.identity st.older st.apart;
+            apart = apart_with types env s u h.identity st.older p st.apart;
             older = older_with types env s u h.identity st.older (type_counted env q x.value.subtype x.next) more;
             counted = ap (λ y. y.objects) h.only ∙ st.counted ∙ sym (ap (λ y. length y.words) h.only);
             alone = st.alone;

@@ -32,7 +32,7 @@ use Rattle.legal_laws.proofs.KnownNames.{entity_known, shown_known, visible_know
 numeral_in_base : (n : ℕ) → nat_lt n 2147483648 ≡ true → is_within base_range (pos n) ≡ true
 numeral_in_base n h = grind (arith, nat_tests)
 
-module _ (p : Program) (inst : ℕ) (declared : AdaType → Type 0) (apart : AreApart declared) (shape_of : tree.Object → Shape) (Sees : tree.Object → Type 0) where
+module _ (p : Program) (inst : ℕ) (declared : AdaType → Type 0) (apart : AreApart p declared) (shape_of : tree.Object → Shape) (Sees : tree.Object → Type 0) where
   abbrev Values : Judged → Type 0
   Values x = IsJudged p inst declared shape_of Sees x
 

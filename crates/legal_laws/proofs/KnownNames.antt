@@ -15,9 +15,10 @@ use Rattle.ada_rules.specs.Types.{Identity, AdaType, integer_type, enumeration, 
 use Rattle.ada_rules.specs.Statics.{Spans}
 use Rattle.ada_rules.specs.Entities.{same_name, Variable, Parameter, Routine, Entity, hidden, mark, literal, object, formal_object, routine, raisable, component, test_io, unit, Region, entity_of, found, shown, visible}
 use Rattle.ada_rules.specs.Denoted.{Form, plain, test_form, Judged, valued, Denoted, a_mark, a_value, a_variable, a_routine, a_call, an_exception, a_unit, the_test_io, a_thing, denoted_of, followed_by, part_of, field_of, field_among, component_of, limit_of, extent_of, attribute_of_type, attribute_of_object, static_attribute, object_attribute, attribute_of, expr_of_form, expr_of, converts, conversion_of, element_of, written, by_name, by_value, passed_as, actuals_for, applied_to_one, applied_to, read_of, called, called_bare, value_of}
-use Rattle.legal_laws.specs.Known.{AreApart, IsOrdered, IsKnownType, IsKnownSubtype, IsKnownKind, IsParameter, AreParameters, IsResult, IsRoutine, IsVariable, IsForm, IsJudged, IsDenoted, IsEntity, IsRegion}
+use Rattle.legal_laws.specs.Known.{AreAlikeTypes, AreApart, IsOrdered, IsKnownType, IsKnownSubtype, IsKnownKind, IsParameter, AreParameters, IsResult, IsRoutine, IsVariable, IsForm, IsJudged, IsDenoted, IsEntity, IsRegion}
 use Rattle.legal_laws.proofs.Passing.{both_true, if_then, if_map, if_test, if_not, if_either, if_or}
-use Rattle.legal_laws.proofs.KnownTypes.{order_bounds, low_there, high_there, range_known, type_known, type_is, scalar_fits, converted_discrete, scalar_shape, same_composite, IsFieldAt, field_known}
+use Rattle.legal_laws.proofs.AlikeTypes.{alike_turned}
+use Rattle.legal_laws.proofs.KnownTypes.{order_bounds, low_there, high_there, range_known, type_known, types_alike, scalar_fits, converted_discrete, scalar_shape, same_composite, IsFieldAt, field_known}
 
 pub no_parameters : (p : Program) (inst : ℕ) (declared : AdaType → Type 0) (qs : List ResolvedParameter) (rs : List Parameter)
     → AreParameters p inst declared qs rs → nat_eq (length rs) 0 ≡ true → qs ≡ []
@@ -34,7 +35,7 @@ some_parameter x xs = omega (arith)
 not_false : (b : Bool) → b ≡ false → not b ≡ true
 not_false b h = ap not h
 
-module _ (p : Program) (inst : ℕ) (declared : AdaType → Type 0) (apart : AreApart declared) (shape_of : tree.Object → Shape) (Sees : tree.Object → Type 0) where
+module _ (p : Program) (inst : ℕ) (declared : AdaType → Type 0) (apart : AreApart p declared) (shape_of : tree.Object → Shape) (Sees : tree.Object → Type 0) where
   -- in short
   abbrev Known : AdaType → Type 0
   Known t = IsKnownType p inst declared t
@@ -313,7 +314,7 @@ module _ (p : Program) (inst : ℕ) (declared : AdaType → Type 0) (apart : Are
 
   -- actuals
   composite_actual : (q : ResolvedParameter) (qs : List ResolvedParameter) (r : Parameter) (v : Variable) (rest : tree.Actuals) → IsParameter p inst declared q r
-      → Variables v → is_scalar (type_in r.subtype) ≡ false → type_in r.subtype ≡ type_in v.subtype → Passed qs rest
+      → Variables v → is_scalar (type_in r.subtype) ≡ false → AreAlikeTypes p (type_in r.subtype) (type_in v.subtype) → Passed qs rest
       → Passed (q ∷ qs) (tree.by_composite v.object v.parts rest)
   composite_actual q qs r v rest is known composite same more =
       let shape = is.type.1 composite in (
@@ -325,7 +326,7 @@ module _ (p : Program) (inst : ℕ) (declared : AdaType → Type 0) (apart : Are
             (
               known.parts,
               (
-                known.shape ∙ ap (λ t. shape_in p inst t) (sym (same_composite p inst declared apart r.subtype v.subtype composite same)) ∙ sym shape.1,
+                known.shape ∙ sym (same_composite p inst declared apart r.subtype v.subtype composite same) ∙ sym shape.1,
                 more,
               ),
             ),
@@ -334,7 +335,8 @@ module _ (p : Program) (inst : ℕ) (declared : AdaType → Type 0) (apart : Are
       )
 
   variable_for : (q : ResolvedParameter) (qs : List ResolvedParameter) (r : Parameter) (v : Variable) (rest : tree.Actuals) (b : Bool)
-      → is_scalar (type_in r.subtype) ≡ b → IsParameter p inst declared q r → SetsVariable r.mode → Variables v → type_in r.subtype ≡ type_in v.subtype
+      → is_scalar (type_in r.subtype) ≡ b → IsParameter p inst declared q r → SetsVariable r.mode → Variables v
+      → AreAlikeTypes p (type_in r.subtype) (type_in v.subtype)
       → Passed qs rest
       → Passed (q ∷ qs) (if b then tree.by_variable v.object v.parts (range_in v.subtype) rest else tree.by_composite v.object v.parts rest)
   variable_for q qs r v rest true scalar is sets known same more = (
@@ -348,7 +350,7 @@ module _ (p : Program) (inst : ℕ) (declared : AdaType → Type 0) (apart : Are
           (
             known.parts,
             (
-              subst IsScalar (sym known.shape) (scalar_shape p inst declared apart v.subtype (ap is_scalar (sym same) ∙ scalar)),
+              subst IsScalar (sym known.shape) (scalar_shape p inst declared apart v.subtype (sym same.scalar ∙ scalar)),
               (
                 order_bounds (static_bounds (values_of p) inst (range_in v.subtype)) (range_known p inst declared apart v.subtype known.subtype),
                 more,
@@ -366,12 +368,12 @@ module _ (p : Program) (inst : ℕ) (declared : AdaType → Type 0) (apart : Are
   named_actual q qs r rest v is sets known more =
       if_test (Passed (q ∷ qs)) (v.is_writable && same_type (type_in v.subtype) (type_in r.subtype)) (Some (written (type_in r.subtype) v rest))
       (λ may. variable_for q qs r v rest (is_scalar (type_in r.subtype)) refl is sets known
-      (sym (type_is p inst declared apart (type_in v.subtype) (type_in r.subtype) (type_known p inst declared apart v.subtype known.subtype)
+      (alike_turned p (type_in v.subtype) (type_in r.subtype) (types_alike p inst declared apart (type_in v.subtype) (type_in r.subtype) (type_known p inst declared apart v.subtype known.subtype)
       (type_known p inst declared apart r.subtype is.subtype) (both_true v.is_writable (same_type (type_in v.subtype) (type_in r.subtype)) may).1)) more)
 
-  -- of what fits the type of a composite parameter, the variable has the type
-  variable_type : (t : AdaType) (k : Kind) (u : AdaType) → Known t → Known u → k ≡ kind_of u → fits t k ≡ true → t ≡ u
-  variable_type t k u h g is fit = type_is p inst declared apart t u h g (subst (λ x. fits t x ≡ true) is fit)
+  -- what fits the type of a composite parameter is a variable of a type that is alike
+  variable_type : (t : AdaType) (k : Kind) (u : AdaType) → Known t → Known u → k ≡ kind_of u → fits t k ≡ true → AreAlikeTypes p t u
+  variable_type t k u h g is fit = types_alike p inst declared apart t u h g (subst (λ x. fits t x ≡ true) is fit)
 
   value_actual : (q : ResolvedParameter) (qs : List ResolvedParameter) (r : Parameter) (x : Judged) (rest : tree.Actuals) (b : Bool)
       → is_scalar (type_in r.subtype) ≡ b → IsParameter p inst declared q r → r.mode ≡ in_mode → Values x → fits (type_in r.subtype) x.kind ≡ true

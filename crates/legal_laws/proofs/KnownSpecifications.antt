@@ -130,7 +130,7 @@ module _ (p : Program) (facts : List Facts) (has : HaveFacts p.instances facts) 
       (parameters_counted (with_local env (parameter_objects (mode_of q.mode) t.value.subtype t.next.objects names q.names)) (with_parameters q t) at qs)
       (λ rest h. counted_on env.generic s q t rest only h))))
 
-  module _ (types : AdaType → Type 0) (apart : AreApart types) where
+  module _ (types : AdaType → Type 0) (apart : AreApart p types) where
     abbrev Places : Env → Type 0
     Places env = IsEnv p inst types shapes Starts env
 

@@ -35,7 +35,7 @@ use Rattle.legal_laws.proofs.KnownExpressions.{judged_known, mark_part_known, sc
 use Rattle.legal_laws.proofs.KeptExpressions.{judged_behind, mark_part_behind, scalar_mark_behind}
 
 module _ (p : Program) (facts : List Facts) (has : HaveFacts p.instances facts) (are : Everywhere AreFactsInBase facts) (inst : ℕ)
-    (declared : AdaType → Type 0) (apart : AreApart declared) (shape_of : tree.Object → Shape) (Sees : tree.Object → Type 0)
+    (declared : AdaType → Type 0) (apart : AreApart p declared) (shape_of : tree.Object → Shape) (Sees : tree.Object → Type 0)
     (env : Env) (is : IsEnv p inst declared shape_of Sees env) (world : Everywhere AreFactsInBase env.world.instances) where
   -- in short
   abbrev Final : State → Type 0

@@ -1,5 +1,5 @@
--- Types that are known: equal where their identities are, with the bounds and shapes that the typed program wants.
-use Rattle.std.proofs.Common.{◌≡◌, ℕ, suc, ◌+◌, Bool, true, false, if◌then◌else◌, Option, Some, None, option_map, IfSome, refl, sym, ap, ◌∙◌, subst, arith, ◌⊎◌, inl, inr}
+-- Types that are known: alike where their identities are equal, with the bounds and shapes that the typed program wants.
+use Rattle.std.proofs.Common.{◌≡◌, ℕ, suc, ◌+◌, Bool, true, false, if◌then◌else◌, Option, Some, None, option_map, IfSome, refl, sym, ◌∙◌, subst, arith, ◌⊎◌, inl, inr}
 use Rattle.std.specs.Prelude.{◌&&◌, ◌||◌, List, int_le}
 use Rattle.std.proofs.lemmas.Bool.{false≢true}
 use Rattle.ada_meaning.specs.Program.{Bounds, Program}
@@ -13,7 +13,7 @@ use Rattle.ada_rules.specs.Types.{AdaType, integer_type, enumeration, formal_typ
 use Rattle.ada_rules.specs.Entities.{same_name}
 use Rattle.ada_rules.specs.Denoted.{field_among, converts}
 use Rattle.legal_laws.specs.Valued.{AreOrdered}
-use Rattle.legal_laws.specs.Known.{AreApart, HasField, IsOrdered, IsKnownType, IsKnownSubtype, AreKnownFields, IsKnownKind}
+use Rattle.legal_laws.specs.Known.{AreAlikeTypes, AreApart, HasField, IsOrdered, IsKnownType, IsKnownSubtype, AreKnownFields, IsKnownKind}
 use Rattle.legal_laws.proofs.Passing.{both_true, either_true, if_test}
 
 -- bounds
@@ -45,7 +45,7 @@ integral_discrete (kind_of (formal_type i k b)) h = refl
 integral_discrete (kind_of (array_type i x c)) h = absurd (false≢true h)
 integral_discrete (kind_of (record_type i fs)) h = absurd (false≢true h)
 
-module _ (p : Program) (inst : ℕ) (declared : AdaType → Type 0) (apart : AreApart declared) where
+module _ (p : Program) (inst : ℕ) (declared : AdaType → Type 0) (apart : AreApart p declared) where
   abbrev Known : AdaType → Type 0
   Known t = IsKnownType p inst declared t
 
@@ -68,17 +68,17 @@ module _ (p : Program) (inst : ℕ) (declared : AdaType → Type 0) (apart : Are
   in_types (array_type i x c) h = h.0
   in_types (record_type i fs) h = h.0
 
-  pub type_is : (t u : AdaType) → Known t → Known u → same_type t u ≡ true → t ≡ u
-  type_is t u h k same = apart t u (in_types t h) (in_types u k) same
+  pub types_alike : (t u : AdaType) → Known t → Known u → same_type t u ≡ true → AreAlikeTypes p t u
+  types_alike t u h k same = apart t u (in_types t h) (in_types u k) same
 
   -- what fits
   pub scalar_fits : (t : AdaType) (k : Kind) → Known t → KnownKind k → is_scalar t ≡ true → fits t k ≡ true → is_discrete k ≡ true
   scalar_fits t universal h known scalar fit = refl
-  scalar_fits t (kind_of u) h known scalar fit = ap is_scalar (sym (type_is t u h known fit)) ∙ scalar
+  scalar_fits t (kind_of u) h known scalar fit = sym (types_alike t u h known fit).scalar ∙ scalar
 
   pub boolean_scalar : declared boolean_type → (k : Kind) → KnownKind k → is_boolean k ≡ true → is_discrete k ≡ true
   boolean_scalar booleans universal known is = absurd (false≢true is)
-  boolean_scalar booleans (kind_of t) known is = ap is_scalar (type_is t boolean_type known booleans is)
+  boolean_scalar booleans (kind_of t) known is = (types_alike t boolean_type known booleans is).scalar
 
   by_either : (t : AdaType) (k : Kind) → Known t → KnownKind k → is_scalar t ≡ true → ((is_integer t && is_integral k) ≡ true) ⊎ (fits t k ≡ true)
       → is_discrete k ≡ true
@@ -105,7 +105,7 @@ module _ (p : Program) (inst : ℕ) (declared : AdaType → Type 0) (apart : Are
       if_test (IsCommon (kind_of t) universal) (is_integer t) (Some (kind_of t)) (λ i. record { known = h; left = λ d. d; right = λ d. refl; both = λ d f. d })
   common_known (kind_of t) (kind_of u) h g =
       if_test (IsCommon (kind_of t) (kind_of u)) (same_type t u) (Some (kind_of t))
-      (λ same. record { known = h; left = λ d. d; right = λ d. ap is_scalar (sym (type_is t u h g same)) ∙ d; both = λ d f. d })
+      (λ same. record { known = h; left = λ d. d; right = λ d. sym (types_alike t u h g same).scalar ∙ d; both = λ d f. d })
 
   -- shapes of types
   pub scalar_shape : (t : AdaSubtype) → is_scalar (type_in t) ≡ true → IsScalar (shape_in p inst (subtype_in_tree t))
@@ -115,16 +115,9 @@ module _ (p : Program) (inst : ℕ) (declared : AdaType → Type 0) (apart : Are
   scalar_shape (of_type (array_type i x c) r) h = absurd (false≢true h)
   scalar_shape (of_type (record_type i fs) r) h = absurd (false≢true h)
 
-  -- a composite type has no constraints
-  unconstrained : (t : AdaType) (r s : Range) → is_scalar t ≡ false → type_in_tree t r ≡ type_in_tree t s
-  unconstrained (integer_type i) r s h = absurd (false≢true (sym h))
-  unconstrained (enumeration i n) r s h = absurd (false≢true (sym h))
-  unconstrained (formal_type i k b) r s h = absurd (false≢true (sym h))
-  unconstrained (array_type i x c) r s h = refl
-  unconstrained (record_type i fs) r s h = refl
-
-  pub same_composite : (t u : AdaSubtype) → is_scalar (type_in t) ≡ false → type_in t ≡ type_in u → subtype_in_tree t ≡ subtype_in_tree u
-  same_composite (of_type t r) (of_type u s) h same = unconstrained t r s h ∙ ap (λ x. type_in_tree x s) same
+  pub same_composite : (t u : AdaSubtype) → is_scalar (type_in t) ≡ false → AreAlikeTypes p (type_in t) (type_in u)
+      → shape_in p inst (subtype_in_tree t) ≡ shape_in p inst (subtype_in_tree u)
+  same_composite (of_type t r) (of_type u s) h alike = alike.shape h inst r s
 
   -- components by their names
   pub record IsFieldAt (ss : Shapes) (n : ℕ) (f : ℕ × AdaSubtype) : Type 0 where

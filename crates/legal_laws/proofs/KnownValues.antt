@@ -26,12 +26,12 @@ use Rattle.ada_rules.specs.Statements.{any_variable, writable, target, Selector,
 use Rattle.legal_laws.specs.Kept.{OnlyDecides}
 use Rattle.legal_laws.specs.Known.{AreApart, IsKnownSubtype, IsKnownKind, IsVariable, IsJudged, IsDenoted, IsEnv}
 use Rattle.legal_laws.proofs.Passing.{if_then, if_map, if_test, if_not, if_each, answered, part_so, typed_so, both_ok}
-use Rattle.legal_laws.proofs.KnownTypes.{order_bounds, range_known, type_known, type_is, scalar_fits, scalar_shape, same_composite, IsCommon, common_known}
+use Rattle.legal_laws.proofs.KnownTypes.{order_bounds, range_known, type_known, types_alike, scalar_fits, scalar_shape, same_composite, IsCommon, common_known}
 use Rattle.legal_laws.proofs.KnownNames.{expr_known}
 use Rattle.legal_laws.proofs.KnownExpressions.{denoted_known, judged_known, scalar_mark_known}
 use Rattle.legal_laws.proofs.KeptExpressions.{denoted_behind, judged_behind, scalar_mark_behind, only_both}
 
-module _ (p : Program) (inst : ℕ) (declared : AdaType → Type 0) (apart : AreApart declared) (shape_of : tree.Object → Shape) (Sees : tree.Object → Type 0) where
+module _ (p : Program) (inst : ℕ) (declared : AdaType → Type 0) (apart : AreApart p declared) (shape_of : tree.Object → Shape) (Sees : tree.Object → Type 0) where
   abbrev KnownSubtype : AdaSubtype → Type 0
   KnownSubtype t = IsKnownSubtype p inst declared t
 
@@ -73,14 +73,14 @@ module _ (p : Program) (inst : ℕ) (declared : AdaType → Type 0) (apart : Are
   composite_set : (t : AdaSubtype) (v : Variable) (k : Kind) → KnownSubtype t → Variables v → k ≡ kind_of (type_in v.subtype) → is_scalar (type_in t) ≡ false
       → fits (type_in t) k ≡ true → IsSet t (tree.composite_value (subtype_in_tree t) v.object v.parts)
   composite_set t v k known variable is composite fit =
-      let same = type_is p inst declared apart (type_in t) (type_in v.subtype) (type_known p inst declared apart t known)
+      let same = types_alike p inst declared apart (type_in t) (type_in v.subtype) (type_known p inst declared apart t known)
       (type_known p inst declared apart v.subtype variable.subtype) (subst (λ x. fits (type_in t) x ≡ true) is fit) in
       record {
         value = (
           variable.visible,
           (
             variable.parts,
-            (variable.shape ∙ ap (shape_in p inst) (sym (same_composite p inst declared apart t v.subtype composite same)), refl),
+            (variable.shape ∙ sym (same_composite p inst declared apart t v.subtype composite same), refl),
           ),
         );
         shape = refl;

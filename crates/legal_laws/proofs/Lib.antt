@@ -1,6 +1,7 @@
 pub mod Passing
 pub mod Demands
 pub mod Values
+pub mod AlikeTypes
 pub mod KnownTypes
 pub mod KnownBounds
 mod KnownNames

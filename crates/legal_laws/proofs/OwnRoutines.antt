@@ -18,7 +18,7 @@ use Rattle.legal_laws.proofs.Giving.{returns_value}
 use Rattle.legal_laws.proofs.KnownDeclarations.{own_instance}
 use Rattle.legal_laws.proofs.KnownTypes.{scalar_shape}
 
-module _ (p : Program) (inst : ℕ) (types : AdaType → Type 0) (apart : AreApart types) where
+module _ (p : Program) (inst : ℕ) (types : AdaType → Type 0) (apart : AreApart p types) where
   composite_shape : (t : AdaSubtype) → is_scalar (type_in t) ≡ false → IsComposite (shape_in p inst (subtype_in_tree t))
   composite_shape (of_type (integer_type i) r) h = absurd (false≢true (sym h))
   composite_shape (of_type (enumeration i n) r) h = absurd (false≢true (sym h))

@@ -13,6 +13,7 @@ use Rattle.ada_rules.specs.Library.{library_of}
 use Rattle.ada_rules.specs.Units.{world_before, env_of}
 use Rattle.legal_laws.specs.Known.{AreApart, IsOneOf, IsKnownSubtype, IsOfType, IsRegion}
 use Rattle.legal_laws.specs.Standing.{Stands}
+use Rattle.legal_laws.proofs.AlikeTypes.{alike_equal}
 
 module _ (p : Program) (inst : ℕ) (types : AdaType → Type 0) (integers : types (integer_type integer)) (booleans : types boolean_type)
     (shape_of : tree.Object → Shape) (Sees : tree.Object → Type 0) where
@@ -59,16 +60,16 @@ module _ (p : Program) (inst : ℕ) (types : AdaType → Type 0) (integers : typ
 abbrev pub predefined_types : List AdaType
 predefined_types = integer_type integer ∷ boolean_type ∷ []
 
-predefined_apart : AreApart (IsOneOf predefined_types)
-predefined_apart t u (inl h) (inl k) same = sym h ∙ k
-predefined_apart t u (inl h) (inr (inl k)) same =
+predefined_apart : (p : Program) → AreApart p (IsOneOf predefined_types)
+predefined_apart p t u (inl h) (inl k) same = alike_equal p t u (sym h ∙ k)
+predefined_apart p t u (inl h) (inr (inl k)) same =
     absurd (false≢true (subst (λ x. same_type (integer_type integer) x ≡ true) (sym k) (subst (λ x. same_type x u ≡ true) (sym h) same)))
-predefined_apart t u (inr (inl h)) (inl k) same =
+predefined_apart p t u (inr (inl h)) (inl k) same =
     absurd (false≢true (subst (λ x. same_type boolean_type x ≡ true) (sym k) (subst (λ x. same_type x u ≡ true) (sym h) same)))
-predefined_apart t u (inr (inl h)) (inr (inl k)) same = sym h ∙ k
-predefined_apart t u (inr (inr h)) k same = absurd h
-predefined_apart t u (inl h) (inr (inr k)) same = absurd k
-predefined_apart t u (inr (inl h)) (inr (inr k)) same = absurd k
+predefined_apart p t u (inr (inl h)) (inr (inl k)) same = alike_equal p t u (sym h ∙ k)
+predefined_apart p t u (inr (inr h)) k same = absurd h
+predefined_apart p t u (inl h) (inr (inr k)) same = absurd k
+predefined_apart p t u (inr (inl h)) (inr (inr k)) same = absurd k
 
 -- predefined types are declared in no unit
 abbrev is_declared : Identity → Bool
@@ -92,7 +93,7 @@ first_stands p shape_of seen = record {
     test_io = test_io_known p 0 (IsOneOf predefined_types) (inl refl) (inr (inl refl)) shape_of (IsOneOf seen);
   };
   world = tt;
-  apart = predefined_apart;
+  apart = predefined_apart p;
   older = none_declared;
   counted = refl;
   alone = λ h. refl;

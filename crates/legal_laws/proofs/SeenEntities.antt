@@ -27,7 +27,7 @@ given_scalar (Some (type_actual (of_type (formal_type i k b) r))) = refl
 given_scalar (Some (type_actual (of_type (array_type i x c) r))) = refl
 given_scalar (Some (type_actual (of_type (record_type i fs) r))) = refl
 
-scalar_seen : (k : ℕ) (actuals : List Actual) (t : AdaType) → is_scalar (type_seen k actuals t) ≡ is_scalar t
+pub scalar_seen : (k : ℕ) (actuals : List Actual) (t : AdaType) → is_scalar (type_seen k actuals t) ≡ is_scalar t
 scalar_seen k actuals (integer_type i) = refl
 scalar_seen k actuals (enumeration i n) = refl
 scalar_seen k actuals (formal_type i j b) = given_scalar (slice_get actuals j)

@@ -9,7 +9,7 @@ use Rattle.ada_meaning.specs.Statics.{static_value, static_bounds, values_of}
 use Rattle.ada_meaning.specs.Tree as tree
 use Rattle.ada_meaning.specs.Types.{Range, static_length}
 use Rattle.ada_meaning.specs.WellFormed.{IsInBase, HasNumber, IsScalar, IsComposite, part_shape, IsCallable, IsNumber, IsException, IsExpr, IsTest, AreParts, AreActuals}
-use Rattle.ada_rules.specs.Types.{integer, AdaType, integer_type, enumeration, formal_type, array_type, record_type, AdaSubtype, of_type, Fields, no_field, and_field, type_in, range_in, same_type, boolean_type, is_scalar, Kind, universal, kind_of, is_discrete, subtype_in_tree}
+use Rattle.ada_rules.specs.Types.{integer, AdaType, integer_type, enumeration, formal_type, array_type, record_type, AdaSubtype, of_type, Fields, no_field, and_field, type_in, range_in, same_type, boolean_type, is_scalar, Kind, universal, kind_of, is_discrete, subtype_in_tree, type_in_tree}
 use Rattle.ada_rules.specs.Entities.{Variable, Parameter, Routine, Entity, hidden, mark, literal, object, formal_object, routine, raisable, component, test_io, unit, Region}
 use Rattle.ada_rules.specs.Environment.{typing, Env, regions_of, interface_of}
 use Rattle.ada_rules.specs.Denoted.{Form, plain, test_form, Judged, Denoted, a_mark, a_value, a_variable, a_routine, a_call, an_exception, a_unit, the_test_io, a_thing}
@@ -30,9 +30,16 @@ abbrev pub HasField : Fields → Type 0
 HasField no_field = ⊥
 HasField (and_field name t fs) = Unit {0}
 
--- types are known by their identities
-abbrev pub AreApart : (AdaType → Type 0) → Type 0
-AreApart declared = (t u : AdaType) → declared t → declared u → same_type t u ≡ true → t ≡ u
+-- types that code cannot tell apart: both are scalar, or objects of both have one shape in every instance
+pub record AreAlikeTypes (p : Program) (t u : AdaType) : Type 0 where
+  pub scalar : is_scalar t ≡ is_scalar u
+  pub shape : is_scalar t ≡ false → (inst : ℕ) (r s : Range)
+      → shape_in p inst (type_in_tree t r) ≡ shape_in p inst (type_in_tree u s)
+
+-- Types are known by their identities: what is seen through an instance has other terms than where it is declared, and
+-- is alike.
+abbrev pub AreApart : Program → (AdaType → Type 0) → Type 0
+AreApart p declared = (t u : AdaType) → declared t → declared u → same_type t u ≡ true → AreAlikeTypes p t u
 
 -- in this instance, where these types were declared so far
 module _ (p : Program) (inst : ℕ) (declared : AdaType → Type 0) where

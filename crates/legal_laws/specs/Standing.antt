@@ -27,7 +27,7 @@ pub record Stands (p : Program) (inst : ℕ) (shape_of : Object → Shape) (decl
     (Sees : Object → Type 0) (env : Env) (s : State) : Type 0 where
   pub place : IsEnv p inst declared shape_of Sees env
   pub world : Everywhere AreFactsInBase env.world.instances
-  pub apart : AreApart declared
+  pub apart : AreApart p declared
   pub older : AreOlder declared env s
   pub counted : s.objects ≡ length s.words
   pub alone : env.generic ≡ None → inst ≡ 0

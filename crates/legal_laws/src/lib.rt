@@ -75,11 +75,11 @@ pub fn demands_give_values()
 #[tactic(auto, using(crate::proofs::KnownExpressions::denoted_known, crate::proofs::KnownExpressions::judged_known))]
 pub fn names_and_expressions_are_well_formed()
     ensures names { (p : Program) (inst : ℕ) (types : List AdaType) (shape_of : Object → Shape) (seen : List Object)
-        (env : Env) → AreApart (IsOneOf types) → IsEnv p inst (IsOneOf types) shape_of (IsOneOf seen) env
+        (env : Env) → AreApart p (IsOneOf types) → IsEnv p inst (IsOneOf types) shape_of (IsOneOf seen) env
         → (s : State) (n : Name)
         → IfOk (denoted env s n).answer (λ g. IsDenoted p inst (IsOneOf types) shape_of (IsOneOf seen) g.value) }
     ensures expressions { (p : Program) (inst : ℕ) (types : List AdaType) (shape_of : Object → Shape)
-        (seen : List Object) (env : Env) → AreApart (IsOneOf types)
+        (seen : List Object) (env : Env) → AreApart p (IsOneOf types)
         → IsEnv p inst (IsOneOf types) shape_of (IsOneOf seen) env → (r : Role) (s : State) (e : Expr)
         → IfOk (judged env r s e).answer (λ g. IsJudged p inst (IsOneOf types) shape_of (IsOneOf seen) g.value) }
 {}

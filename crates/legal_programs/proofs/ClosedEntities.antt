@@ -61,7 +61,7 @@ module _ (p : Program) (i j : ℕ) where
   range_closed (of_type t r) h = h.0
 
   mutual
-    shape_anywhere : (t : AdaSubtype) → IsClosedSubtype t → shape_in p i (subtype_in_tree t) ≡ shape_in p j (subtype_in_tree t)
+    pub shape_anywhere : (t : AdaSubtype) → IsClosedSubtype t → shape_in p i (subtype_in_tree t) ≡ shape_in p j (subtype_in_tree t)
     shape_anywhere (of_type t r) h = type_anywhere t r h.0 h.1
 
     type_anywhere : (t : AdaType) (r : Range) → IsClosedRange r → IsClosedType t → shape_in p i (type_in_tree t r) ≡ shape_in p j (type_in_tree t r)
@@ -183,7 +183,7 @@ module _ (k : ℕ) (actuals : List Actual) where
   range_seen_closed (range_of n r) = tt
 
   mutual
-    type_seen_closed : (t : AdaType) → IsClosedType (type_seen k actuals t)
+    pub type_seen_closed : (t : AdaType) → IsClosedType (type_seen k actuals t)
     type_seen_closed (integer_type i) = tt
     type_seen_closed (enumeration i n) = tt
     type_seen_closed (formal_type i j b) = given_closed (slice_get actuals j)

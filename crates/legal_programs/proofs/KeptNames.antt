@@ -85,7 +85,7 @@ module _ (m : List ℕ) (kept : Entity) where
   abbrev DefinedHas : Given Defined → Type 0
   DefinedHas x = Has x.value.region
 
-  defined_has : (env : Env) (s : State) (q : Pos) (i : Identity) (d : TypeDefinition) → Has env.local → IfOk (defined env s q i d).answer DefinedHas
+  pub defined_has : (env : Env) (s : State) (q : Pos) (i : Identity) (d : TypeDefinition) → Has env.local → IfOk (defined env s q i d).answer DefinedHas
   defined_has env s q i (definition.Integer b) all =
       answered DefinedHas q _
       (part_so (λ r. Unit {0}) DefinedHas (bounded env s is_integral base b).answer

@@ -1,4 +1,5 @@
--- A subprogram that a package declares is backed by the subprogram that its body makes: this has its parameters, and gives a result where it has one.
+-- A subprogram that a package or a generic declares is backed by the subprogram that its body makes: this has its parameters, and gives a result where it
+-- has one.
 use Rattle.std.proofs.Common.{◌≡◌, ◌+◌, ℕ, zero, suc, Bool, true, false, if◌then◌else◌, List, [], ◌∷◌, ◌++◌, length, reverse, Option, Some, None, option_map, IfSome, Ok, slice_get, refl, sym, ap, ◌∙◌, subst, arith}
 use Rattle.std.proofs.lemmas.Bool.{false≢true}
 use Rattle.cov_base.specs.Lists.{Everywhere}
@@ -19,7 +20,7 @@ use Rattle.ada_rules.specs.Environment.{typing, BodyName, Returning, no_result, 
 use Rattle.ada_rules.specs.Declarations.{declared}
 use Rattle.ada_rules.specs.Library.{body_names}
 use Rattle.ada_rules.specs.Library.{Library}
-use Rattle.ada_rules.specs.Subprograms.{Profile, specified, returning_of, typed_parameters, subprogram_declared, to_complete, conforms, body_judged, routine_of, with_routine, packaged_body}
+use Rattle.ada_rules.specs.Subprograms.{Profile, specified, returning_of, typed_parameters, subprogram_declared, to_complete, conforms, routine_of, packaged_body}
 use Rattle.ada_rules.specs.Units.{package_item, body_items}
 use Rattle.legal_laws.proofs.Giving.{returns_value}
 use Rattle.legal_laws.proofs.Passing.{answered}
@@ -28,22 +29,24 @@ use Rattle.legal_programs.specs.Homes.{IsOtherName, AreNamedApart}
 use Rattle.legal_programs.specs.Walked.{IsLegal}
 use Rattle.legal_programs.proofs.Adding.{Add, AddsOn, declaration_adds}
 use Rattle.legal_programs.proofs.DecidedUnits.{every_at}
-use Rattle.legal_programs.proofs.Extending.{specified_adds, subprogram_adds, extends_both, packaged_adds, body_items_add}
+use Rattle.legal_programs.proofs.Extending.{subprogram_adds, extends_both, packaged_adds, body_items_add}
 use Rattle.legal_programs.proofs.KeptNames.{Has, Apart, RegionHas, in_front, not_same, hidden_has, redefined_has, declared_has}
 use Rattle.legal_programs.proofs.MainUnit.{name_is, name_same, made_stays, made_last}
 use Rattle.legal_programs.proofs.NamedBodies.{named_apart}
 use Rattle.legal_programs.proofs.Passed.{of_ok, passed_test}
 use Rattle.legal_texts.specs.Told.{Table, IsToldEntity, IsToldRegion, TellsBehind, IsToldPlace, IsAsDeclared}
-use Rattle.legal_texts.proofs.MadeBodies.{IsMade, judged_made}
+use Rattle.legal_texts.proofs.MadeBodies.{IsMade}
+use Rattle.legal_texts.proofs.OfText.{packaged_makes}
 use Rattle.legal_texts.proofs.PackageNumbers.{nothing_at}
 use Rattle.legal_texts.proofs.PackageParts.{IsDeclaredThere, declared_there, IsPackaged, packaged_there, completes_to, body_step_of, declaration_step, subprogram_step, body_step}
 use Rattle.legal_texts.proofs.ToldDeclarations.{conforming_is}
 use Rattle.legal_texts.proofs.ToldItems.{Specified, specified_so, profile_told, next_place, item_tells, packaged_tells}
 
-pub record IsBackedAt (p : Program) (n : ℕ) (r : Routine) : Type 0 where
+-- by a subprogram that stands in this generic, or in none
+pub record IsBackedAt (p : Program) (o : Option ℕ) (n : ℕ) (r : Routine) : Type 0 where
   pub sub : Subprogram
   pub here : slice_get p.subprograms n ≡ Some sub
-  pub stands : sub.generic ≡ None
+  pub stands : sub.generic ≡ o
   pub parameters : typed_parameters 0 r.parameters ≡ sub.parameters
   pub gives : is_function sub ≡ returns_value (returning_of r.result)
 
@@ -127,13 +130,7 @@ module _ (l : Library) (main : List ℕ) (p : Program) (legal : IsLegal l main p
   -- a body in a package
   pub packaged_made : (env : Env) → env.step ≡ typing → (s : State) (b : SubprogramBody) (g : Given Region) (h : IsPackaged env s b g)
       → IsMade env.generic h.profile.value s g.next
-  packaged_made env step s b g h =
-      let region = with_routine env h.region b.specification.name h.profile.value in
-      let name = key b.specification.name in
-      subst (λ (r : Given Region). IsMade env.generic h.profile.value s r.next) h.is
-      (of_ok (IsMade env.generic h.profile.value s) (body_judged env s b region name h.profile).answer h.next h.judged
-      (judged_made env step s b region name h.profile
-      (of_ok (Add s) (specified (with_local env h.region) s b.specification).answer h.profile h.specifies (specified_adds (with_local env h.region) s b.specification))))
+  packaged_made env step s b g h = packaged_makes env step s b g h
 
   module _ (name : List ℕ) (r : Routine) where
     abbrev Kept : Region → Type 0
@@ -155,11 +152,12 @@ module _ (l : Library) (main : List ℕ) (p : Program) (legal : IsLegal l main p
         let told = profile_told table h.profile.value marked.0 in
         conforming_is table r h.profile.value (found_so (IsToldEntity table) name env.local (routine r) is.local has) told.0 told.1 fits
 
-    backed_by : (env : Env) (q : Profile) (s t : State) → env.generic ≡ None → (made : IsMade env.generic q s t) → Extends t last → IsAsDeclared r q → IsBackedAt p (length s.subprograms) r
-    backed_by env q s t none made more same = record {
+    backed_by : (env : Env) (q : Profile) (s t : State) → (made : IsMade env.generic q s t) → Extends t last → IsAsDeclared r q
+        → IsBackedAt p env.generic (length s.subprograms) r
+    backed_by env q s t made more same = record {
       sub = made.made;
       here = made_here (length s.subprograms) s t made.made made.is_made more refl;
-      stands = made.stands ∙ none;
+      stands = made.stands;
       parameters = same.parameters 0 ∙ made.parameters;
       gives = made.gives ∙ ap returns_value (sym (returning_same r.result q.result same.result));
     }
@@ -170,19 +168,19 @@ module _ (l : Library) (main : List ℕ) (p : Program) (legal : IsLegal l main p
         (λ e. false≢true (sym other ∙ (ap (same_name (key i)) (same ∙ name_is name (key i) e) ∙ name_same (key i))))
 
     pub body_backed : (table : Table) (unit_name : List ℕ) (env : Env) (s : State) (q : Pos) (items : List BodyItem) (g : Given Region) → (body_items env s q items).answer ≡ Ok g
-        → Extends g.next last → env.generic ≡ None → IsToldPlace table env s → Kept env.local → (j : ℕ) (one : BodyName)
-        → slice_get (body_names unit_name items) j ≡ Some one → one.name ≡ name → IsBackedAt p (length s.subprograms + j) r
-    body_backed table unit_name env s q [] g h more none is has j one at same = absurd (nothing_at j one at)
-    body_backed table unit_name env s q (item.Declared i ∷ items) g h more none is has j one at same =
+        → Extends g.next last → IsToldPlace table env s → Kept env.local → (j : ℕ) (one : BodyName)
+        → slice_get (body_names unit_name items) j ≡ Some one → one.name ≡ name → IsBackedAt p env.generic (length s.subprograms + j) r
+    body_backed table unit_name env s q [] g h more is has j one at same = absurd (nothing_at j one at)
+    body_backed table unit_name env s q (item.Declared i ∷ items) g h more is has j one at same =
         let step = body_step_of env s q (item.Declared i) items g h in
         let first = step.first in
         let tells = of_ok (TellsBehind table env) (construct q (package_item env s i)).answer first step.is
         (answered (TellsBehind table env) q (package_item env s i).outcome (item_tells table env s is i)) in
         let count : length first.next.subprograms ≡ length s.subprograms = ap length (item_adds env s q i first step.is).subprograms in
-        subst (λ k. IsBackedAt p (k + j) r) count
-        (body_backed tells.table unit_name (with_local env first.value) first.next q items g step.rest more none (next_place table env s first is tells)
+        subst (λ k. IsBackedAt p env.generic (k + j) r) count
+        (body_backed tells.table unit_name (with_local env first.value) first.next q items g step.rest more (next_place table env s first is tells)
         (item_has name (routine r) env s q i first step.is has) j one at same)
-    body_backed table unit_name env s q (item.Body b ∷ items) g h more none is has zero one at same =
+    body_backed table unit_name env s q (item.Body b ∷ items) g h more is has zero one at same =
         let step = body_step_of env s q (item.Body b) items g h in
         let first = step.first in
         let there = packaged_there env s b first (body_step env s q b first step.is) in
@@ -190,14 +188,14 @@ module _ (l : Library) (main : List ℕ) (p : Program) (legal : IsLegal l main p
         (body_items_add unit_name (with_local env first.value) first.next q items) in
         let name_of : key b.specification.name ≡ name = ap (λ (o : Option BodyName). name_or o) at ∙ same in
         let count : length s.subprograms + 0 ≡ length s.subprograms = omega (arith) in
-        subst (λ k. IsBackedAt p k r) (sym count)
-        (backed_by env there.profile.value s first.next none (packaged_made env is.place.step s b first there) (extends_both first.next g.next last adds.extends more)
+        subst (λ k. IsBackedAt p env.generic k r) (sym count)
+        (backed_by env there.profile.value s first.next (packaged_made env is.place.step s b first there) (extends_both first.next g.next last adds.extends more)
         (conforms_to table env s b first is there name_of has))
       where
         name_or : Option BodyName → List ℕ
         name_or None = []
         name_or (Some x) = x.name
-    body_backed table unit_name env s q (item.Body b ∷ items) g h more none is has (suc j) one at same =
+    body_backed table unit_name env s q (item.Body b ∷ items) g h more is has (suc j) one at same =
         let step = body_step_of env s q (item.Body b) items g h in
         let first = step.first in
         let passes = body_step env s q b first step.is in
@@ -211,6 +209,6 @@ module _ (l : Library) (main : List ℕ) (p : Program) (legal : IsLegal l main p
         (every_at (IsOtherName (key b.specification.name)) (body_names unit_name items) j apart.0) in
         let more_now = adds.subprograms in
         let count : length first.next.subprograms + j ≡ length s.subprograms + suc j = omega (arith, more_now) in
-        subst (λ k. IsBackedAt p k r) count
-        (body_backed tells.table unit_name (with_local env first.value) first.next q items g step.rest more none (next_place table env s first is tells)
+        subst (λ k. IsBackedAt p env.generic k r) count
+        (body_backed tells.table unit_name (with_local env first.value) first.next q items g step.rest more (next_place table env s first is tells)
         (packaged_has name (routine r) env s b first there (apart_of b.specification.name one same other) has) j one at same)

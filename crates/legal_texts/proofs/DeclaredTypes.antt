@@ -2,6 +2,7 @@
 use Rattle.std.proofs.Common.{List, [], ◌∷◌, sym, inl, inr, subst}
 use Rattle.std.specs.Prelude.{◌⊎◌}
 use Rattle.cov_base.specs.Lists.{Everywhere}
+use Rattle.ada_meaning.specs.Program.{Program}
 use Rattle.ada_rules.specs.Types.{AdaType}
 use Rattle.legal_laws.specs.Known.{AreApart, IsOneOf}
 use Rattle.legal_laws.specs.Standing.{with_type, with_types}
@@ -39,11 +40,11 @@ pub more_types : (ts us : List AdaType) (t : AdaType) → IsOneOf ts t → IsOne
 more_types ts [] t h = h
 more_types ts (u ∷ us) t h = more_types (u ∷ ts) us t (inr h)
 
-pub apart_list : (ts us : List AdaType) → AreApart (with_types (IsOneOf ts) us) → AreApart (IsOneOf (added ts us))
-apart_list ts us apart t u h k same = apart t u (from_list ts us t h) (from_list ts us u k) same
+pub apart_list : (p : Program) (ts us : List AdaType) → AreApart p (with_types (IsOneOf ts) us) → AreApart p (IsOneOf (added ts us))
+apart_list p ts us apart t u h k same = apart t u (from_list ts us t h) (from_list ts us u k) same
 
 -- one of those before, or a new one
-either_type : (P Q : AdaType → Type 0) (us : List AdaType) → Everywhere Q us → (t : AdaType) → with_types P us t → P t ⊎ Q t
+pub either_type : (P Q : AdaType → Type 0) (us : List AdaType) → Everywhere Q us → (t : AdaType) → with_types P us t → P t ⊎ Q t
 either_type P Q [] all t h = inl h
 either_type P Q (u ∷ us) all t h = of_one (either_type (with_type P u) Q us all.1 t h)
   where

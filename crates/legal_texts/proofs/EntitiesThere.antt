@@ -1,5 +1,5 @@
--- What is known outside subprograms is known in the text of each subprogram, where regions declare whole objects.
-use Rattle.std.proofs.Common.{◌≡◌, List, Option, Some, None, IfSome, refl, sym, ap, ◌∙◌, subst}
+-- What is known outside subprograms in an instance is known there in the text of each subprogram, where regions declare whole objects.
+use Rattle.std.proofs.Common.{◌≡◌, ℕ, List, Option, Some, None, IfSome, refl, sym, ap, ◌∙◌, subst}
 use Rattle.std.specs.Prelude.{[], ◌∷◌}
 use Rattle.cov_base.specs.Lists.{Everywhere}
 use Rattle.ada_meaning.specs.Declared.{object_shape}
@@ -15,26 +15,26 @@ use Rattle.legal_laws.specs.Standing.{Stands}
 use Rattle.legal_programs.specs.Deciding.{IsWhole, IsWholeRegion, IsWholeEnv}
 use Rattle.legal_texts.proofs.PackageItems.{no_subprogram}
 
-module _ (p : Program) (types : AdaType → Type 0) (sub : Subprogram) where
+module _ (p : Program) (inst : ℕ) (types : AdaType → Type 0) (sub : Subprogram) where
   abbrev Outside : Entity → Type 0
-  Outside x = IsEntity p 0 types (object_shape p 0 no_subprogram) (StartSees p 0 no_subprogram) x
+  Outside x = IsEntity p inst types (object_shape p inst no_subprogram) (StartSees p inst no_subprogram) x
 
   abbrev There : Entity → Type 0
-  There x = IsEntity p 0 types (object_shape p 0 sub) (StartSees p 0 sub) x
+  There x = IsEntity p inst types (object_shape p inst sub) (StartSees p inst sub) x
 
-  seen_there : (o : tree.Object) → StartSees p 0 no_subprogram o → StartSees p 0 sub o
+  seen_there : (o : tree.Object) → StartSees p inst no_subprogram o → StartSees p inst sub o
   seen_there (tree.library_object o d) h = h
   seen_there (tree.local_object d) h = absurd h
 
-  shaped_there : (o : tree.Object) → StartSees p 0 no_subprogram o → object_shape p 0 no_subprogram o ≡ object_shape p 0 sub o
+  shaped_there : (o : tree.Object) → StartSees p inst no_subprogram o → object_shape p inst no_subprogram o ≡ object_shape p inst sub o
   shaped_there (tree.library_object o d) h = refl
   shaped_there (tree.local_object d) h = absurd h
 
-  variable_there : (v : Variable) → v.parts ≡ tree.whole → IsVariable p 0 types (object_shape p 0 no_subprogram) (StartSees p 0 no_subprogram) v
-      → IsVariable p 0 types (object_shape p 0 sub) (StartSees p 0 sub) v
+  variable_there : (v : Variable) → v.parts ≡ tree.whole → IsVariable p inst types (object_shape p inst no_subprogram) (StartSees p inst no_subprogram) v
+      → IsVariable p inst types (object_shape p inst sub) (StartSees p inst sub) v
   variable_there v whole h = record {
     visible = seen_there v.object h.visible;
-    parts = subst (λ q. AreParts p 0 (object_shape p 0 sub) (StartSees p 0 sub) (object_shape p 0 sub v.object) q) (sym whole) tt;
+    parts = subst (λ q. AreParts p inst (object_shape p inst sub) (StartSees p inst sub) (object_shape p inst sub v.object) q) (sym whole) tt;
     shape = ap (λ s. part_shape s v.parts) (sym (shaped_there v.object h.visible)) ∙ h.shape;
     subtype = h.subtype;
   }
@@ -55,19 +55,19 @@ module _ (p : Program) (types : AdaType → Type 0) (sub : Subprogram) where
   some_there None whole h = tt
   some_there (Some x) whole h = entity_there x whole h
 
-  region_there : (region : Region) → IsWholeRegion region → IsRegion p 0 types (object_shape p 0 no_subprogram) (StartSees p 0 no_subprogram) region
-      → IsRegion p 0 types (object_shape p 0 sub) (StartSees p 0 sub) region
+  region_there : (region : Region) → IsWholeRegion region → IsRegion p inst types (object_shape p inst no_subprogram) (StartSees p inst no_subprogram) region
+      → IsRegion p inst types (object_shape p inst sub) (StartSees p inst sub) region
   region_there [] whole h = tt
   region_there (e ∷ es) whole h = (entity_there e.1 whole.0 h.0, region_there es whole.1 h.1)
 
-  regions_there : (rs : List Region) → Everywhere IsWholeRegion rs → Everywhere (IsRegion p 0 types (object_shape p 0 no_subprogram) (StartSees p 0 no_subprogram)) rs
-      → Everywhere (IsRegion p 0 types (object_shape p 0 sub) (StartSees p 0 sub)) rs
+  regions_there : (rs : List Region) → Everywhere IsWholeRegion rs → Everywhere (IsRegion p inst types (object_shape p inst no_subprogram) (StartSees p inst no_subprogram)) rs
+      → Everywhere (IsRegion p inst types (object_shape p inst sub) (StartSees p inst sub)) rs
   regions_there [] whole h = tt
   regions_there (r ∷ rs) whole h = (region_there r whole.0 h.0, regions_there rs whole.1 h.1)
 
   -- where a body stands in a package
-  pub opened_there : (env : Env) (s : State) → IsWholeEnv env → Stands p 0 (object_shape p 0 no_subprogram) types (StartSees p 0 no_subprogram) env s
-      → Stands p 0 (object_shape p 0 sub) types (StartSees p 0 sub) (opened env) s
+  pub opened_there : (env : Env) (s : State) → IsWholeEnv env → Stands p inst (object_shape p inst no_subprogram) types (StartSees p inst no_subprogram) env s
+      → Stands p inst (object_shape p inst sub) types (StartSees p inst sub) (opened env) s
   opened_there env s whole st = record {
     place = record {
       step = st.place.step;

@@ -36,7 +36,7 @@ any_some : {X : Type 0} (o : Option X) → IfSome o (λ n. Unit {0})
 any_some None = tt
 any_some (Some n) = tt
 
-subprogram_keeps : (env : Env) (s : State) (x : Specification) → IfOk (subprogram_declared env s x).answer (KeptBy false s)
+pub subprogram_keeps : (env : Env) (s : State) (x : Specification) → IfOk (subprogram_declared env s x).answer (KeptBy false s)
 subprogram_keeps env s x =
     answered (KeptBy false s) x.pos _
     (part_so (λ r. Unit {0}) (KeptBy false s) (hide env.local x.name).answer

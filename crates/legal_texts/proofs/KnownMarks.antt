@@ -1,5 +1,5 @@
--- Where all that may be named is known, names lead to marks of known subtypes.
-use Rattle.std.proofs.Common.{Option, Some, None, IfSome}
+-- Where all that may be named is known in an instance, names lead to marks of known subtypes.
+use Rattle.std.proofs.Common.{ℕ, Option, Some, None, IfSome}
 use Rattle.ada_meaning.specs.Program.{Program}
 use Rattle.ada_meaning.specs.Shape.{Shape}
 use Rattle.ada_meaning.specs.Tree as tree
@@ -13,12 +13,12 @@ use Rattle.legal_texts.specs.Leading.{lead_of}
 use Rattle.legal_texts.proofs.MarkedNames.{IsMarked, IsMarkedEntity, IsMarkedRegion, IsMarkedPlace}
 use Rattle.legal_texts.proofs.KnownWorlds.{entity_so}
 
-module _ (p : Program) (types : AdaType → Type 0) (shape_of : tree.Object → Shape) (Sees : tree.Object → Type 0) where
+module _ (p : Program) (inst : ℕ) (types : AdaType → Type 0) (shape_of : tree.Object → Shape) (Sees : tree.Object → Type 0) where
   abbrev pub IsKnown : Identity → AdaSubtype → Type 0
-  IsKnown i t = IsKnownSubtype p 0 types t
+  IsKnown i t = IsKnownSubtype p inst types t
 
   abbrev Known : Entity → Type 0
-  Known x = IsEntity p 0 types shape_of Sees x
+  Known x = IsEntity p inst types shape_of Sees x
 
   mark_of : (x : Entity) → Known x → IsMarkedEntity IsKnown x
   mark_of hidden h = tt
@@ -32,7 +32,7 @@ module _ (p : Program) (types : AdaType → Type 0) (shape_of : tree.Object → 
   mark_of test_io h = tt
   mark_of (unit n) h = tt
 
-  marks_of : (region : Region) → IsRegion p 0 types shape_of Sees region → IsMarkedRegion IsKnown region
+  marks_of : (region : Region) → IsRegion p inst types shape_of Sees region → IsMarkedRegion IsKnown region
   marks_of region h = every_so (λ e. Known e.1) (λ e. IsMarkedEntity IsKnown e.1) region (λ e k. mark_of e.1 k) h
 
   lead_if : (o : Option Entity) → IfSome o Known → IsMarked IsKnown (lead_of o)
@@ -48,10 +48,10 @@ module _ (p : Program) (types : AdaType → Type 0) (shape_of : tree.Object → 
   lead_if (Some test_io) h = tt
   lead_if (Some (unit n)) h = tt
 
-  pub known_place : (env : Env) → IsEnv p 0 types shape_of Sees env → IsMarkedPlace IsKnown env
+  pub known_place : (env : Env) → IsEnv p inst types shape_of Sees env → IsMarkedPlace IsKnown env
   known_place env is = record {
     step = is.step;
-    regions = every_so (IsRegion p 0 types shape_of Sees) (IsMarkedRegion IsKnown) (regions_of env) marks_of is.regions;
+    regions = every_so (IsRegion p inst types shape_of Sees) (IsMarkedRegion IsKnown) (regions_of env) marks_of is.regions;
     own = marks_of env.own is.own;
     units = λ n name. lead_if (part_of_interface env.world name (interface_of env.world n)) (is.units n name);
     test_io = λ name. lead_if (entity_of name env.world.standard.test_io_declarations)

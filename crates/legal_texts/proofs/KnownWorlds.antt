@@ -132,7 +132,7 @@ module _ (p : Program) (ts : List AdaType) where
     part_there w name no_interface whole h = tt
     part_there w name (subprogram_interface r) whole h = tt
     part_there w name (package_interface region) whole h =
-        some_there p Types sub (shown (entity_of name region)) (shown_so IsWhole (entity_of name region) (entity_so IsWhole name region whole)) (part_known w name (package_interface region) h)
+        some_there p 0 Types sub (shown (entity_of name region)) (shown_so IsWhole (entity_of name region) (entity_so IsWhole name region whole)) (part_known w name (package_interface region) h)
     part_there w name (generic_interface formals region) whole h = absurd h
     part_there w name (instance_interface g k actuals) whole h = absurd h
 

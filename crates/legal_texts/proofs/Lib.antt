@@ -18,10 +18,13 @@ mod LibraryBodies
 mod KnownWorlds
 mod FormedPrograms
 mod KnownObjects
+mod NamesThere
 mod LibraryItems
 mod LibraryWords
 mod ObjectsSeen
 mod DeclaredTypes
+mod OneOf
+mod SeenTypes
 mod PackageItems
 mod BodyNumbers
 mod ToldDeclarations
@@ -40,3 +43,13 @@ mod EntitiesThere
 mod PackageTexts
 mod PackagePrograms
 mod WaitingBodies
+mod DeclaredHere
+mod DeclaredWorlds
+mod OfText
+mod ToldFormals
+mod SeenMarks
+mod NamedGenerics
+mod InstancePlaces
+mod GivenActuals
+mod KnownFormals
+mod SeenFormals

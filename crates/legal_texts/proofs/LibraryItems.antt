@@ -19,7 +19,7 @@ use Rattle.ada_meaning.specs.Types.{Static}
 use Rattle.ada_meaning.specs.WellFormed.{HasNumber, IsType, IsInitial, IsException}
 use Rattle.ada_rules.specs.Plan.{Plan, ◌>>=◌, rule}
 use Rattle.ada_rules.specs.Types.{declared_in, identity_of, type_in, AdaType, integer_type, enumeration, formal_type, array_type, record_type, AdaSubtype, of_type, range_in, fits, subtype_in_tree}
-use Rattle.ada_rules.specs.Entities.{key, mark, raisable, Region, redefined}
+use Rattle.ada_rules.specs.Entities.{key, hidden, mark, raisable, Region, redefined}
 use Rattle.ada_rules.specs.Environment.{typed_rule, State, Given, given, Env, with_local, owner_of, new_identity, one_type_more, hide, hide_all}
 use Rattle.ada_rules.specs.Expressions.{Valued, static_part}
 use Rattle.ada_rules.specs.Declarations.{Defined, type_counted, in_range, indicated, defined, innermost, initial_for, LibraryValue, known_value, library_value, Declared, may_be_bare, one_name, known_constant, object_entity, library_entities, library_objects, library_declared, no_library_value, local_bare, local_set, new_value, objects_declared, exception_declared, exceptions_from, type_declared, subtype_declared, kind_declared, declared}
@@ -31,7 +31,7 @@ use Rattle.legal_laws.specs.Served.{AreListed, IsFinal}
 use Rattle.legal_laws.specs.Standing.{with_type, with_types, Stands}
 use Rattle.legal_laws.specs.Valued.{AreFactsInBase, HaveFacts}
 use Rattle.legal_laws.specs.Written.{IsWritten}
-use Rattle.legal_laws.proofs.Passing.{IfPassed, if_map, if_test, if_each, answered, part_so, typed_so}
+use Rattle.legal_laws.proofs.Passing.{IfPassed, if_map, if_test, if_each, answered, part_so, typed_so, both_ok}
 use Rattle.legal_laws.proofs.Values.{value_demanded}
 use Rattle.legal_laws.proofs.KnownDeclarations.{own_instance, Indicated, stands_local, stands_statics, stands_led}
 use Rattle.legal_laws.proofs.Identities.{apart_with, older_with}
@@ -44,7 +44,9 @@ use Rattle.legal_laws.proofs.DefinedTypes.{IsDefined, defined_known}
 use Rattle.legal_laws.proofs.Leading.{Leads, leads_both, leads_statics, library_leads}
 use Rattle.legal_laws.proofs.NumberedObjects.{mapped_any}
 use Rattle.legal_laws.proofs.KnownObjects.{constant_keeps}
+use Rattle.legal_programs.proofs.KeptNames.{Has, defined_has}
 use Rattle.legal_texts.proofs.KnownObjects.{AreKnownObjects}
+use Rattle.legal_texts.proofs.NamesThere.{IsShownIn, redefined_there, hides_there, shown_as}
 
 at_library : {B : Type 0} (P : B → Type 0) (b : Bool) (o r : Plan B) → b ≡ true → IfPassed o.outcome P → IfPassed (if b then o else r).outcome P
 at_library P true o r e h = h
@@ -140,6 +142,7 @@ module _ (p : Program) (facts : List Facts) (has : HaveFacts p.instances facts) 
       pub own : Everywhere (IsOfUnit env) new
       pub stands : Stands p inst shape_of (with_types types new) Sees (with_local env x.region) x.next
       pub formed : Formed s.objects_declared → Formed x.next.objects_declared
+      pub shown : Everywhere (λ u. IsShownIn u x.region) new
 
     abbrev pub Made : Declared → Type 0
     Made x = Final env.generic x.next → Objects x.next.objects_declared → AreLibraryMade x
@@ -161,7 +164,7 @@ module _ (p : Program) (facts : List Facts) (has : HaveFacts p.instances facts) 
         → IsBounded p inst (subtype_in_tree t) → Formed os → Formed (library_objects env t v n is os)
     formed_more t v n [] os type initial bounded h = h
     formed_more t v n (i ∷ is) os type initial bounded h =
-        formed_more t v (n + 1) is _ type initial bounded (((λ e. (type, initial)), h.0), ((refl, bounded), h.1))
+        formed_more t v (n + 1) is _ type initial bounded (((λ e. (type, initial)), h.0), ((λ e. bounded), h.1))
 
     entities_known : (c : Constancy) (t : AdaSubtype) (k : Option Static) (n : ℕ) (region : Region) (is : List Identifier) → IsKnownSubtype p inst types t
         → AreHere t n is → IsRegion p inst types shape_of Sees region → IsRegion p inst types shape_of Sees (library_entities env c t k n region is)
@@ -190,6 +193,7 @@ module _ (p : Program) (facts : List Facts) (has : HaveFacts p.instances facts) 
               (entities_known c t k.value k.next.library_objects region is at_u.0 here.1 h);
           formed = λ f. formed_more t v.initial k.next.library_objects is k.next.objects_declared
               (subtype_is_type p inst types st.apart t at_u.0) at_u.1 (known_bounded p inst types t at_u.0) (subst Formed (sym (kept ∙ same)) f);
+          shown = tt;
         }
 
     abbrev Marked : (region : Region) → IsRegion p inst types shape_of Sees region → Given AdaSubtype → Type 0
@@ -257,9 +261,10 @@ module _ (p : Program) (facts : List Facts) (has : HaveFacts p.instances facts) 
       -- a type, a subtype and exceptions declare no object
       type_library : (q : Pos) (i : Identifier) (x : Given Defined)
           → IsDefined p facts has are inst shape_of types st.apart Sees env.generic (one_type_more s) (new_identity env s) x
-          → Made (type_declared env q i (new_identity env s) x)
-      type_library q i x h all objects =
+          → Has (key i) hidden x.value.region → Made (type_declared env q i (new_identity env s) x)
+      type_library q i x h there all objects =
           let u = type_in x.value.subtype in
+          let named = mark (new_identity env s) x.value.subtype in
           let more = ap (λ y. y.types) h.only in
           let behind = final_counted env.generic env q x.value.subtype x.next all in
           record {
@@ -271,12 +276,17 @@ module _ (p : Program) (facts : List Facts) (has : HaveFacts p.instances facts) 
                   (redefined_known p inst (with_type types u) shape_of Sees (key i) (mark (new_identity env s) x.value.subtype) x.value.region
                   (h.known behind.serves (all.serves.limits.0 refl).0) h.region);
               world = st.world;
-              apart = apart_with types env s u h.identity st.older st.apart;
+              apart = apart_with types env s u h.identity st.older p st.apart;
               older = older_with types env s u h.identity st.older (type_counted env q x.value.subtype x.next) more;
               counted = ap (λ y. y.objects) h.only ∙ st.counted ∙ sym (ap (λ y. length y.words) h.only);
               alone = st.alone;
             };
             formed = λ f. subst Formed (sym (ap (λ y. y.objects_declared) h.only)) f;
+            shown = (
+              shown_as x.value.subtype (key i) (new_identity env s) (redefined (key i) named x.value.region)
+                  (redefined_there (key i) hidden named x.value.region there),
+              tt,
+            );
           }
 
       stands_type : Stands p inst shape_of types Sees env (one_type_more s)
@@ -298,6 +308,7 @@ module _ (p : Program) (facts : List Facts) (has : HaveFacts p.instances facts) 
             (stands_statics p facts has are inst shape_of types Sees env (one_type_more s) x.next stands_type k.only)
             (redefined_known p inst types shape_of Sees (key i) (mark (new_identity env s) x.value) region (k.subtype all.serves) h);
         formed = λ f. subst Formed (sym (ap (λ y. y.objects_declared) k.only)) f;
+        shown = tt;
       }
 
       exceptions_library : (region : Region) (is : List Identifier) → IsRegion p inst types shape_of Sees region → Made (exceptions_from env s region is)
@@ -308,19 +319,26 @@ module _ (p : Program) (facts : List Facts) (has : HaveFacts p.instances facts) 
             (stands_raised types Sees env st.alone s (exceptions_from env s region is).next st (exceptions_next types Sees env st.alone s region is))
             (exceptions_region types Sees env st.alone s region is all.listed h);
         formed = λ f. subst Formed (sym (exceptions_objects s region is)) f;
+        shown = tt;
       }
+
+      abbrev Definition : Given Defined → Type 0
+      Definition x = IsDefined p facts has are inst shape_of types st.apart Sees env.generic (one_type_more s) (new_identity env s) x
 
       kind_library : (q : Pos) (d : DeclarationKind) → IsWritten d → IfPassed (kind_declared env s q d).outcome Made
       kind_library q (declares.Type i d) written =
-          part_so (IsRegion p inst types shape_of Sees) Made (hide env.local i).answer
+          part_so (λ region. IsRegion p inst types shape_of Sees region × Has (key i) hidden region) Made (hide env.local i).answer
           (λ region. defined (with_local env region) (one_type_more s) q (new_identity env s) d >>= (λ x. rule (Some (type_declared env q i (new_identity env s) x))))
-          (hidden_known p inst types shape_of Sees env.local i st.place.regions.0)
-          (λ region h. part_so (IsDefined p facts has are inst shape_of types st.apart Sees env.generic (one_type_more s) (new_identity env s)) Made
+          (both_ok (IsRegion p inst types shape_of Sees) (Has (key i) hidden) (hide env.local i).answer
+          (hidden_known p inst types shape_of Sees env.local i st.place.regions.0) (hides_there env.local i))
+          (λ region h. part_so (λ x. Definition x × Has (key i) hidden x.value.region) Made
           (defined (with_local env region) (one_type_more s) q (new_identity env s) d).answer
           (λ x. rule (Some (type_declared env q i (new_identity env s) x)))
+          (both_ok Definition (λ x. Has (key i) hidden x.value.region) (defined (with_local env region) (one_type_more s) q (new_identity env s) d).answer
           (defined_known p facts has are inst shape_of types st.apart Sees (with_local env region)
-          (local_known p inst types shape_of Sees env region st.place h) st.world (one_type_more s) q (new_identity env s) d written)
-          (λ x k. type_library q i x k))
+          (local_known p inst types shape_of Sees env region st.place h.0) st.world (one_type_more s) q (new_identity env s) d written)
+          (defined_has (key i) hidden (with_local env region) (one_type_more s) q (new_identity env s) d h.1))
+          (λ x k. type_library q i x k.0 k.1))
       kind_library q (declares.Subtype i t) written =
           part_so (IsRegion p inst types shape_of Sees) Made (hide env.local i).answer
           (λ region. indicated (with_local env region) (one_type_more s) t >>= (λ x. rule (Some (subtype_declared i region (new_identity env s) x))))
@@ -347,6 +365,7 @@ module _ (p : Program) (facts : List Facts) (has : HaveFacts p.instances facts) 
         own = tt;
         stands = stands_local p facts has are inst shape_of types Sees env s env.local st st.place.regions.0;
         formed = λ f. f;
+        shown = tt;
       }
 
       -- a declaration of the library level

@@ -8,19 +8,13 @@ use Rattle.ada_rules.specs.Expressions.{part_of_interface}
 use Rattle.ada_rules.specs.Library.{Library, seen_more}
 use Rattle.ada_rules.specs.Units.{env_of, in_package}
 use Rattle.legal_texts.specs.Leading.{lead_of}
-use Rattle.legal_texts.proofs.MarkedNames.{IsMarked, entity_marked, declared_marked, IsMarkedEntity, IsMarkedRegion, IsMarkedPlace}
+use Rattle.legal_texts.proofs.MarkedNames.{IsMarked, declared_marked, IsMarkedEntity, IsMarkedRegion, IsMarkedPlace}
 use Rattle.legal_texts.proofs.SeenRegions.{seen_more_so}
 
 module _ (P : Identity → AdaSubtype → Type 0) where
-  abbrev pub IsMarkedInterface : Interface → Type 0
-  IsMarkedInterface no_interface = Unit {0}
-  IsMarkedInterface (package_interface region) = IsMarkedRegion P region
-  IsMarkedInterface (generic_interface formals region) = ⊥
-  IsMarkedInterface (instance_interface g k actuals) = ⊥
-  IsMarkedInterface (subprogram_interface r) = Unit {0}
-
+  -- each part that a unit shows, of a package or through an instance, is such a mark where it is one
   pub record HasMarks (w : World) : Type 0 where
-    pub interfaces : (n : ℕ) → IsMarkedInterface (interface_of w n)
+    pub units : (n : ℕ) (name : List ℕ) → IsMarked P (lead_of (part_of_interface w name (interface_of w n)))
     pub predefined : IsMarkedRegion P w.standard.predefined
     pub test_io : IsMarkedRegion P w.standard.test_io_declarations
 
@@ -30,13 +24,6 @@ module _ (P : Identity → AdaSubtype → Type 0) where
   unit_marked n (generic_interface formals region) = tt
   unit_marked n (instance_interface g k actuals) = tt
   unit_marked n (subprogram_interface r) = tt
-
-  part_marked : (w : World) (name : List ℕ) (i : Interface) → IsMarkedInterface i → IsMarked P (lead_of (part_of_interface w name i))
-  part_marked w name no_interface h = tt
-  part_marked w name (subprogram_interface r) h = tt
-  part_marked w name (package_interface region) h = entity_marked P name region h
-  part_marked w name (generic_interface formals region) h = absurd h
-  part_marked w name (instance_interface g k actuals) h = absurd h
 
   module _ (w : World) (h : HasMarks w) where
     pub seen_marked : (l : Library) (is : List Identifier) (region : Region) → IsMarkedRegion P region → IsMarkedRegion P (seen_more w l is region)
@@ -49,6 +36,16 @@ module _ (P : Identity → AdaSubtype → Type 0) where
       step = refl;
       regions = (own, (seen, (h.predefined, tt)));
       own = own;
-      units = λ k part. part_marked w part (interface_of w k) (h.interfaces k);
+      units = h.units;
+      test_io = λ part. declared_marked P part w.standard.test_io_declarations h.test_io;
+    }
+
+    -- in a library subprogram, or where an instance stands
+    pub outside_marked : (m : ℕ) (name : List ℕ) (region : Region) → IsMarkedRegion P region → IsMarkedPlace P (env_of typing w m name region)
+    outside_marked m name region seen = record {
+      step = refl;
+      regions = (tt, (seen, (h.predefined, tt)));
+      own = tt;
+      units = h.units;
       test_io = λ part. declared_marked P part w.standard.test_io_declarations h.test_io;
     }

@@ -1,5 +1,5 @@
 -- A program of library subprograms and of packages with subprograms that the rules accept is well-formed.
-use Rattle.std.proofs.Common.{◌≡◌, ◌≤◌, ◌+◌, ℕ, false, List, [], ◌∷◌, reverse, length, Option, Some, None, IfSome, Ok, slice_get, refl, sym, ap, ◌∙◌, subst, arith, inl, inr}
+use Rattle.std.proofs.Common.{◌≡◌, ◌≤◌, ◌+◌, ℕ, zero, suc, false, List, [], ◌∷◌, length, Option, Some, None, option_map, IfSome, Ok, slice_get, refl, sym, ap, ◌∙◌, subst, arith, inl, inr}
 use Rattle.std.proofs.lemmas.Bool.{false≢true}
 use Rattle.cov_base.specs.Lists.{Everywhere}
 use Rattle.ada_syntax.specs.declared.unit.LibraryItem.{LibraryItem}
@@ -7,12 +7,12 @@ use Rattle.ada_syntax.specs.declared.unit.LibraryItem.TheVariants as library
 use Rattle.ada_syntax.specs.declared.unit.PackageBody.{PackageBody}
 use Rattle.ada_syntax.specs.declared.unit.SubprogramBody.{SubprogramBody}
 use Rattle.ada_syntax.specs.declared.unit.Unit.{Unit as LibraryUnit}
-use Rattle.ada_meaning.specs.Bodies.{instances_of, StandsIn}
+use Rattle.ada_meaning.specs.Bodies.{StandsIn}
 use Rattle.ada_meaning.specs.Declared.{object_shape}
-use Rattle.ada_meaning.specs.Program.{Subprogram, LibraryObject, Program}
+use Rattle.ada_meaning.specs.Program.{Subprogram, Instance, Program}
 use Rattle.ada_meaning.specs.Resolved.{shape_in}
 use Rattle.ada_meaning.specs.Shape.{group, no_shape}
-use Rattle.ada_meaning.specs.WellFormed.{StartSees, IsType, IsInitial, IsLibraryObject, IsWellFormed, most_parameters}
+use Rattle.ada_meaning.specs.WellFormed.{StartSees, IsType, IsInitial, IsWellFormed, most_parameters}
 use Rattle.ada_rules.specs.Types.{AdaType}
 use Rattle.ada_rules.specs.Entities.{key, Entity, unit, whole_standard}
 use Rattle.ada_rules.specs.Environment.{typing, Interface, no_interface, package_interface, generic_interface, instance_interface, subprogram_interface, World, interface_of, State, beginning_state, Env, opened, owner_of}
@@ -20,10 +20,9 @@ use Rattle.ada_rules.specs.Legal.{checked_with, legal}
 use Rattle.ada_rules.specs.Library.{Library, library_of, item_name, clause_names, unit_named, body_names, bodies_of_item, all_bodies}
 use Rattle.ada_rules.specs.Statics.{Facts}
 use Rattle.ada_rules.specs.Subprograms.{specified, body_judged, place_among}
-use Rattle.ada_rules.specs.Units.{env_of, in_package, at_unit, is_generic_interface, region_of, withs_of, seen_in, seen_in_body, subprogram_body, routine_entity, bodies_judged, all_interfaces, world_before}
+use Rattle.ada_rules.specs.Units.{env_of, in_body, at_unit, is_generic_interface, region_of, withs_of, seen_in, seen_in_body, subprogram_body, routine_entity, bodies_judged, all_interfaces, world_before}
 use Rattle.legal_laws.specs.Bounded.{IsBounded, AreObjectsBounded}
 use Rattle.legal_laws.specs.Known.{IsEntity, IsOneOf, IsRegion}
-use Rattle.legal_laws.specs.LibraryLevel.{AreFormed}
 use Rattle.legal_laws.specs.Served.{IsFormed}
 use Rattle.legal_laws.specs.Standing.{AreOlder, Stands}
 use Rattle.legal_laws.specs.Valued.{AreFactsOf}
@@ -33,6 +32,7 @@ use Rattle.legal_laws.proofs.Predefined.{predefined_known, test_io_known, first_
 use Rattle.legal_laws.proofs.UnitBodies.{LastIsFormed, subprogram_known}
 use Rattle.legal_programs.specs.Deciding.{IsWholeEnv}
 use Rattle.legal_programs.specs.DecisionPlaces.{units_decisions}
+use Rattle.legal_programs.specs.Final.{IsServed}
 use Rattle.legal_programs.specs.Growing.{Extends}
 use Rattle.legal_programs.specs.Homes.{IsThere, HasHome}
 use Rattle.legal_programs.specs.InText.{Rise}
@@ -66,8 +66,8 @@ use Rattle.legal_texts.proofs.PackageTexts.{IsLeft, ArePlaced, items_left}
 use Rattle.legal_texts.proofs.PackageWorlds.{IsSeenSo, seen_step, text_at}
 use Rattle.legal_texts.proofs.LibraryBodies.{body_env, body_at}
 use Rattle.legal_texts.proofs.UnitPlaces.{bodies_before}
-use Rattle.legal_texts.proofs.FormedPrograms.{no_interfaces, IsFormedThere, predefined_alone, is_declared, typed_count, bodies_formed, objects_bounded}
-use Rattle.legal_texts.proofs.KnownObjects.{IsBoundedObject, AreKnownObjects}
+use Rattle.legal_texts.proofs.FormedPrograms.{no_interfaces, IsFormedThere, IsObjectThere, library_formed, library_bounded, predefined_alone, is_declared, typed_count, bodies_formed, objects_bounded}
+use Rattle.legal_texts.proofs.KnownObjects.{IsObjectAt, ObjectsAt, IsFormedAt, FormedAt}
 use Rattle.legal_texts.proofs.KnownWorlds.{shapes, Sees, IsKnownInterface, unit_known, routine_known, part_known, part_there, IsPackageItem, unbehind}
 use Rattle.legal_texts.proofs.SeenRegions.{seen_more_so}
 use Rattle.legal_texts.proofs.ToldWorlds.{unit_of}
@@ -101,8 +101,11 @@ module _ (l : Library) (main : List ℕ) (p : Program) (legal : IsLegal l main p
   abbrev facts : List Facts
   facts = legal.walked.world.instances
 
+  served : (s : State) → Extends s last → IsServed facts p None 0 s
+  served s more = served_once l main p legal s more
+
   abbrev Left : State → Type 0
-  Left s = IsLeft l main p legal of_facts s
+  Left s = IsLeft l main p legal of_facts None 0 refl served s
 
   whole : IsWholeWorld final
   whole =
@@ -166,19 +169,18 @@ module _ (l : Library) (main : List ℕ) (p : Program) (legal : IsLegal l main p
       let short = of_ok (IsShort (at_unit s)) (specified env (at_unit s) b.specification).answer body.profile body.specifies (specified_short env (at_unit s) b.specification) in
       let few = short.few (kept.few at.few) in
       let count : length m.made.parameters ≡ length body.profile.value.parameters = sym (ap length m.parameters) ∙ typed_count 0 body.profile.value.parameters in
-      let served = served_once l main p legal t at.extends in
+      let keeps = served t at.extends in
       let same = (of_ok (IsKept false s) (subprogram_body env s b).answer t judged (subprogram_body_keeps env s b)).objects refl in
       let formed : IsFormed p 0 m.made =
       of_ok (LastIsFormed p facts of_facts.0 of_facts.1 0 m.made (IsOneOf seen.types) None) (subprogram_body env s b).answer t judged
       (subprogram_known p facts of_facts.0 of_facts.1 0 m.made (IsOneOf seen.types) env s b text (subst (λ k. k ≤ most_parameters) (sym count) few)
       (env_stands s n u b item at.there m.made h.counted))
-      s.subprograms m.is_made served.0 (served.1 (object_shape p 0 m.made)) in
+      s.subprograms m.is_made keeps.0 (keeps.1 (object_shape p 0 m.made)) in
       record {
         words = m.words ∙ h.words;
         counted = m.objects ∙ (h.counted ∙ ap length (sym m.words));
-        formed = subst (Everywhere (IsFormedThere p)) (sym m.is_made)
-            (λ i stands. subst (λ j. IsFormed p j m.made) (sym (subst (λ g. StandsIn p g i) m.stands stands)) formed, h.formed);
-        objects = subst (AreKnownObjects p 0 None) (sym same) h.objects;
+        formed = subst (FormedAt p 0) (sym m.is_made) ((λ stands. formed), h.formed);
+        objects = subst (ObjectsAt p 0) (sym same) h.objects;
       }
 
   -- the body of a package
@@ -187,7 +189,7 @@ module _ (l : Library) (main : List ℕ) (p : Program) (legal : IsLegal l main p
     outside = env_of typing final n (key b.name) (seen_in_body final l m u)
 
     abbrev inside : Env
-    inside = in_package outside None m (region_of (interface_of final m))
+    inside = in_body outside m (interface_of final m) (region_of (interface_of final m))
 
     abbrev Shown : Entity → Type 0
     Shown x = IsEntity p 0 (IsOneOf seen.types) (shapes p) (Sees p) x
@@ -227,13 +229,13 @@ module _ (l : Library) (main : List ℕ) (p : Program) (legal : IsLegal l main p
 
     inside_whole : IsWholeEnv inside
     inside_whole =
-        package_env_whole outside None m (region_of (interface_of final m))
+        package_env_whole outside (is_generic_interface (interface_of final m) m) m (region_of (interface_of final m))
         (env_whole final n (key b.name) (seen_in_body final l m u) whole
         (seen_more_whole final l (withs_of (slice_get l.units m)) (seen_in final l u (unit m))
         (seen_more_whole final l (clause_names u.withs) ((key (item_name u.item), unit m) ∷ []) (tt, tt))))
         (region_whole (interface_of final m) (interface_whole final m whole))
 
-    inside_placed : length s.subprograms ≡ bodies_before n l.units → ArePlaced l main p legal of_facts inside (at_unit s) b.items
+    inside_placed : length s.subprograms ≡ bodies_before n l.units → ArePlaced l main p legal of_facts None 0 refl served inside (at_unit s) b.items
     inside_placed count j one at =
         let at_item : slice_get (bodies_of_item u.item) j ≡ Some one = subst (λ i. slice_get (bodies_of_item i) j ≡ Some one) (sym item) at in
         let package_is : one.package_name ≡ key b.name =
@@ -257,11 +259,12 @@ module _ (l : Library) (main : List ℕ) (p : Program) (legal : IsLegal l main p
     package_left : (t : State) → IsItemText (library.PackageBody b) → IsAtBody l final last s n u t → unit_named l.names (key b.name) ≡ Some m
         → (bodies_judged typing l final s n u (library.PackageBody b)).answer ≡ Ok t → length s.subprograms ≡ bodies_before n l.units → Left s → Left t
     package_left t text at named judged count h =
-        let w = package_walked l final n u m b (region_of (interface_of final m)) s t named (no_generic p seen.types m (interface_of final m) (seen.known m)) refl judged in
-        let more : Extends w.behind.next last = unbehind (in_package outside None m []) m w.behind.next last (subst (λ (x : State). Extends x last) (sym w.same) at.extends) in
+        let w = package_walked l final n u m b (region_of (interface_of final m)) s t named refl judged in
+        let more : Extends w.behind.next last = unbehind (in_body outside m (interface_of final m) []) m w.behind.next last (subst (λ (x : State). Extends x last) (sym w.same) at.extends) in
         let few : w.behind.next.excesses ≡ [] = ap (λ (x : State). x.excesses) w.same ∙ at.few in
-        let left = items_left l main p legal of_facts (IsOneOf seen.types) (told_final l main p legal packages in_order standard_is).table inside (at_unit s) u.item_pos b.items w.behind
-        (place_told l main p legal packages in_order standard_is n u b there item m (at_unit s)) inside_expected text w.is more few refl refl inside_whole
+        let left = items_left l main p legal of_facts None 0 refl served (IsOneOf seen.types) (told_final l main p legal in_order standard_is).table inside (at_unit s) u.item_pos b.items w.behind
+        (place_told l main p legal in_order standard_is n u b there item m (at_unit s)) inside_expected text w.is more few refl
+        (no_generic p seen.types m (interface_of final m) (seen.known m)) inside_whole
         (inside_stands h.counted) (inside_placed count) (record { words = h.words; counted = h.counted; formed = h.formed; objects = h.objects }) in
         subst Left w.same (record { words = left.words; counted = left.counted; formed = left.formed; objects = left.objects })
 
@@ -295,47 +298,35 @@ module _ (l : Library) (main : List ℕ) (p : Program) (legal : IsLegal l main p
       (none_exceeded legal.walked.world last l.units legal.limited).places (extends_same last)
       (record {
         count = ap length none;
-        left = record { words = seen.words; counted = seen.counted; formed = subst (Everywhere (IsFormedThere p)) (sym none) tt; objects = seen.formed };
+        left = record { words = seen.words; counted = seen.counted; formed = subst (FormedAt p 0) (sym none) tt; objects = seen.formed };
       })).left
 
-  pub all_formed : Everywhere (IsFormedThere p) p.subprograms
-  all_formed = subst (λ r. Everywhere (IsFormedThere p) r.subprograms) (sym legal.made) (every_reversed (IsFormedThere p) last.subprograms all_left.formed)
+  -- without instances all stands in instance 0
+  alone : p.instances ≡ [] → (g : Option ℕ) (i : ℕ) → StandsIn p g i → i ≡ 0
+  alone none None i stands = stands
+  alone none (Some g) zero stands = refl
+  alone none (Some g) (suc i) stands = absurd (no_instance i (subst (λ is. option_map (λ x. x.generic) (slice_get is i) ≡ Some g) none stands))
+    where
+      no_instance : (k : ℕ) → option_map (λ (x : Instance). x.generic) (slice_get [] k) ≡ Some g → ⊥
+      no_instance zero e = cc
+      no_instance (suc k) e = cc
+
+  pub all_formed : p.instances ≡ [] → Everywhere (IsFormedThere p) p.subprograms
+  all_formed none =
+      subst (λ r. Everywhere (IsFormedThere p) r.subprograms) (sym legal.made)
+      (every_reversed (IsFormedThere p) last.subprograms
+      (every_so (IsFormedAt p 0) (IsFormedThere p) last.subprograms
+      (λ sub h i stands. let e = alone none sub.generic i stands in
+      subst (λ j. IsFormed p j sub) (sym e) (h (subst (StandsIn p sub.generic) e stands))) all_left.formed))
 
   -- objects of the library level
-  abbrev IsObject : LibraryObject → Type 0
-  IsObject o = o.generic ≡ None → IsType (shape_in p 0 o.subtype) × IsInitial p 0 o.initial
-
-  each_object : (os : List LibraryObject) → AreFormed p 0 None os → Everywhere IsObject os
-  each_object [] h = tt
-  each_object (o ∷ os) h = (h.0, each_object os h.1)
-
-  library_object : (o : LibraryObject) → p.instances ≡ [] → IsObject o → IsLibraryObject p o
-  library_object o none h =
-      subst (λ xs. Everywhere (λ i. IsType (shape_in p i o.subtype) × IsInitial p i o.initial) (instances_of o.generic xs)) (sym none) (of_generic o.generic h)
-    where
-      of_generic : (g : Option ℕ) → (g ≡ None → IsType (shape_in p 0 o.subtype) × IsInitial p 0 o.initial)
-          → Everywhere (λ i. IsType (shape_in p i o.subtype) × IsInitial p i o.initial) (instances_of g [])
-      of_generic None k = (k refl, tt)
-      of_generic (Some g) k = tt
-
-  pub all_objects : p.instances ≡ [] → Everywhere (IsLibraryObject p) p.objects
+  pub all_objects : p.instances ≡ [] → Everywhere (IsObjectThere p) p.objects
   all_objects none =
-      subst (λ r. Everywhere (IsLibraryObject p) r.objects) (sym legal.made)
-      (every_so IsObject (IsLibraryObject p) (reverse last.objects_declared) (λ o h. library_object o none h)
-      (every_reversed IsObject last.objects_declared (each_object last.objects_declared all_left.objects.0)))
-
-  -- and their types have bounds
-  abbrev IsBoundedThere : LibraryObject → Type 0
-  IsBoundedThere o = (i : ℕ) → StandsIn p o.generic i → IsBounded p i o.subtype
-
-  bounded_there : (o : LibraryObject) → IsBoundedObject p 0 None o → IsBoundedThere o
-  bounded_there o h i stands = subst (λ j. IsBounded p j o.subtype) (sym (subst (λ g. StandsIn p g i) h.0 stands)) h.1
-
-  pub all_bounded : Everywhere IsBoundedThere p.objects
-  all_bounded =
-      subst (λ r. Everywhere IsBoundedThere r.objects) (sym legal.made)
-      (every_so (IsBoundedObject p 0 None) IsBoundedThere (reverse last.objects_declared) bounded_there
-      (every_reversed (IsBoundedObject p 0 None) last.objects_declared all_left.objects.1))
+      subst (λ r. Everywhere (IsObjectThere p) r.objects) (sym legal.made)
+      (every_reversed (IsObjectThere p) last.objects_declared
+      (every_so (IsObjectAt p 0) (IsObjectThere p) last.objects_declared
+      (λ o h i stands. let e = alone none o.generic i stands in
+      subst (λ j. (IsType (shape_in p j o.subtype) × IsInitial p j o.initial) × IsBounded p j o.subtype) (sym e) (h (subst (StandsIn p o.generic) e stands))) all_left.objects))
 
 -- what the interfaces of a legal program are
 pub all_seen : (l : Library) (main : List ℕ) (p : Program) (legal : IsLegal l main p) (packages : ArePlainUnits l.units) (texts : AreUnitTexts l.units)
@@ -357,7 +348,7 @@ all_seen l main p is packages texts of_facts in_order standard_is =
       names = refl;
       base = before_in_base (length l.units) l.units;
       sized = mapped_length (λ (u : LibraryUnit). no_interface) l.units;
-      formed = (tt, tt);
+      formed = tt;
       words = refl;
       counted = refl;
     })
@@ -367,9 +358,10 @@ pub packages_formed : (units : List LibraryUnit) (main : List ℕ) (p : Program)
     → IsWholeOrder (library_of whole_standard units) → ArePlainUnits units → Rise (units_places units) → Rise (units_decisions units) → AreUnitTexts units
     → IsWellFormed p × (AreObjectsBounded p × (AreTextsFormed p × Everywhere (λ o. (i : ℕ) → StandsIn p o.generic i → IsBounded p i o.subtype) p.objects))
 packages_formed units main p h in_order packages statements decisions texts =
-    let formed = all_formed l main p is packages texts of_facts in_order refl whole_is_whole seen in
     let none = none_made l main p is (plain_instances units packages) in
-    let library = all_objects l main p is packages texts of_facts in_order refl whole_is_whole seen none in (
+    let formed = all_formed l main p is packages texts of_facts in_order refl whole_is_whole seen none in
+    let objects = all_objects l main p is packages texts of_facts in_order refl whole_is_whole seen none in
+    let library = library_formed p p.objects objects in (
       well_formed l main p is whole_is_whole
           (record { statements = statements; decisions = subst Rise (sym (decisions_placed l main p is whole_is_whole)) decisions })
           (record {
@@ -385,7 +377,7 @@ packages_formed units main p h in_order packages statements decisions texts =
             library = library;
             bodies = bodies_formed p formed;
           },
-          all_bounded l main p is packages texts of_facts in_order refl whole_is_whole seen,
+          library_bounded p p.objects objects,
         ),
       ),
     )

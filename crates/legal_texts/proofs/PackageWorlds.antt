@@ -4,13 +4,14 @@ use Rattle.std.proofs.Common.{◌≡◌, ◌<◌, ℕ, nat_eq, Bool, true, false
 use Rattle.std.specs.Prelude.{unwrap_or}
 use Rattle.ada_syntax.specs.declared.unit.PackageSpecification.{PackageSpecification}
 use Rattle.ada_meaning.specs.Types.{Owner}
+use Rattle.legal_programs.specs.Final.{IsServed}
 use Rattle.legal_programs.specs.Growing.{Extends}
 use Rattle.legal_programs.proofs.DecidedUnits.{every_at}
 use Rattle.legal_texts.specs.UnitTexts.{IsPackageItemText}
 use Rattle.legal_laws.specs.Standing.{with_types}
 use Rattle.ada_rules.specs.Environment.{owner_of}
 use Rattle.ada_rules.specs.Types.{declared_in, identity_of}
-use Rattle.ada_rules.specs.Units.{package_items, package_judged, with_package, with_interface, in_specification}
+use Rattle.ada_rules.specs.Units.{generic_at, interface_with, package_items, package_judged, with_package, with_interface, in_specification}
 use Rattle.ada_rules.specs.Subprograms.{closed_by}
 use Rattle.std.specs.Prelude.{◌⊎◌}
 use Rattle.std.proofs.lemmas.Bool.{eqb-true, eq-eqb, false≢true}
@@ -37,9 +38,10 @@ use Rattle.legal_laws.proofs.Wider.{region_wider}
 use Rattle.legal_laws.proofs.Predefined.{predefined_known, test_io_known}
 use Rattle.legal_programs.specs.Walked.{IsLegal}
 use Rattle.legal_programs.proofs.Passed.{of_ok, passed_part, passed_rule}
+use Rattle.legal_programs.proofs.WithoutInstances.{served_once}
 use Rattle.legal_programs.proofs.Worlds.{IsSameWorld}
 use Rattle.legal_texts.specs.UnitTexts.{IsItemText, AreUnitTexts}
-use Rattle.legal_texts.proofs.KnownObjects.{AreKnownObjects}
+use Rattle.legal_texts.proofs.KnownObjects.{ObjectsAt}
 use Rattle.legal_texts.proofs.GrownWorlds.{IsGrown, AreAlikeRegions, seen_more_alike, places_alike, set_others}
 use Rattle.legal_texts.proofs.InterfaceWalk.{IsAtUnit, same_some}
 use Rattle.legal_texts.proofs.Leads.{leads_fit}
@@ -52,6 +54,7 @@ use Rattle.legal_texts.proofs.LibraryItems.{IsOfUnit}
 use Rattle.legal_instances.specs.Ordered.{IsWholeOrder}
 use Rattle.legal_programs.specs.PlainUnits.{IsPlainUnit, ArePlainUnits}
 use Rattle.legal_texts.proofs.BackedPackages.{IsLibraryBody, library_body, library_number, routine_backed}
+use Rattle.legal_texts.proofs.BackedRoutines.{IsBackedAt}
 use Rattle.legal_texts.proofs.PackageItems.{AreKnown}
 use Rattle.legal_texts.proofs.LibraryBodies.{body_env}
 use Rattle.legal_texts.proofs.UnitPlaces.{bodies_before}
@@ -67,6 +70,9 @@ module _ (l : Library) (main : List ℕ) (p : Program) (legal : IsLegal l main p
   abbrev last : State
   last = legal.walked.next
 
+  served : (s : State) → Extends s last → IsServed legal.walked.world.instances p None 0 s
+  served s more = served_once l main p legal s more
+
   -- a package whose interface is there
   pub record IsOfPackage (w : World) (m : ℕ) : Type 0 where
     pub home : LibraryUnit
@@ -78,14 +84,14 @@ module _ (l : Library) (main : List ℕ) (p : Program) (legal : IsLegal l main p
     pub types : List AdaType
     pub integers : IsOneOf types (integer_type integer)
     pub booleans : IsOneOf types boolean_type
-    pub apart : AreApart (IsOneOf types)
+    pub apart : AreApart p (IsOneOf types)
     pub of_packages : (t : AdaType) → IsOneOf types t → (o : Owner) (m k : ℕ) → identity_of t ≡ declared_in o m k → IsOfPackage x.world m
     pub known : IsKnownWorld p types x.world
     pub standard : x.world.standard ≡ whole_standard
     pub names : x.world.bodies ≡ all_bodies l.units
     pub base : Everywhere AreFactsInBase x.world.instances
     pub sized : length x.world.interfaces ≡ length l.units
-    pub formed : AreKnownObjects p 0 None x.next.objects_declared
+    pub formed : ObjectsAt p 0 x.next.objects_declared
     pub words : x.next.words ≡ []
     pub counted : x.next.objects ≡ length x.next.words
 
@@ -163,7 +169,7 @@ module _ (l : Library) (main : List ℕ) (p : Program) (legal : IsLegal l main p
             names = h.names;
             base = h.base;
             sized = set_length x.world.interfaces n (library_routine env b q.value) ∙ h.sized;
-            formed = subst (AreKnownObjects p 0 None) (sym (short.kept.objects refl)) h.formed;
+            formed = subst (ObjectsAt p 0) (sym (short.kept.objects refl)) h.formed;
             words = h.words;
             counted = h.counted;
           }
@@ -223,7 +229,7 @@ module _ (l : Library) (main : List ℕ) (p : Program) (legal : IsLegal l main p
       alone = λ e. refl;
     }
 
-    package_next : (region : Given Region) → AreKnown l main p legal of_facts (IsOneOf h.types) inside region → IsSeenSo (with_package outside n bare [] region)
+    package_next : (region : Given Region) → AreKnown l main p legal of_facts None 0 refl served (IsOneOf h.types) inside region → IsSeenSo (with_package outside n bare [] region)
     package_next region k =
         let ts = added h.types k.new in
         let i = package_interface region.value in
@@ -231,7 +237,7 @@ module _ (l : Library) (main : List ℕ) (p : Program) (legal : IsLegal l main p
           types = ts;
           integers = more_types h.types k.new (integer_type integer) h.integers;
           booleans = more_types h.types k.new boolean_type h.booleans;
-          apart = apart_list h.types k.new k.apart;
+          apart = apart_list p h.types k.new k.apart;
           of_packages = λ t there_too o m j e. by_origin t o m j e (old_or_new (IsOfUnit inside) h.types k.new k.own t there_too);
           known = known_set h.types ts (more_types h.types k.new) x.world n i h.known
               (region_wider p 0 (with_types (IsOneOf h.types) k.new) (IsOneOf ts) (to_list h.types k.new) (shapes p) (Sees p) (Sees p) (λ o s. s) region.value k.region);
@@ -263,12 +269,14 @@ module _ (l : Library) (main : List ℕ) (p : Program) (legal : IsLegal l main p
         by_origin t o m j e (inr new) = subst (IsOfPackage (with_interface x.world n (package_interface region.value))) (ap unit_in (sym new.is ∙ e)) here_now
 
     -- its subprograms are backed by bodies
-    backed : (region : Region) → interface_of final n ≡ interface_of (with_interface x.world n (package_interface region)) n → AreBacked l main p legal of_facts inside region
+    backed : (region : Region) → interface_of final n ≡ interface_of (with_interface x.world n (package_interface region)) n → AreBacked l main p legal of_facts None 0 refl served inside region
     backed region set name r k has number =
         let less : n < length x.world.interfaces = subst (λ m. n < m) (sym h.sized) (below_length l.units n u there) in
-        routine_backed l main p legal packages whole standard_is n u z there item region
-        (set ∙ ap (λ o. unwrap_or o no_interface) (set_there x.world.interfaces n (package_interface region) less)) name r k has
-        (ap (place_among (key z.name) name 0) (sym h.names) ∙ number)
+        subst (λ o. IsBackedAt p (generic_at o n) k r) no_formals
+        (routine_backed l main p legal whole standard_is n u z there item [] region
+        (subst (λ o. interface_of final n ≡ interface_with o [] region) (sym no_formals)
+        (set ∙ ap (λ o. unwrap_or o no_interface) (set_there x.world.interfaces n (package_interface region) less))) name r k has
+        (ap (place_among (key z.name) name 0) (sym h.names) ∙ number))
 
     pub package_seen : (y : Walked) → (package_judged outside x.next u.item_pos n z).answer ≡ Ok y → Extends y.next last → interface_of final n ≡ interface_of y.world n → IsSeenSo y
     package_seen y judged more set =
@@ -281,7 +289,7 @@ module _ (l : Library) (main : List ℕ) (p : Program) (legal : IsLegal l main p
         let behind : Extends part.value.next last = unbehind inside n part.value.next last (subst (λ (v : Walked). Extends v.next last) (sym same) more) in
         subst IsSeenSo same
         (package_next part.value
-        (package_known l main p legal of_facts (IsOneOf h.types) inside (at_unit x.next) u.item_pos z.items part.value items_texts part.is behind refl refl h.words
+        (package_known l main p legal of_facts None 0 refl served (IsOneOf h.types) inside (at_unit x.next) u.item_pos z.items part.value items_texts part.is behind refl refl h.words
         inside_stands h.formed (backed part.value.value (set ∙ ap (λ (v : Walked). interface_of v.world n) (sym same)))))
 
   pub text_at : (n : ℕ) (u : LibraryUnit) → slice_get l.units n ≡ Some u → IsItemText u.item

@@ -278,7 +278,7 @@ module _ (table : Table) (env : Env) (s : State) (open_here : IsOpen table env s
   abbrev Tells : Declared → Type 0
   Tells x = TellsOn table env x
 
-  mark_told : (i : Identifier) (t : AdaSubtype) (region : Region) (n : State) → n.types ≡ s.types + 1 → IsToldRegion table region
+  pub mark_told : (i : Identifier) (t : AdaSubtype) (region : Region) (n : State) → n.types ≡ s.types + 1 → IsToldRegion table region
       → TellsOn table env (record { region = redefined (key i) (mark (new_identity env s) t) region; next = n; made = [] })
   mark_told i t region n more all =
       let none = open_here s.types (omega (arith)) in

@@ -46,7 +46,7 @@ marks_of table region h = every_so (λ e. IsToldEntity table e.1) (λ e. IsMarke
 
 -- a table that tells more
 module _ (table later : Table) (so : TellsMore table later) where
-  marked_more : (o : Option Denoted) → IsMarked (Names table) o → IsMarked (Names later) o
+  pub marked_more : (o : Option Denoted) → IsMarked (Names table) o → IsMarked (Names later) o
   marked_more None h = tt
   marked_more (Some (a_mark i t)) h = so i t h
   marked_more (Some (a_value x)) h = tt
@@ -87,7 +87,7 @@ next_place table env s g is h = record {
   is_open = h.is_open;
 }
 
-hidden_told : (table : Table) (region : Region) (i : Identifier) → IsToldRegion table region → IfOk (hide region i).answer (IsToldRegion table)
+pub hidden_told : (table : Table) (region : Region) (i : Identifier) → IsToldRegion table region → IfOk (hide region i).answer (IsToldRegion table)
 hidden_told table region i all =
     answered (IsToldRegion table) i.pos (rule (with_name region i hidden)).outcome
     (ruled_so (IsToldRegion table) (with_name region i hidden)
@@ -101,7 +101,7 @@ module _ (table : Table) (env : Env) (s : State) (is : IsToldPlace table env s) 
   abbrev Behind : Given Region → Type 0
   Behind g = TellsBehind table env g
 
-  same_table : (g : Given Region) → s.types ≤ g.next.types → IsToldRegion table g.value → Behind g
+  pub same_table : (g : Given Region) → s.types ≤ g.next.types → IsToldRegion table g.value → Behind g
   same_table g rise all = record { table = table; more = λ i t h. h; others = λ i other. refl; region = all; is_open = λ k less. is.is_open k (omega (arith, rise, less)) }
 
   with_routine_told : (region : Region) → IsToldRegion table region → (name : List ℕ) (callee_name : List ℕ) (awaits : Bool) (q : Profile) → IsMarkedProfile (Names table) q
@@ -145,7 +145,7 @@ module _ (table : Table) (env : Env) (s : State) (is : IsToldPlace table env s) 
       part_so Behind Behind (subprogram_declared env s x).answer (λ r. rule (Some r)) (subprogram_tells x) (λ r h. h)
 
 -- items in order
-behind_both : (table : Table) (env after : Env) (r g : Given Region) → (h : TellsBehind table env r) → ((t : Table) → IsOpen t after g.next → IsOpen t env g.next)
+pub behind_both : (table : Table) (env after : Env) (r g : Given Region) → (h : TellsBehind table env r) → ((t : Table) → IsOpen t after g.next → IsOpen t env g.next)
     → ((t u : Table) → TellsOthers after t u → TellsOthers env t u) → TellsBehind h.table after g → TellsBehind table env g
 behind_both table env after r g h so others k =
     record {

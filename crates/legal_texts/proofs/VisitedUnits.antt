@@ -1,5 +1,5 @@
 -- The bodies of each unit were looked at in a state in which as many subprograms were made as there are bodies before it.
-use Rattle.std.proofs.Common.{◌≡◌, ◌<◌, ◌+◌, ℕ, suc, nat_eq, Bool, true, false, List, [], length, Option, Some, None, IfSome, Ok, slice_get, refl, sym, ap, ◌∙◌, subst, arith}
+use Rattle.std.proofs.Common.{◌≡◌, ◌<◌, ◌+◌, ℕ, suc, nat_eq, Bool, true, false, List, [], length, Some, IfSome, Ok, slice_get, refl, sym, ap, ◌∙◌, subst, arith}
 use Rattle.std.proofs.lemmas.Bool.{eqb-true, eq-eqb, false≢true}
 use Rattle.ada_syntax.specs.declared.unit.PackageBody.{PackageBody}
 use Rattle.ada_syntax.specs.declared.unit.LibraryItem.TheVariants as library
@@ -10,7 +10,7 @@ use Rattle.ada_rules.specs.Environment.{typing, World, interface_of, State, Give
 use Rattle.ada_rules.specs.Library.{Library, unit_named, bodies_of_item}
 use Rattle.ada_rules.specs.Plan.{◌>>=◌, rule}
 use Rattle.ada_rules.specs.Subprograms.{closed_by}
-use Rattle.ada_rules.specs.Units.{env_of, in_package, body_items, at_unit, behind_unit, region_of, is_generic_interface, seen_in_body, in_body, package_body, package_body_of, bodies_judged}
+use Rattle.ada_rules.specs.Units.{env_of, body_items, at_unit, behind_unit, region_of, seen_in_body, in_body, package_body, package_body_of, bodies_judged}
 use Rattle.legal_programs.specs.Growing.{AddsBodies}
 use Rattle.legal_programs.specs.Homes.{HasHome}
 use Rattle.legal_programs.specs.Walked.{IsLegal}
@@ -26,28 +26,26 @@ use Rattle.legal_texts.proofs.InterfaceWalk.{same_some}
 use Rattle.legal_texts.proofs.UnitPlaces.{bodies_before, before_next}
 use Rattle.legal_texts.proofs.KnownWorlds.{below_length}
 
--- the items of a package's body
+-- the items of the body of a package or a generic
 pub record IsPackageWalked (l : Library) (w : World) (m : ℕ) (u : LibraryUnit) (n : ℕ) (b : PackageBody) (region : Region) (before after : State) : Type 0 where
   pub behind : Given Region
-  pub is : (body_items (in_package (env_of typing w m (key b.name) (seen_in_body w l n u)) None n region) (at_unit before) u.item_pos b.items).answer ≡ Ok behind
-  pub same : behind_unit (in_package (env_of typing w m (key b.name) (seen_in_body w l n u)) None n []) n behind.next ≡ after
+  pub is : (body_items (in_body (env_of typing w m (key b.name) (seen_in_body w l n u)) n (interface_of w n) region) (at_unit before) u.item_pos b.items).answer ≡ Ok behind
+  pub same : behind_unit (in_body (env_of typing w m (key b.name) (seen_in_body w l n u)) n (interface_of w n) []) n behind.next ≡ after
 
 pub package_walked : (l : Library) (w : World) (m : ℕ) (u : LibraryUnit) (n : ℕ) (b : PackageBody) (region : Region) (before after : State)
-    → unit_named l.names (key b.name) ≡ Some n → is_generic_interface (interface_of w n) n ≡ None → region_of (interface_of w n) ≡ region
+    → unit_named l.names (key b.name) ≡ Some n → region_of (interface_of w n) ≡ region
     → (bodies_judged typing l w before m u (library.PackageBody b)).answer ≡ Ok after → IsPackageWalked l w m u n b region before after
-package_walked l w m u n b region before after named plain is h =
+package_walked l w m u n b region before after named is h =
     let env = env_of typing w m (key b.name) (seen_in_body w l n u) in
     let one : (package_body env before u.item_pos n b).answer ≡ Ok after = subst (λ o. (package_body_of typing l w before m u b o).answer ≡ Ok after) named h in
     let part = passed_part u.item_pos (body_items (in_body env n (interface_of w n) (region_of (interface_of w n))) (at_unit before) u.item_pos b.items).answer
     (λ r. closed_by u.item_pos b.name b.end_name >>= (λ end. rule (Some (behind_unit (in_body env n (interface_of w n) []) n r.next)))) after one in
     let closing = passed_part u.item_pos (closed_by u.item_pos b.name b.end_name).answer
     (λ end. rule (Some (behind_unit (in_body env n (interface_of w n) []) n part.value.next))) after part.rest in
-    let last_is = same_some (passed_rule u.item_pos (Some (behind_unit (in_body env n (interface_of w n) []) n part.value.next)) after closing.rest) in
     record {
       behind = part.value;
-      is = subst (λ (r : Region). (body_items (in_package env None n r) (at_unit before) u.item_pos b.items).answer ≡ Ok part.value) is
-          (subst (λ (g : Option ℕ). (body_items (in_package env g n (region_of (interface_of w n))) (at_unit before) u.item_pos b.items).answer ≡ Ok part.value) plain part.is);
-      same = subst (λ (g : Option ℕ). behind_unit (in_package env g n []) n part.value.next ≡ after) plain last_is;
+      is = subst (λ (r : Region). (body_items (in_body env n (interface_of w n) r) (at_unit before) u.item_pos b.items).answer ≡ Ok part.value) is part.is;
+      same = same_some (passed_rule u.item_pos (Some (behind_unit (in_body env n (interface_of w n) []) n part.value.next)) after closing.rest);
     }
 
 module _ (l : Library) (main : List ℕ) (p : Program) (legal : IsLegal l main p) where

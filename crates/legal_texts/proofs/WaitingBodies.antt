@@ -18,7 +18,7 @@ use Rattle.legal_programs.proofs.MainUnit.{name_is}
 use Rattle.legal_programs.proofs.Passed.{passed_rule, passed_test}
 use Rattle.legal_texts.proofs.BackedRoutines.{item_has, packaged_has}
 use Rattle.legal_texts.proofs.PackageParts.{IsPackaged, completes_to}
-use Rattle.legal_texts.proofs.SubprogramItems.{redefined_there, at_end}
+use Rattle.legal_texts.proofs.NamesThere.{redefined_there, at_end}
 
 -- a name that is declared
 pub record IsNamed (name : List ℕ) (region : Region) : Type 0 where
