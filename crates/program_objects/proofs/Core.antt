@@ -14,6 +14,7 @@ use Rattle.legal_programs.specs.DecisionPlaces.{units_decisions}
 use Rattle.legal_programs.specs.TextPlaces.{units_places}
 use Rattle.program_objects.proofs.Legal.{passes_law, behaves_law, in_time_law}
 use Rattle.program_objects.proofs.MarksOf.{marks_law}
+use Rattle.program_objects.proofs.ExpandedNodes.{expanded_law}
 use Rattle.program_objects.proofs.Placing.{text_bound}
 use Rattle.program_objects.specs.Built.{HasPlainName, CanBeNamed, AreLegal, IsBuiltOf}
 use Rattle.program_objects.specs.Compiled.{IsCompiled}
@@ -135,7 +136,8 @@ module _ (files : List SourceFile) (main : List ℕ) (p : Program) (nodes : ℕ)
   cheap_law small = record {
     legal = legal_is files main p legal;
     in_time = in_time_law (length files) legal.units lower p o legal.program text few compiled;
-    small = omega (arith, text_bound p nodes built.kernel o built.is_kernel built.holds, small);
+    small = let expanded = expanded_law (length files) legal.units lower p legal.program in
+        omega (arith, text_bound p nodes built.kernel o built.is_kernel built.holds, small, expanded);
   }
 
 pub closed_law : (files : List SourceFile) (main : List ℕ) (p : Program) (nodes : ℕ) (o : Object) → CanBeNamed files → (legal : AreLegal files main p) → IsOfText legal.units p

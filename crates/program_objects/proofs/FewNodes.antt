@@ -55,7 +55,7 @@ none_refused l main (Ok y) types p q h is =
     let x : ⊥ = cc refused in
     x
 
-few_in : (units : List LibraryUnit) (main : List ℕ) (r : Result Walked Pos) → (judged_in typing (whole_library units) main).answer ≡ r → ArePlainUnits units
+pub few_in : (units : List LibraryUnit) (main : List ℕ) (r : Result Walked Pos) → (judged_in typing (whole_library units) main).answer ≡ r → ArePlainUnits units
     → (p : Program) → checked units main ≡ legal p → first_past 0 (entries_in (whole_library units) r) ≡ None → sum_by (λ u. capped (unit_nodes u)) units ≤ 4096
 few_in units main (Ok x) is subs p h none =
     let few = few_from x.world (whole_library units) (own_interfaces typing (whole_library units) main x is subs) (entries_of x.world (whole_library units)) 0 0 units (omega arith) none in

@@ -18,6 +18,7 @@ pub mod Core
 pub mod Refusals
 pub mod Placeable
 pub mod FewNodes
+mod ExpandedNodes
 pub mod Numbers
 pub mod PlainUnits
 pub mod Texts

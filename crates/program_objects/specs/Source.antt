@@ -1,10 +1,11 @@
 -- When an object is that of sources.
-use Rattle.std.specs.Prelude.{◌≡◌, ◌↔◌, ℕ, ◌+◌, ◌*◌, ◌≤◌, true, List, [], length, map, sum_by}
+use Rattle.std.specs.Prelude.{◌≡◌, ◌↔◌, ℕ, ◌+◌, ◌*◌, ◌≤◌, true, List, [], length, map}
+use Rattle.std.specs.Str.{str_to_ascii_lowercase}
 use Rattle.ada_meaning.specs.Obligations.{obligations_of}
 use Rattle.ada_meaning.specs.Program.{Program}
-use Rattle.ada_syntax.specs.Nodes.{unit_nodes}
+use Rattle.generic_expand.specs.Limits.{node_count}
 use Rattle.program_objects.specs.Behaves.{Behaves, EndsInTime}
-use Rattle.program_objects.specs.Legal.{IsLegal}
+use Rattle.program_objects.specs.Legal.{entries_for, IsLegal}
 use Rattle.cov_base.specs.declared.obligations.SourceFile.{SourceFile}
 use Rattle.cov_base.specs.Lists.{Somewhere}
 use Rattle.line_table.specs.declared.roles.Role.{Role}
@@ -45,9 +46,9 @@ pub record IsObjectOf (files : List SourceFile) (main : List ℕ) (p : Program) 
   pub marks : HasItsMarks p o
   pub behaves : Behaves p o
 
--- The object is cheap: where the program's execution ends, its runs end in time, and its text takes at most 240 bytes for each node and
--- 4,096 beside.
+-- The object is cheap: where the program's execution ends, its runs end in time, and its text takes at most 240 bytes for each node of the
+-- expanded program and 4,096 beside. There a generic counts once for each of its instances.
 pub record IsCheap (files : List SourceFile) (main : List ℕ) (p : Program) (o : Object) : Type 0 where
   pub legal : IsLegal files main p
   pub in_time : EndsInTime p o
-  pub small : 4 * length o.text ≤ 240 * sum_by unit_nodes legal.units + 4096
+  pub small : 4 * length o.text ≤ 240 * node_count (entries_for legal.units (str_to_ascii_lowercase main)) + 4096
