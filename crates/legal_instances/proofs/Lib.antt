@@ -20,8 +20,8 @@ mod WithinWorld
 mod WithinFormals
 mod FormedActuals
 mod ValuesAgree
-mod WithinUnits
+pub mod WithinUnits
 mod WithinInstances
-mod WithinLibrary
-mod OwnValues
+pub mod WithinLibrary
+pub mod OwnValues
 mod WellFormedTexts

@@ -153,7 +153,7 @@ module _ (us : List LibraryUnit) (main : List ℕ) (p : Program) (is : IsLegal (
   facts_are : is.walked.world.instances ≡ F
   facts_are = ap (λ w. w.instances) is.walk.world
 
-  ready_all : IsAllReady l l.order [] is.walk.seen
+  pub ready_all : IsAllReady l l.order [] is.walk.seen
   ready_all =
       of_ok (IsAllReady l l.order []) (all_interfaces typing l (record { world = world_before l; next = beginning_state }) l.order).answer is.walk.seen is.walk.interfaces
       (interfaces_ready l [] l.order (same_once (units_but_bodies 0 us) l.order (legal_order whole_standard us main p is).units (units_once 0 us))

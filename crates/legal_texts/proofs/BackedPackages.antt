@@ -32,7 +32,7 @@ use Rattle.legal_texts.proofs.PackageNumbers.{body_in, number_leads}
 use Rattle.legal_texts.proofs.LibraryBodies.{body_env, body_at}
 use Rattle.legal_texts.proofs.UnitPlaces.{bodies_before}
 use Rattle.legal_texts.proofs.FormedPrograms.{no_interfaces}
-use Rattle.legal_texts.proofs.KnownWorlds.{unbehind}
+use Rattle.legal_texts.proofs.UnitParts.{unbehind}
 use Rattle.legal_texts.proofs.ToldItems.{marks_of}
 use Rattle.legal_texts.proofs.ToldWorlds.{IsToldInterface, IsToldWorld, marks_there, told_step}
 use Rattle.legal_texts.proofs.VisitedUnits.{all_visited, package_walked}
@@ -92,7 +92,7 @@ module _ (l : Library) (main : List ℕ) (p : Program) (legal : IsLegal l main p
       one = record { package_name = key b.specification.name; name = key b.specification.name }
 
   module _ (in_order : IsWholeOrder l) (standard : l.standard ≡ whole_standard) where
-    told_before : IsToldWorld l (world_before l)
+    pub told_before : IsToldWorld l (world_before l)
     told_before = record {
       table = first_table;
       told = λ n. subst (IsToldInterface (world_before l) first_table n) (sym (no_interfaces l.units n)) tt;

@@ -13,15 +13,12 @@ use Rattle.ada_syntax.specs.declared.declaration.Initial.{Initial}
 use Rattle.ada_syntax.specs.declared.declaration.TypeDefinition.{TypeDefinition}
 use Rattle.ada_syntax.specs.declared.declaration.TypeDefinition.TheVariants as definition
 use Rattle.ada_syntax.specs.declared.name.Identifier.{Identifier}
-use Rattle.ada_syntax.specs.declared.unit.BodyItem.{BodyItem}
-use Rattle.ada_syntax.specs.declared.unit.BodyItem.TheVariants as item
 use Rattle.ada_syntax.specs.declared.unit.Formal.{Formal}
 use Rattle.ada_syntax.specs.declared.unit.FormalKind.{FormalKind}
 use Rattle.ada_syntax.specs.declared.unit.FormalKind.TheVariants as formal
 use Rattle.ada_syntax.specs.declared.unit.PackageItem.{PackageItem}
 use Rattle.ada_syntax.specs.declared.unit.PackageItem.TheVariants as part
 use Rattle.ada_syntax.specs.declared.unit.Specification.{Specification}
-use Rattle.ada_syntax.specs.declared.unit.SubprogramBody.{SubprogramBody}
 use Rattle.ada_meaning.specs.Tree as tree
 use Rattle.ada_meaning.specs.Types.{Owner, here, of_instance, Static, static_formal, formal_range}
 use Rattle.ada_rules.specs.Plan.{Plan, ◌>>=◌, rule}
@@ -31,8 +28,8 @@ use Rattle.ada_rules.specs.Environment.{typed_rule, State, Given, given, Env, wi
 use Rattle.ada_rules.specs.Expressions.{scalar_mark, unless_formal}
 use Rattle.ada_rules.specs.Declarations.{bounded, index_of, indicated, fields_of, Defined, literals, enumerated, unchanged, defined, new_value, library_value, Declared, may_be_bare, one_name, object_entity, local_bare, local_set, library_entities, library_declared, no_library_value, objects_declared, exception_declared, exceptions_from, type_declared, subtype_declared, kind_declared, declared}
 use Rattle.ada_rules.specs.Instances.{formal_mark, formal_type_declared, formal_routine, formal_declared, formals_declared}
-use Rattle.ada_rules.specs.Subprograms.{Profile, specified, declared_only, body_number, routine_of, subprogram_declared, to_complete, completed, conforming, body_judged, with_routine, packaged_body}
-use Rattle.ada_rules.specs.Units.{package_item, package_items, body_item, body_items}
+use Rattle.ada_rules.specs.Subprograms.{Profile, specified, declared_only, body_number, routine_of, subprogram_declared}
+use Rattle.ada_rules.specs.Units.{package_item, package_items}
 use Rattle.legal_laws.proofs.Passing.{IfPassed, if_map, if_test, answered, ruled_so, part_so, typed_either, any_answer, every_so, every_end}
 use Rattle.legal_programs.specs.Closed.{IsClosedObject, IsClosedCallee, IsClosedException, IsLibraryObject, IsNoFormal, IsOfLibrary}
 use Rattle.legal_programs.proofs.MainUnit.{name_is, name_same}
@@ -69,9 +66,6 @@ IsDeclaredBy o n (unit m) = ⊥
 
 abbrev pub IsDeclaredHere : Env → Entity → Type 0
 IsDeclaredHere env x = IsDeclaredBy (owner_of env) env.unit_number x
-
-abbrev pub AreDeclaredHere : Env → Region → Type 0
-AreDeclaredHere env region = Everywhere (λ e. IsDeclaredHere env e.1) region
 
 -- formals, each with its place
 pub record IsFormalType (o : Owner) (n : ℕ) (i : Identity) (t : AdaSubtype) : Type 0 where
@@ -297,43 +291,6 @@ module _ (P : List ℕ × Entity → Type 0) where
         (body_number env.world env.unit_name (key x.name)) (any_some (body_number env.world env.unit_name (key x.name)))
         (λ n v. routine_are region x.name true q.value h)))))
 
-    completed_are : (region : Region) (i : Identifier) → Are region → IfOk (completed region i).answer Are
-    completed_are region i all =
-        answered Are i.pos (rule (to_complete region i (entity_of (key i) region))).outcome
-        (ruled_so Are (to_complete region i (entity_of (key i) region)) (if_completed (entity_of (key i) region)))
-      where
-        if_completed : (o : Option Entity) → IfSome (to_complete region i o) Are
-        if_completed None =
-            if_test Are (is_new region i) (Some (region ++ (key i, hidden) ∷ [])) (λ b. every_end P region (key i, hidden) all (may.nothing (key i)))
-        if_completed (Some (routine r)) = if_test Are r.awaits_body (Some region) (λ b. all)
-        if_completed (Some x) = tt
-
-    module _ (s : State) (b : SubprogramBody) where
-      abbrev after_conforming : Region → Given Profile → Plan (Given Region)
-      after_conforming region q =
-          body_judged env s b (with_routine env region b.specification.name q.value) (key b.specification.name) q
-          >>= (λ next. rule (Some (given (with_routine env region b.specification.name q.value) next)))
-
-      abbrev after_specified : Region → Given Profile → Plan (Given Region)
-      after_specified region q = conforming b.specification.pos region b.specification.name q.value >>= (λ fit. after_conforming region q)
-
-      abbrev after_completed : Region → Plan (Given Region)
-      after_completed region = specified (with_local env region) s b.specification >>= after_specified region
-
-      packaged_are : Are env.local → IfOk (packaged_body env s b).answer ValueAre
-      packaged_are all =
-          answered ValueAre b.specification.pos _
-          (part_so Are ValueAre (completed env.local b.specification.name).answer after_completed (completed_are env.local b.specification.name all)
-          (λ region h. part_so (λ q. Unit {0}) ValueAre (specified (with_local env region) s b.specification).answer (after_specified region)
-          (any_answer (specified (with_local env region) s b.specification).answer)
-          (λ q u. part_so (λ v. Unit {0}) ValueAre (conforming b.specification.pos region b.specification.name q.value).answer
-          (λ fit. after_conforming region q) (any_answer (conforming b.specification.pos region b.specification.name q.value).answer)
-          (λ fit v. part_so (λ t. Unit {0}) ValueAre
-          (body_judged env s b (with_routine env region b.specification.name q.value) (key b.specification.name) q).answer
-          (λ next. rule (Some (given (with_routine env region b.specification.name q.value) next)))
-          (any_answer (body_judged env s b (with_routine env region b.specification.name q.value) (key b.specification.name) q).answer)
-          (λ next t. routine_are region b.specification.name false q.value h)))))
-
   -- items of packages
   item_are : (env : Env) → Declares (owner_of env) env.unit_number P → env.is_library ≡ true → (s : State) (i : PackageItem) → Are env.local
       → IfPassed (package_item env s i).outcome ValueAre
@@ -351,22 +308,6 @@ module _ (P : List ℕ × Entity → Type 0) where
       (answered ValueAre p (package_item env s i).outcome (item_are env may library s i all))
       (λ r h. part_so ValueAre ValueAre (package_items (with_local env r.value) r.next p items).answer (λ rest. rule (Some rest))
       (items_are (with_local env r.value) may library r.next p items h) (λ rest k. k)))
-
-  body_item_are : (env : Env) → Declares (owner_of env) env.unit_number P → env.is_library ≡ true → (s : State) (i : BodyItem) → Are env.local
-      → IfPassed (body_item env s i).outcome ValueAre
-  body_item_are env may library s (item.Declared i) all = item_are env may library s i all
-  body_item_are env may library s (item.Body b) all =
-      part_so ValueAre ValueAre (packaged_body env s b).answer (λ r. rule (Some r)) (packaged_are env may s b all) (λ r h. h)
-
-  pub body_items_are : (env : Env) → Declares (owner_of env) env.unit_number P → env.is_library ≡ true → (s : State) (p : Pos) (items : List BodyItem) → Are env.local
-      → IfOk (body_items env s p items).answer ValueAre
-  body_items_are env may library s p [] all = all
-  body_items_are env may library s p (i ∷ items) all =
-      answered ValueAre p _
-      (part_so ValueAre ValueAre _ (λ r. body_items (with_local env r.value) r.next p items >>= (λ rest. rule (Some rest)))
-      (answered ValueAre p (body_item env s i).outcome (body_item_are env may library s i all))
-      (λ r h. part_so ValueAre ValueAre (body_items (with_local env r.value) r.next p items).answer (λ rest. rule (Some rest))
-      (body_items_are (with_local env r.value) may library r.next p items h) (λ rest k. k)))
 
   -- formals
   formal_type_are : (env : Env) → DeclaresFormals (owner_of env) env.unit_number P → (s : State) (i : Identifier) (k : ℕ) (integral : Bool) → Are env.local
@@ -410,27 +351,6 @@ module _ (P : List ℕ × Entity → Type 0) where
       (λ r h. part_so ValueAre ValueAre (formals_declared (with_local env r.value) r.next p (k + 1) fs).answer (λ rest. rule (Some rest))
       (formals_are (with_local env r.value) may r.next p (k + 1) fs h) (λ rest l. l)))
 
--- what is declared is declared here
-here_alone : (o : Owner) (n : ℕ) → Declares o n (λ e. IsDeclaredBy o n e.1)
-here_alone o n = record {
-  nothing = λ name. tt;
-  marks = λ name k t. record { number = k; is = refl };
-  values = λ name k m x. record { number = k; is = refl };
-  objects = λ name c t known k. record { number = k; is = refl; whole = refl };
-  exceptions = λ name k. record { number = k; is = refl };
-  routines = λ name r k e. record { number = k; is = e };
-}
-
-here_or_formal : (o : Owner) (n : ℕ) → Declares o n (λ e. IsDeclaredBy o n e.1 ⊎ IsFormalBy o n e.1)
-here_or_formal o n = record {
-  nothing = λ name. inl tt;
-  marks = λ name k t. inl (record { number = k; is = refl });
-  values = λ name k m x. inl (record { number = k; is = refl });
-  objects = λ name c t known k. inl (record { number = k; is = refl; whole = refl });
-  exceptions = λ name k. inl (record { number = k; is = refl });
-  routines = λ name r k e. inl (record { number = k; is = e });
-}
-
 here_in_text : (o : Owner) (n : ℕ) (formals : Region) → Declares o n (IsOfTextBy o n formals)
 here_in_text o n formals = record {
   nothing = λ name. inl tt;
@@ -453,35 +373,10 @@ pub formals_declare : (env : Env) (s : State) (p : Pos) (k : ℕ) (fs : List For
     → IfOk (formals_declared env s p k fs).answer (λ g. AreFormalsHere env g.value)
 formals_declare env s p k fs all = formals_are (λ e. IsFormalHere env e.1) env (formals_here (owner_of env) env.unit_number) s p k fs all
 
--- without formals, and with some
-pub items_declare_alone : (env : Env) → env.is_library ≡ true → (s : State) (p : Pos) (items : List PackageItem) → AreDeclaredHere env env.local
-    → IfOk (package_items env s p items).answer (λ g. AreDeclaredHere env g.value)
-items_declare_alone env library s p items all = items_are (λ e. IsDeclaredHere env e.1) env (here_alone (owner_of env) env.unit_number) library s p items all
-
-pub items_declare : (env : Env) → env.is_library ≡ true → (s : State) (p : Pos) (items : List PackageItem) → AreHere env env.local
-    → IfOk (package_items env s p items).answer (λ g. AreHere env g.value)
-items_declare env library s p items all =
-    items_are (λ e. IsDeclaredHere env e.1 ⊎ IsFormalHere env e.1) env (here_or_formal (owner_of env) env.unit_number) library s p items all
-
 pub items_of_text : (env : Env) (formals : Region) → env.is_library ≡ true → (s : State) (p : Pos) (items : List PackageItem) → AreOfText env formals env.local
     → IfOk (package_items env s p items).answer (λ g. AreOfText env formals g.value)
 items_of_text env formals library s p items all =
     items_are (IsOfTextBy (owner_of env) env.unit_number formals) env (here_in_text (owner_of env) env.unit_number formals) library s p items all
-
--- bodies likewise
-pub body_items_declare_alone : (env : Env) → env.is_library ≡ true → (s : State) (p : Pos) (items : List BodyItem) → AreDeclaredHere env env.local
-    → IfOk (body_items env s p items).answer (λ g. AreDeclaredHere env g.value)
-body_items_declare_alone env library s p items all = body_items_are (λ e. IsDeclaredHere env e.1) env (here_alone (owner_of env) env.unit_number) library s p items all
-
-pub body_items_declare : (env : Env) → env.is_library ≡ true → (s : State) (p : Pos) (items : List BodyItem) → AreHere env env.local
-    → IfOk (body_items env s p items).answer (λ g. AreHere env g.value)
-body_items_declare env library s p items all =
-    body_items_are (λ e. IsDeclaredHere env e.1 ⊎ IsFormalHere env e.1) env (here_or_formal (owner_of env) env.unit_number) library s p items all
-
-pub body_items_of_text : (env : Env) (formals : Region) → env.is_library ≡ true → (s : State) (p : Pos) (items : List BodyItem) → AreOfText env formals env.local
-    → IfOk (body_items env s p items).answer (λ g. AreOfText env formals g.value)
-body_items_of_text env formals library s p items all =
-    body_items_are (IsOfTextBy (owner_of env) env.unit_number formals) env (here_in_text (owner_of env) env.unit_number formals) library s p items all
 
 -- formals are of the text with them
 name_there : (e : List ℕ × Entity) (es : Region) → is_some (entity_of e.0 (e ∷ es)) ≡ true
@@ -579,12 +474,3 @@ declared_owned i n (unit m) h = tt
 
 pub owner_outside : (env : Env) → env.generic ≡ None → owner_of env ≡ of_instance 0
 owner_outside env none = ap (λ g. if is_some g then here else of_instance 0) none
-
-pub region_owned : (env : Env) → env.generic ≡ None → (region : Region) → AreDeclaredHere env region → Everywhere (λ e. IsOwnedEntity e.1) region
-region_owned env none region h =
-    every_so (λ e. IsDeclaredHere env e.1) (λ e. IsOwnedEntity e.1) region
-    (λ e k. declared_owned 0 env.unit_number e.1 (subst (λ o. IsDeclaredBy o env.unit_number e.1) (owner_outside env none) k)) h
-
-pub region_of_library : (env : Env) (region : Region) → AreDeclaredHere env region → Everywhere (λ e. IsOfLibrary e.1) region
-region_of_library env region h =
-    every_so (λ e. IsDeclaredHere env e.1) (λ e. IsOfLibrary e.1) region (λ e k. declared_of_library (owner_of env) env.unit_number e.1 k) h

@@ -2,9 +2,8 @@
 use Rattle.std.proofs.Common.{List, [], ◌∷◌, sym, inl, inr, subst}
 use Rattle.std.specs.Prelude.{◌⊎◌}
 use Rattle.cov_base.specs.Lists.{Everywhere}
-use Rattle.ada_meaning.specs.Program.{Program}
 use Rattle.ada_rules.specs.Types.{AdaType}
-use Rattle.legal_laws.specs.Known.{AreApart, IsOneOf}
+use Rattle.legal_laws.specs.Known.{IsOneOf}
 use Rattle.legal_laws.specs.Standing.{with_type, with_types}
 
 -- with these in front
@@ -40,9 +39,6 @@ pub more_types : (ts us : List AdaType) (t : AdaType) → IsOneOf ts t → IsOne
 more_types ts [] t h = h
 more_types ts (u ∷ us) t h = more_types (u ∷ ts) us t (inr h)
 
-pub apart_list : (p : Program) (ts us : List AdaType) → AreApart p (with_types (IsOneOf ts) us) → AreApart p (IsOneOf (added ts us))
-apart_list p ts us apart t u h k same = apart t u (from_list ts us t h) (from_list ts us u k) same
-
 -- one of those before, or a new one
 pub either_type : (P Q : AdaType → Type 0) (us : List AdaType) → Everywhere Q us → (t : AdaType) → with_types P us t → P t ⊎ Q t
 either_type P Q [] all t h = inl h
@@ -52,6 +48,3 @@ either_type P Q (u ∷ us) all t h = of_one (either_type (with_type P u) Q us al
     of_one (inl (inl k)) = inl k
     of_one (inl (inr e)) = inr (subst Q (sym e) all.0)
     of_one (inr k) = inr k
-
-pub old_or_new : (Q : AdaType → Type 0) (ts us : List AdaType) → Everywhere Q us → (t : AdaType) → IsOneOf (added ts us) t → IsOneOf ts t ⊎ Q t
-old_or_new Q ts us all t h = either_type (IsOneOf ts) Q us all t (from_list ts us t h)

@@ -31,7 +31,7 @@ use Rattle.legal_programs.proofs.Passed.{of_ok, passed_part, passed_rule}
 use Rattle.legal_texts.proofs.DeclaredHere.{IsDeclaredBy, IsFormalBy, IsOfTextBy, AreFormalsHere, AreOfText, IsOwnedEntity, formals_declare, formals_in_text, items_of_text, part_declared, declared_of_library, declared_owned}
 use Rattle.legal_texts.proofs.FormedPrograms.{no_interfaces}
 use Rattle.legal_texts.proofs.InterfaceWalk.{IsAtUnit, same_some, walk_known}
-use Rattle.legal_texts.proofs.KnownWorlds.{set_either}
+use Rattle.legal_texts.proofs.UnitParts.{set_either}
 use Rattle.legal_texts.proofs.OrderOnce.{ordered_once}
 
 pub record IsDeclaredGeneric (n : ℕ) (formals region : Region) : Type 0 where

@@ -116,14 +116,14 @@ grown_of w v ns stays fresh m = of_either (is_in ns m)
     of_either (inr none) = inr (stays.others m none)
 
 module _ (l : Library) where
-  interface_steps : (w : World) (s : State) (n : ℕ) (u : LibraryUnit) (i : LibraryItem) → IfOk (interface_judged typing l w s n u i).answer (StepsTo w n)
+  pub interface_steps : (w : World) (s : State) (n : ℕ) (u : LibraryUnit) (i : LibraryItem) → IfOk (interface_judged typing l w s n u i).answer (StepsTo w n)
   interface_steps w s n u (library.Package x) = package_steps (env_of typing w n (key x.name) (seen_in w l u (unit n))) s u.item_pos n x
   interface_steps w s n u (library.Instance i) =
       instance_steps (env_of typing w n (key i.name) (seen_in w l u hidden)) s u.item_pos n (instance_number n l.units) i
   interface_steps w s n u (library.Subprogram b) = library_steps (env_of typing w n (key b.specification.name) (seen_in w l u hidden)) s n b
   interface_steps w s n u (library.PackageBody b) = record { others = λ m other. refl; same = same_world w }
 
-  at_steps : (x : Walked) (n : ℕ) (o : Option LibraryUnit) → IfOk (interface_at typing l x n o).answer (StepsTo x.world n)
+  pub at_steps : (x : Walked) (n : ℕ) (o : Option LibraryUnit) → IfOk (interface_at typing l x n o).answer (StepsTo x.world n)
   at_steps x n None = record { others = λ m other. refl; same = same_world x.world }
   at_steps x n (Some u) =
       answered (StepsTo x.world n) u.pos _
@@ -160,7 +160,7 @@ module _ (l : Library) where
 
   module _ (final : World) (last : State) (K : Walked → Type 0)
       (keep : (x : Walked) (n : ℕ) (u : LibraryUnit) (y : Walked) → IsAtUnit final last x n u y → K x → K y) where
-    unit_known : (x : Walked) (n : ℕ) (o : Option LibraryUnit) (y : Walked) → slice_get l.units n ≡ o → (interface_at typing l x n o).answer ≡ Ok y
+    pub unit_known : (x : Walked) (n : ℕ) (o : Option LibraryUnit) (y : Walked) → slice_get l.units n ≡ o → (interface_at typing l x n o).answer ≡ Ok y
         → interface_of x.world n ≡ no_interface → IsGrown x.world final → IsSameWorld x.world final → interface_of final n ≡ interface_of y.world n
         → Extends y.next last → K x → K y
     unit_known x n None y there h fresh grown same set more k = subst K (same_some (passed_rule nowhere (Some x) y h)) k

@@ -11,7 +11,7 @@ use Rattle.legal_laws.specs.Known.{IsKnownSubtype, IsEntity, IsRegion, IsEnv}
 use Rattle.legal_laws.proofs.Passing.{every_so}
 use Rattle.legal_texts.specs.Leading.{lead_of}
 use Rattle.legal_texts.proofs.MarkedNames.{IsMarked, IsMarkedEntity, IsMarkedRegion, IsMarkedPlace}
-use Rattle.legal_texts.proofs.KnownWorlds.{entity_so}
+use Rattle.legal_texts.proofs.UnitParts.{entity_so}
 
 module _ (p : Program) (inst : ℕ) (types : AdaType → Type 0) (shape_of : tree.Object → Shape) (Sees : tree.Object → Type 0) where
   abbrev pub IsKnown : Identity → AdaSubtype → Type 0

@@ -39,13 +39,3 @@ module _ (P : Identity → AdaSubtype → Type 0) where
       units = h.units;
       test_io = λ part. declared_marked P part w.standard.test_io_declarations h.test_io;
     }
-
-    -- in a library subprogram, or where an instance stands
-    pub outside_marked : (m : ℕ) (name : List ℕ) (region : Region) → IsMarkedRegion P region → IsMarkedPlace P (env_of typing w m name region)
-    outside_marked m name region seen = record {
-      step = refl;
-      regions = (tt, (seen, (h.predefined, tt)));
-      own = tt;
-      units = h.units;
-      test_io = λ part. declared_marked P part w.standard.test_io_declarations h.test_io;
-    }

@@ -54,10 +54,6 @@ adds_all_both P xs ys zs h k = record {
   all = every_both P k.more h.more k.all h.all;
 }
 
--- what holds of the longer list, where it holds of the shorter one and of those in front of it
-pub all_of_added : {X : Type 0} (P : X → Type 0) (xs ys : List X) → AddsAll P xs ys → Everywhere P xs → Everywhere P ys
-all_of_added P xs ys h all = subst (Everywhere P) (sym h.is) (every_both P h.more xs h.all all)
-
 abbrev pub ObjectIn : Option ℕ → LibraryObject → Type 0
 ObjectIn generic x = x.generic ≡ generic
 
@@ -95,7 +91,7 @@ mapped_any : {A B : Type 0} (P : B → Type 0) (x : Option A) (y : B) → P y �
 mapped_any P None y h = tt
 mapped_any P (Some u) y h = h
 
-ok_so : {A : Type 0} (P : A → Type 0) (r : Result A Pos) → ((x : A) → r ≡ Ok x → P x) → IfOk r P
+pub ok_so : {A : Type 0} (P : A → Type 0) (r : Result A Pos) → ((x : A) → r ≡ Ok x → P x) → IfOk r P
 ok_so P (Ok x) h = h x refl
 ok_so P (Err p) h = tt
 

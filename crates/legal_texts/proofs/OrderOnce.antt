@@ -8,14 +8,14 @@ use Rattle.ada_rules.specs.Library.{is_package_body, units_but_bodies}
 use Rattle.legal_instances.specs.Ordered.{HaveSameItems}
 use Rattle.legal_texts.proofs.InterfaceWalk.{In, StandOnce}
 
-abbrev one_if : Bool → ℕ
+abbrev pub one_if : Bool → ℕ
 one_if true = 1
 one_if false = 0
 
-abbrev weight : ℕ → ℕ → ℕ
+abbrev pub weight : ℕ → ℕ → ℕ
 weight m k = one_if (nat_eq k m)
 
-count : ℕ → List ℕ → ℕ
+pub count : ℕ → List ℕ → ℕ
 count m ns = sum_by (weight m) ns
 
 weight_of : (m n : ℕ) → n ≡ m → weight m n ≡ 1
@@ -25,26 +25,26 @@ weight_if : (b : Bool) → one_if b ≤ 1
 weight_if true = omega (arith)
 weight_if false = omega (arith)
 
-weight_other : (m n : ℕ) → (n ≡ m → ⊥) → weight m n ≡ 0
+pub weight_other : (m n : ℕ) → (n ≡ m → ⊥) → weight m n ≡ 0
 weight_other m n other = by_test (nat_eq n m) refl
   where
     by_test : (b : Bool) → nat_eq n m ≡ b → one_if b ≡ 0
     by_test true e = absurd (other (eqb-true n m e))
     by_test false e = refl
 
-count_cons : (m n : ℕ) (ns : List ℕ) → count m (n ∷ ns) ≡ weight m n + count m ns
+pub count_cons : (m n : ℕ) (ns : List ℕ) → count m (n ∷ ns) ≡ weight m n + count m ns
 unfolding count
 count_cons m n ns = sum_by-cons (weight m) n ns
 
-count_none : (m : ℕ) → count m [] ≡ 0
+pub count_none : (m : ℕ) → count m [] ≡ 0
 unfolding count
 count_none m = refl
 
-same_count : (xs ys : List ℕ) → HaveSameItems xs ys → (m : ℕ) → count m xs ≡ count m ys
+pub same_count : (xs ys : List ℕ) → HaveSameItems xs ys → (m : ℕ) → count m xs ≡ count m ys
 unfolding count
 same_count xs ys h m = h (weight m)
 
-counted_in : (m : ℕ) (ns : List ℕ) → In ns m → 1 ≤ count m ns
+pub counted_in : (m : ℕ) (ns : List ℕ) → In ns m → 1 ≤ count m ns
 counted_in m [] h = absurd h
 counted_in m (n ∷ ns) (inl e) = let all = count_cons m n ns in let one = weight_of m n e in omega (arith, all, one)
 counted_in m (n ∷ ns) (inr h) = let all = count_cons m n ns in let rest = counted_in m ns h in omega (arith, all, rest)

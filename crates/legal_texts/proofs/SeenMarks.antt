@@ -10,7 +10,7 @@ use Rattle.ada_rules.specs.Expressions.{unless_formal, part_of_generic}
 use Rattle.legal_texts.specs.Leading.{lead_of}
 use Rattle.legal_texts.specs.Told.{Table, IsToldEntity, IsToldRegion, TellsMore, Names}
 use Rattle.legal_texts.proofs.DeclaredHere.{IsIdentityOf}
-use Rattle.legal_texts.proofs.KnownWorlds.{entity_so, shown_so}
+use Rattle.legal_texts.proofs.UnitParts.{entity_so, shown_so}
 use Rattle.legal_texts.proofs.MarkedNames.{IsMarked}
 use Rattle.legal_laws.proofs.Passing.{every_so}
 

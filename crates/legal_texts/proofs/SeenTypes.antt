@@ -21,7 +21,7 @@ use Rattle.legal_laws.proofs.SeenEntities.{scalar_seen, AreSeenAs}
 use Rattle.legal_programs.specs.Closed.{IsClosedType, IsOwned}
 use Rattle.legal_programs.proofs.ClosedEntities.{shape_anywhere, type_seen_closed}
 use Rattle.legal_texts.proofs.LibraryItems.{IsOfUnit}
-use Rattle.legal_texts.proofs.OneOf.{in_first, in_second, in_either, one_so, of_mapped, mapped_one, every_mapped, one_added, to_joined}
+use Rattle.legal_texts.proofs.OneOf.{in_first, in_second, in_either, one_so, of_mapped, mapped_one, every_mapped, one_added}
 
 -- an identity that hangs on no text round it: a predefined one, or one of what stands in no generic or in an instance
 abbrev pub IsOwnedIdentity : Identity → Type 0
@@ -172,10 +172,6 @@ module _ (p : Program) where
       both (inr a) (inl b) = absurd (never u t b a (sym equal))
       both (inr a) (inr b) = of_new t u a b same
 
-  -- as types that were added, and back
-  pub apart_added : (ds new : List AdaType) → AreApart p (IsOneOf (ds ++ new)) → AreApart p (with_types (IsOneOf ds) new)
-  apart_added ds new apart t u there also same = apart t u (to_joined ds new t there) (to_joined ds new u also) same
-
   pub apart_of_added : (declared : AdaType → Type 0) (new : List AdaType) → AreApart p (with_types declared new) → AreApart p (IsOneOf new)
   apart_of_added declared new apart t u there also same = apart t u (one_added declared new t there) (one_added declared new u also) same
 
@@ -251,9 +247,6 @@ module _ (p : Program) where
         declared = seen_through;
         given = λ j. given_known inst (IsOneOf types_through) (slice_get actuals j) (old_through (given_type (slice_get actuals j)) (given_there j));
       }
-
-      pub seen_as_added : (inst : ℕ) → AreSeenAs p inst k actuals (with_types (IsOneOf ds) new) (IsOneOf types_through)
-      seen_as_added inst = record { declared = λ t h. seen_through t (to_joined ds new t h); given = (seen_as inst).given }
 
       module _ (g : ℕ) (texts : Everywhere (IsOfText g) new) where
         old_seen : (t : AdaType) → IsOneOf ds t → IsAsOld ds (type_seen k actuals t)

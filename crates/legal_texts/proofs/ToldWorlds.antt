@@ -1,6 +1,6 @@
 -- A table of all marks that units show each other: the identities of each unit name what that unit declared, and those of an instance what its
 -- generic declared, seen through the instance.
-use Rattle.std.proofs.Common.{◌≡◌, ◌≤◌, ◌<◌, ℕ, nat_eq, pred, Bool, true, false, if◌then◌else◌, List, [], ◌∷◌, length, reverse, Option, Some, None, IfSome, Ok, is_some, set, slice_get, refl, sym, ap, ◌∙◌, subst, arith, inl, inr}
+use Rattle.std.proofs.Common.{◌≡◌, ◌≤◌, ◌<◌, ℕ, nat_eq, pred, Bool, true, false, if◌then◌else◌, List, [], ◌∷◌, length, reverse, Option, Some, None, Ok, is_some, set, slice_get, refl, sym, ap, ◌∙◌, subst, arith, inl, inr}
 use Rattle.std.specs.Prelude.{◌⊎◌, unwrap_or}
 use Rattle.std.proofs.lemmas.Bool.{eqb-true, eq-eqb, false≢true}
 use Rattle.cov_base.specs.Lists.{Everywhere}
@@ -25,9 +25,7 @@ use Rattle.ada_rules.specs.Units.{env_of, generic_at, interface_with, package_it
 use Rattle.legal_instances.proofs.InstanceNumbers.{IsInstanceAt, number_positive}
 use Rattle.legal_instances.proofs.KeptInstances.{numbers_apart}
 use Rattle.legal_laws.proofs.Passing.{every_so}
-use Rattle.legal_programs.proofs.DecidedUnits.{every_at}
 use Rattle.legal_programs.proofs.Passed.{of_ok, passed_part, passed_rule}
-use Rattle.legal_programs.specs.PlainUnits.{IsPlainUnit, ArePlainUnits}
 use Rattle.legal_texts.specs.Leading.{lead_of}
 use Rattle.legal_texts.specs.Told.{Table, IsToldRegion, TellsMore, Names, TellsBehind, IsToldPlace}
 use Rattle.legal_texts.proofs.DeclaredHere.{IsDeclaredBy, IsFormalBy, IsOfTextBy, AreFormalsHere, AreOfText, formals_declare, formals_in_text, items_of_text}
@@ -36,7 +34,7 @@ use Rattle.legal_texts.proofs.InterfaceWalk.{IsAtUnit, same_some}
 use Rattle.legal_texts.proofs.MarkedNames.{IsMarked, IsMarkedRegion, entity_marked}
 use Rattle.legal_texts.proofs.MarkedPlaces.{HasMarks, seen_marked, package_marked}
 use Rattle.legal_texts.proofs.NamedGenerics.{generic_there}
-use Rattle.legal_texts.proofs.KnownWorlds.{set_either, below_length, set_there, set_length, unit_in}
+use Rattle.legal_texts.proofs.UnitParts.{set_either, below_length, set_there, set_length, unit_in}
 use Rattle.legal_texts.proofs.SeenMarks.{seen_table, IsOwnMark, AreOwnMarks, seen_other, seen_more_told, seen_none, parts_seen}
 use Rattle.legal_texts.proofs.ToldDeclarations.{region_more}
 use Rattle.legal_texts.proofs.ToldFormals.{formals_tell}
@@ -102,9 +100,6 @@ is_missing i = false
 
 set_is_there : (i : Interface) → is_missing i ≡ false → i ≡ no_interface → ⊥
 set_is_there i e f = false≢true (sym e ∙ ap is_missing f)
-
-pub unit_of : (units : List LibraryUnit) → ArePlainUnits units → (n : ℕ) (u : LibraryUnit) → slice_get units n ≡ Some u → IsPlainUnit u.item
-unit_of units packages n u there = subst (λ o. IfSome o (λ v. IsPlainUnit v.item)) there (every_at (λ v. IsPlainUnit v.item) units n packages)
 
 -- owners
 abbrev owner_in : Identity → Owner

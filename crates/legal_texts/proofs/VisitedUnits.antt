@@ -24,7 +24,7 @@ use Rattle.legal_programs.proofs.Passed.{of_ok, passed_part, passed_rule}
 use Rattle.legal_texts.proofs.BodyWalk.{IsAtBody, bodies_known}
 use Rattle.legal_texts.proofs.InterfaceWalk.{same_some}
 use Rattle.legal_texts.proofs.UnitPlaces.{bodies_before, before_next}
-use Rattle.legal_texts.proofs.KnownWorlds.{below_length}
+use Rattle.legal_texts.proofs.UnitParts.{below_length}
 
 -- the items of the body of a package or a generic
 pub record IsPackageWalked (l : Library) (w : World) (m : ℕ) (u : LibraryUnit) (n : ℕ) (b : PackageBody) (region : Region) (before after : State) : Type 0 where

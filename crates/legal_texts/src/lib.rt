@@ -4,8 +4,9 @@
 //!
 //! - what units see of each other only grows, so that a specification that is looked at twice says
 //!   the same (`Leading`);
-//! - where there is no generic and no instance (`PlainUnits` of `legal_programs`), all that units see
-//!   of each other is known: declarations of packages, and the subprograms that bodies make;
+//! - all that units see of each other is known wherever it is seen: declarations of packages, what
+//!   instances show, and the subprograms that bodies make. The text of a generic is looked at again in
+//!   each of its instances, where its formals are known by what they are given;
 //! - each body has a number of its own (`Numbers`), and marks are told by their identities, so that a
 //!   body has the parameters of the declaration that it completes (`Told`).
 //!
@@ -29,6 +30,7 @@ ghost use Rattle.ada_rules.specs.Units.{body_items, package_items};
 ghost use Rattle.ada_rules.specs.Legal.{checked_with, legal};
 ghost use Rattle.ada_rules.specs.Library.{Library, all_bodies};
 ghost use Rattle.ada_syntax.specs.declared.unit.Unit.{Unit as LibraryUnit};
+ghost use Rattle.legal_instances.specs.InOrder.{UnitsRise};
 ghost use Rattle.legal_instances.specs.Resolved.{AreTextsFormed};
 ghost use Rattle.legal_instances.specs.Worked.{worked_units};
 ghost use Rattle.legal_laws.specs.Bounded.{AreObjectsBounded, IsBounded};
@@ -43,28 +45,31 @@ ghost use Rattle.legal_texts.specs.Told.{IsToldRegion, Table, TellsBehind, Tells
 ghost use Rattle.legal_texts.specs.UnitTexts.{AreUnitTexts};
 ghost use Rattle.legal_texts.specs.Worked.{package_program, package_units, plain_program, plain_units};
 
-use legal_instances::orders_of_legal_programs_are_whole;
+use legal_instances::{
+    actuals_have_their_values, constants_have_their_values, instances_have_their_facts,
+    legal_programs_are_well_formed_but_for_their_texts, orders_of_legal_programs_are_whole,
+};
 
-/// A program of library subprograms, and of packages with their bodies, without generics and instances, that the rules
-/// of the whole language accept is well-formed, in each text of its units, and the types of the objects of its
-/// subprograms and of the library level have bounds, where its statements and its conditions stand in the order of
-/// the text.
-pub fn programs_of_packages_are_well_formed()
+/// A program that the rules of the whole language accept is well-formed, in each text of its units and in each instance
+/// of it, and the types of the objects of its subprograms and of the library level have bounds, where its units, its
+/// statements and its conditions stand in the order of the text.
+pub fn legal_programs_are_well_formed()
     ensures formed { (units : List LibraryUnit) (main : List ℕ) (p : Program)
-        → checked_with whole_standard units main ≡ legal p → ArePlainUnits units → Rise (units_places units)
+        → checked_with whole_standard units main ≡ legal p → UnitsRise units → Rise (units_places units)
         → Rise (units_decisions units) → AreUnitTexts units → IsWellFormed p }
     ensures bounded { (units : List LibraryUnit) (main : List ℕ) (p : Program)
-        → checked_with whole_standard units main ≡ legal p → ArePlainUnits units → Rise (units_places units)
-        → Rise (units_decisions units) → AreUnitTexts units → AreObjectsBounded p }
+        → checked_with whole_standard units main ≡ legal p → UnitsRise units → AreUnitTexts units → AreObjectsBounded p }
     ensures texts { (units : List LibraryUnit) (main : List ℕ) (p : Program)
-        → checked_with whole_standard units main ≡ legal p → ArePlainUnits units → Rise (units_places units)
-        → Rise (units_decisions units) → AreUnitTexts units → AreTextsFormed p }
+        → checked_with whole_standard units main ≡ legal p → UnitsRise units → AreUnitTexts units → AreTextsFormed p }
     ensures library { (units : List LibraryUnit) (main : List ℕ) (p : Program)
-        → checked_with whole_standard units main ≡ legal p → ArePlainUnits units → Rise (units_places units)
-        → Rise (units_decisions units) → AreUnitTexts units
+        → checked_with whole_standard units main ≡ legal p → UnitsRise units → AreUnitTexts units
         → Everywhere (λ o. (i : ℕ) → StandsIn p o.generic i → IsBounded p i o.subtype) p.objects }
 {
     orders_of_legal_programs_are_whole();
+    instances_have_their_facts();
+    constants_have_their_values();
+    actuals_have_their_values();
+    legal_programs_are_well_formed_but_for_their_texts();
 }
 
 /// In a legal program each body has a number of its own: no other one has its name in its package, so it stands
@@ -93,11 +98,13 @@ pub fn marks_are_told_by_their_identities()
 pub fn worked_programs_meet_the_premises()
     ensures is_legal { checked_with whole_standard plain_units (codes "main") ≡ legal plain_program }
     ensures packages { ArePlainUnits plain_units }
+    ensures units { UnitsRise plain_units }
     ensures statements { Rise (units_places plain_units) }
     ensures decisions { Rise (units_decisions plain_units) }
     ensures texts { AreUnitTexts plain_units }
     ensures calls_are_legal { checked_with whole_standard package_units (codes "main") ≡ legal package_program }
     ensures calls_packages { ArePlainUnits package_units }
+    ensures calls_units { UnitsRise package_units }
     ensures calls_statements { Rise (units_places package_units) }
     ensures calls_decisions { Rise (units_decisions package_units) }
     ensures calls_texts { AreUnitTexts package_units }

@@ -16,4 +16,4 @@ pub use legal_counts::{
     each_exception_has_a_token, library_words_of_packages_are_within_limits,
     nodes_and_types_have_tokens, words_are_within_limits,
 };
-pub use legal_texts::programs_of_packages_are_well_formed;
+pub use legal_texts::legal_programs_are_well_formed;

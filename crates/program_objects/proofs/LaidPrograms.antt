@@ -56,13 +56,13 @@ sized_by v inst counts (t ∷ ts) h = (subst IsSized (sym h.0) tt, sized_by v in
 
 -- what laws on the text of such programs say of this one
 pub record Laws (units : List LibraryUnit) (main : List ℕ) (p : meaning.Program) : Type 0 where
-  pub well : ArePlainUnits units → Rise (units_places units) → Rise (units_decisions units) → AreUnitTexts units → IsWellFormed p
-  pub bounded : ArePlainUnits units → Rise (units_places units) → Rise (units_decisions units) → AreUnitTexts units → AreObjectsBounded p
+  pub well : UnitsRise units → Rise (units_places units) → Rise (units_decisions units) → AreUnitTexts units → IsWellFormed p
+  pub bounded : UnitsRise units → AreUnitTexts units → AreObjectsBounded p
   pub sized : UnitsRise units → (m inst : ℕ) (s : meaning.Subprogram) → slice_get p.subprograms m ≡ Some s → StandsIn p s.generic inst
       → Everywhere (IsBounded p inst) s.objects → (counts : type.Subtype → ℕ) × Everywhere (λ t. type_size (values_of p) inst t ≡ Some (counts t)) s.objects
   pub declared : UnitsRise units → (m inst : ℕ) (s : meaning.Subprogram) → slice_get p.subprograms m ≡ Some s → StandsIn p s.generic inst
       → Everywhere (IsBounded p inst) s.objects → text.words_of_objects p inst s.objects ≤ most_declared_words
-  pub library : ArePlainUnits units → Rise (units_places units) → Rise (units_decisions units) → AreUnitTexts units → IsSized (program_size p)
+  pub library : ArePlainUnits units → UnitsRise units → AreUnitTexts units → IsSized (program_size p)
 
 pub plain_law : (files : ℕ) (units : List LibraryUnit) (main : List ℕ) (p : meaning.Program) → AreUnitsOf files units main p → Laws units main p → IsPlain p
 plain_law files units main p h laws =
@@ -70,9 +70,9 @@ plain_law files units main p h laws =
     let statements = statements_rise_weakly open_extent files units h.read in
     let decisions = decisions_rise open_extent files units h.read in
     let texts = texts_of open_extent files units h.read in
-    let well = laws.well subs statements decisions texts in
-    let bounded = laws.bounded subs statements decisions texts in
     let rise = units_rise open_extent files units h.read in
+    let well = laws.well rise statements decisions texts in
+    let bounded = laws.bounded rise texts in
     record {
       well = well;
       outside = outside_law files units main p h;
@@ -80,7 +80,7 @@ plain_law files units main p h laws =
           let counted = laws.sized rise m inst s at stands (bounded m inst s at stands) in
           sized_by (values_of p) inst counted.0 s.objects counted.1;
       declared = λ m inst s at stands. laws.declared rise m inst s at stands (bounded m inst s at stands);
-      library = laws.library subs statements decisions texts;
+      library = laws.library subs rise texts;
     }
 
 -- nodes, each within what all have

@@ -33,3 +33,9 @@ returns-clause-calls_decisions c = tt
 
 pub returns-clause-calls_texts : goal.returns-clause-calls_texts
 returns-clause-calls_texts c = ((tt, tt), ((tt, ((tt, ((tt, tt), tt)), ((tt, ((tt, tt), tt)), tt))), ((tt, ((tt, tt), tt)), tt)))
+
+pub returns-clause-units : goal.returns-clause-units
+returns-clause-units c = ((refl, tt), (tt, tt))
+
+pub returns-clause-calls_units : goal.returns-clause-calls_units
+returns-clause-calls_units c = ((refl, (refl, tt)), ((refl, tt), (tt, tt)))

@@ -11,15 +11,14 @@ pub returns : goal.returns
 returns c = λ files units main p h.
     let is = is_legal (whole_library units) main p h.program.legal in
     plain_law files units main p h (record {
-      well = λ subs statements decisions texts.
-          c.programs_of_packages_are_well_formed.ensures.formed units main p h.program.legal subs statements decisions texts;
-      bounded = λ subs statements decisions texts.
-          c.programs_of_packages_are_well_formed.ensures.bounded units main p h.program.legal subs statements decisions texts;
+      well = λ rise statements decisions texts.
+          c.legal_programs_are_well_formed.ensures.formed units main p h.program.legal rise statements decisions texts;
+      bounded = λ rise texts. c.legal_programs_are_well_formed.ensures.bounded units main p h.program.legal rise texts;
       sized = λ rise m inst s at stands bounded.
           (λ t. words_in is.walked.world.instances inst t, c.words_are_within_limits.ensures.sized whole_standard units main p is rise m inst s at stands bounded);
       declared = λ rise m inst s at stands bounded.
           c.words_are_within_limits.ensures.declared whole_standard units main p is rise m inst s at stands bounded;
-      library = λ subs statements decisions texts.
+      library = λ subs rise texts.
           subst IsSized (sym (c.library_words_of_packages_are_within_limits.ensures.sized (whole_library units) main p is subs
-          (c.programs_of_packages_are_well_formed.ensures.library units main p h.program.legal subs statements decisions texts))) tt;
+          (c.legal_programs_are_well_formed.ensures.library units main p h.program.legal rise texts))) tt;
     })
