@@ -121,9 +121,9 @@ subprogram_keeps env s x =
     any_some (Some n) = tt
 
 -- bodies
-body_adds : (env : Env) (before s : State) (q : Given Profile) (b : SubprogramBody) (x : Declared) (f : Given Frame) (n : ℕ) → Adds n before f.next
-    → Adds n before (body_made env before q.value (block_of x.made f.value) f.next)
-body_adds env before s q b x f n h = record { most = h.most }
+body_adds : (env : Env) (before s : State) (q : Given Profile) (b : SubprogramBody) (x : Declared) (f : Given Frame) (n : ℕ) → Adds env.generic n before f.next
+    → Adds env.generic n before (body_made env before q.value (block_of x.made f.value) f.next)
+body_adds env before s q b x f n h = record { most = h.most; each = h.each }
 
 module _ (env : Env) (before : State) (b : SubprogramBody) (region : Region) (name : List ℕ) (q : Given Profile) where
   abbrev inside : Env
@@ -132,25 +132,25 @@ module _ (env : Env) (before : State) (b : SubprogramBody) (region : Region) (na
   abbrev made : Declared → Given Frame → State
   made x f = body_made env before q.value (block_of x.made f.value) f.next
 
-  pub judged_adds : Keeps before q.next → IfOk (body_judged env before b region name q).answer (Adds (body_exceptions b) before)
+  pub judged_adds : Keeps before q.next → IfOk (body_judged env before b region name q).answer (Adds env.generic (body_exceptions b) before)
   judged_adds h =
       let n = body_exceptions b in
-      answered (Adds n before) b.specification.pos _
-      (part_so (AddsOn (declared_exceptions b.declarations) q.next) (Adds n before) (all_declared inside q.next b.specification.pos b.declarations).answer
+      answered (Adds env.generic n before) b.specification.pos _
+      (part_so (AddsOn env.generic (declared_exceptions b.declarations) q.next) (Adds env.generic n before) (all_declared inside q.next b.specification.pos b.declarations).answer
       (λ x. all_handled (with_local inside x.region) x.next b.specification.pos b.statements
       >>= (λ f. closed_by b.specification.pos b.specification.name b.end_name
       >>= (λ u. typed_rule env.step (made x f) (if may_end b q.value.result then Some (made x f) else None))))
       (declarations_add inside q.next b.specification.pos b.declarations)
-      (λ x k. part_so (Add (handled_exceptions b.statements) x.next) (Adds n before) (all_handled (with_local inside x.region) x.next b.specification.pos b.statements).answer
+      (λ x k. part_so (Add env.generic (handled_exceptions b.statements) x.next) (Adds env.generic n before) (all_handled (with_local inside x.region) x.next b.specification.pos b.statements).answer
       (λ f. closed_by b.specification.pos b.specification.name b.end_name
       >>= (λ u. typed_rule env.step (made x f) (if may_end b q.value.result then Some (made x f) else None)))
       (handled_adds (with_local inside x.region) x.next b.specification.pos b.statements)
-      (λ f l. part_so (λ u. Unit {0}) (Adds n before) (closed_by b.specification.pos b.specification.name b.end_name).answer
+      (λ f l. part_so (λ u. Unit {0}) (Adds env.generic n before) (closed_by b.specification.pos b.specification.name b.end_name).answer
       (λ u. typed_rule env.step (made x f) (if may_end b q.value.result then Some (made x f) else None))
       (any_answer (closed_by b.specification.pos b.specification.name b.end_name).answer)
-      (λ u v. let all = body_adds env before x.next q b x f n (adds_behind n before q.next f.next h
-      (adds_both (declared_exceptions b.declarations) (handled_exceptions b.statements) q.next x.next f.next k l)) in
-      typed_either (Adds n before) env.step (made x f) _ all (if_test (Adds n before) (may_end b q.value.result) (Some (made x f)) (λ e. all))))))
+      (λ u v. let all = body_adds env before x.next q b x f n (adds_behind env.generic n before q.next f.next h
+      (adds_both env.generic (declared_exceptions b.declarations) (handled_exceptions b.statements) q.next x.next f.next k l)) in
+      typed_either (Adds env.generic n before) env.step (made x f) _ all (if_test (Adds env.generic n before) (may_end b q.value.result) (Some (made x f)) (λ e. all))))))
 
 module _ (env : Env) (s : State) (b : SubprogramBody) where
   abbrev after_conforming : Region → Given Profile → Plan (Given Region)
@@ -164,52 +164,52 @@ module _ (env : Env) (s : State) (b : SubprogramBody) where
   abbrev after_completed : Region → Plan (Given Region)
   after_completed region = specified (with_local env region) s b.specification >>= after_specified region
 
-  pub packaged_adds : IfOk (packaged_body env s b).answer (Add (body_exceptions b) s)
+  pub packaged_adds : IfOk (packaged_body env s b).answer (Add env.generic (body_exceptions b) s)
   packaged_adds =
-      answered (Add (body_exceptions b) s) b.specification.pos _
-      (part_so (λ r. Unit {0}) (Add (body_exceptions b) s) (completed env.local b.specification.name).answer after_completed
+      answered (Add env.generic (body_exceptions b) s) b.specification.pos _
+      (part_so (λ r. Unit {0}) (Add env.generic (body_exceptions b) s) (completed env.local b.specification.name).answer after_completed
       (any_answer (completed env.local b.specification.name).answer)
-      (λ region u. part_so (Keep s) (Add (body_exceptions b) s) (specified (with_local env region) s b.specification).answer (after_specified region)
+      (λ region u. part_so (Keep s) (Add env.generic (body_exceptions b) s) (specified (with_local env region) s b.specification).answer (after_specified region)
       (specified_keeps (with_local env region) s b.specification)
-      (λ q h. part_so (λ v. Unit {0}) (Add (body_exceptions b) s) (conforming b.specification.pos region b.specification.name q.value).answer
+      (λ q h. part_so (λ v. Unit {0}) (Add env.generic (body_exceptions b) s) (conforming b.specification.pos region b.specification.name q.value).answer
       (λ fit. after_conforming region q) (any_answer (conforming b.specification.pos region b.specification.name q.value).answer)
-      (λ fit v. part_so (Adds (body_exceptions b) s) (Add (body_exceptions b) s)
+      (λ fit v. part_so (Adds env.generic (body_exceptions b) s) (Add env.generic (body_exceptions b) s)
       (body_judged env s b (with_routine env region b.specification.name q.value) (key b.specification.name) q).answer
       (λ next. rule (Some (given (with_routine env region b.specification.name q.value) next)))
       (judged_adds env s b (with_routine env region b.specification.name q.value) (key b.specification.name) q h)
       (λ next k. k)))))
 
 -- the items of packages
-item_adds : (env : Env) (s : State) (i : PackageItem) → IfPassed (package_item env s i).outcome (Add (package_item_exceptions i) s)
+item_adds : (env : Env) (s : State) (i : PackageItem) → IfPassed (package_item env s i).outcome (Add env.generic (package_item_exceptions i) s)
 item_adds env s (part.Declaration d) =
-    part_so (AddsOn (kind_exceptions d.kind) s) (Add (kind_exceptions d.kind) s) (declared env s d).answer (λ x. rule (Some (given x.region x.next))) (declaration_adds env s d) (λ x h. h)
+    part_so (AddsOn env.generic (kind_exceptions d.kind) s) (Add env.generic (kind_exceptions d.kind) s) (declared env s d).answer (λ x. rule (Some (given x.region x.next))) (declaration_adds env s d) (λ x h. h)
 item_adds env s (part.Subprogram x) =
-    part_so (Keep s) (Add 0 s) (subprogram_declared env s x).answer (λ r. rule (Some r)) (subprogram_keeps env s x) (λ r h. of_keeps 0 s r.next h)
+    part_so (Keep s) (Add env.generic 0 s) (subprogram_declared env s x).answer (λ r. rule (Some r)) (subprogram_keeps env s x) (λ r h. of_keeps env.generic 0 s r.next h)
 
-pub items_add : (env : Env) (s : State) (p : Pos) (is : List PackageItem) → IfOk (package_items env s p is).answer (Add (package_items_exceptions is) s)
-items_add env s p [] = of_keeps 0 s s (keeps_same s)
+pub items_add : (env : Env) (s : State) (p : Pos) (is : List PackageItem) → IfOk (package_items env s p is).answer (Add env.generic (package_items_exceptions is) s)
+items_add env s p [] = of_keeps env.generic 0 s s (keeps_same s)
 items_add env s p (i ∷ is) =
     let n = package_item_exceptions i + package_items_exceptions is in
-    answered (Add n s) p _
-    (part_so (Add (package_item_exceptions i) s) (Add n s) _ (λ r. package_items (with_local env r.value) r.next p is >>= (λ rest. rule (Some rest)))
-    (answered (Add (package_item_exceptions i) s) p (package_item env s i).outcome (item_adds env s i))
-    (λ r h. part_so (Add (package_items_exceptions is) r.next) (Add n s) (package_items (with_local env r.value) r.next p is).answer (λ rest. rule (Some rest))
-    (items_add (with_local env r.value) r.next p is) (λ rest k. adds_both (package_item_exceptions i) (package_items_exceptions is) s r.next rest.next h k)))
+    answered (Add env.generic n s) p _
+    (part_so (Add env.generic (package_item_exceptions i) s) (Add env.generic n s) _ (λ r. package_items (with_local env r.value) r.next p is >>= (λ rest. rule (Some rest)))
+    (answered (Add env.generic (package_item_exceptions i) s) p (package_item env s i).outcome (item_adds env s i))
+    (λ r h. part_so (Add env.generic (package_items_exceptions is) r.next) (Add env.generic n s) (package_items (with_local env r.value) r.next p is).answer (λ rest. rule (Some rest))
+    (items_add (with_local env r.value) r.next p is) (λ rest k. adds_both env.generic (package_item_exceptions i) (package_items_exceptions is) s r.next rest.next h k)))
 
-body_item_adds : (env : Env) (s : State) (i : BodyItem) → IfPassed (body_item env s i).outcome (Add (body_item_exceptions i) s)
+body_item_adds : (env : Env) (s : State) (i : BodyItem) → IfPassed (body_item env s i).outcome (Add env.generic (body_item_exceptions i) s)
 body_item_adds env s (item.Declared i) = item_adds env s i
 body_item_adds env s (item.Body b) =
-    part_so (Add (body_exceptions b) s) (Add (body_exceptions b) s) (packaged_body env s b).answer (λ r. rule (Some r)) (packaged_adds env s b) (λ r h. h)
+    part_so (Add env.generic (body_exceptions b) s) (Add env.generic (body_exceptions b) s) (packaged_body env s b).answer (λ r. rule (Some r)) (packaged_adds env s b) (λ r h. h)
 
-pub body_items_add : (env : Env) (s : State) (p : Pos) (is : List BodyItem) → IfOk (body_items env s p is).answer (Add (body_items_exceptions is) s)
-body_items_add env s p [] = of_keeps 0 s s (keeps_same s)
+pub body_items_add : (env : Env) (s : State) (p : Pos) (is : List BodyItem) → IfOk (body_items env s p is).answer (Add env.generic (body_items_exceptions is) s)
+body_items_add env s p [] = of_keeps env.generic 0 s s (keeps_same s)
 body_items_add env s p (i ∷ is) =
     let n = body_item_exceptions i + body_items_exceptions is in
-    answered (Add n s) p _
-    (part_so (Add (body_item_exceptions i) s) (Add n s) _ (λ r. body_items (with_local env r.value) r.next p is >>= (λ rest. rule (Some rest)))
-    (answered (Add (body_item_exceptions i) s) p (body_item env s i).outcome (body_item_adds env s i))
-    (λ r h. part_so (Add (body_items_exceptions is) r.next) (Add n s) (body_items (with_local env r.value) r.next p is).answer (λ rest. rule (Some rest))
-    (body_items_add (with_local env r.value) r.next p is) (λ rest k. adds_both (body_item_exceptions i) (body_items_exceptions is) s r.next rest.next h k)))
+    answered (Add env.generic n s) p _
+    (part_so (Add env.generic (body_item_exceptions i) s) (Add env.generic n s) _ (λ r. body_items (with_local env r.value) r.next p is >>= (λ rest. rule (Some rest)))
+    (answered (Add env.generic (body_item_exceptions i) s) p (body_item env s i).outcome (body_item_adds env s i))
+    (λ r h. part_so (Add env.generic (body_items_exceptions is) r.next) (Add env.generic n s) (body_items (with_local env r.value) r.next p is).answer (λ rest. rule (Some rest))
+    (body_items_add (with_local env r.value) r.next p is) (λ rest k. adds_both env.generic (body_item_exceptions i) (body_items_exceptions is) s r.next rest.next h k)))
 
 -- formals
 formal_type_keeps : (env : Env) (s : State) (i : Identifier) (k : ℕ) (integral : Bool) → IfPassed (formal_type_declared env s i k integral).outcome (Keep s)

@@ -27,7 +27,8 @@ use Rattle.legal_laws.proofs.Passing.{IfPassed, if_test, answered, part_so, type
 use Rattle.legal_programs.specs.Growing.{Adds}
 use Rattle.legal_programs.specs.Homes.{IsThere, HasHome}
 use Rattle.legal_counts.specs.BodyTexts.{bodies_among, bodies_of_item}
-use Rattle.legal_counts.specs.Generics.{generic_at, generic_of_item, generics_of}
+use Rattle.legal_types.specs.TextGenerics.{generic_at, generic_of_item}
+use Rattle.legal_counts.specs.Generics.{generics_of}
 use Rattle.legal_programs.specs.Walked.{IsLegal}
 use Rattle.legal_programs.proofs.Adding.{adds_both, Add, AddsOn, declaration_adds, declarations_add}
 use Rattle.legal_programs.proofs.AddingStatements.{handled_add}
@@ -223,12 +224,16 @@ same_generics v w l (u ∷ us) e = λ i. all_of (same_item u.item i) (bodies_of_
     same_item (library.Package x) = refl
     same_item (library.Instance i) = refl
 
-pub generics_are : (l : Library) (main : List ℕ) (p : Program) → (is : IsLegal l main p)
-    → map (λ m. m.generic) p.subprograms ≡ generics_of is.walked.world l l.units
-generics_are l main p is =
+pub generics_seen : (l : Library) (main : List ℕ) (p : Program) → (is : IsLegal l main p)
+    → map (λ m. m.generic) p.subprograms ≡ generics_of is.walk.seen.world l l.units
+generics_seen l main p is =
     let w = is.walk.seen.world in
     let all = of_ok (More (generics_of w l l.units) is.walk.seen.next) (all_bodies_judged typing l w is.walk.seen.next 0 l.units).answer is.walked.next is.walk.bodies
     (all_bodies_keep l w is.walk.seen.next 0 l.units (have_homes l 0 l.units (are_headed l 0 l.units is.walk.headings))) in
     ap (λ q. map (λ m. m.generic) q.subprograms) is.made
-    ∙ (all ∙ (ap (λ ms. map (λ m. m.generic) (reverse ms) ++ generics_of w l l.units) (states_of l main p is).seen.subprograms
-    ∙ same_generics w is.walked.world l l.units (sym (ap (λ v. v.interfaces) is.walk.world))))
+    ∙ (all ∙ ap (λ ms. map (λ m. m.generic) (reverse ms) ++ generics_of w l l.units) (states_of l main p is).seen.subprograms)
+
+pub generics_are : (l : Library) (main : List ℕ) (p : Program) → (is : IsLegal l main p)
+    → map (λ m. m.generic) p.subprograms ≡ generics_of is.walked.world l l.units
+generics_are l main p is =
+    generics_seen l main p is ∙ same_generics is.walk.seen.world is.walked.world l l.units (sym (ap (λ v. v.interfaces) is.walk.world))

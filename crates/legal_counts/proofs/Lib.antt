@@ -5,6 +5,7 @@ mod ConditionStatements
 pub mod ConditionUnits
 pub mod HeldDecisions
 mod NodesOfExpressions
+mod ExceptionNames
 mod OutsideTypes
 mod NodesOfStatements
 pub mod NodesOfUnits
@@ -15,11 +16,15 @@ pub mod GenericsOfBodies
 mod NotedDeclarations
 mod NotedStatements
 mod NotedItems
+mod NotedFormals
 mod NotedUnits
-pub mod WordsOfPackages
-mod ExceptionNames
+mod ShownInstances
+pub mod WordsOfInstances
 mod ExceptionDeclarations
 mod ExceptionStatements
 mod ExceptionBodies
 mod ExceptionUnits
 pub mod ExceptionNodes
+pub mod NodesByGeneric
+pub mod ShownInterfaces
+pub mod InstancesByGeneric

@@ -258,7 +258,7 @@ module _ (env : Env) (step : env.step ≡ typing) (whole : IsWholeEnv env) (insi
       (λ region h. part_so (λ x. Unit {0}) (Declares all) (indicated (with_local env region) s t).answer (λ x. objects_declared env q c region is x i)
       (any_answer (indicated (with_local env region) s t).answer) (λ x u. objects_few q c region h is t x i))
   kind_few s q (declares.Exception is) =
-      let all = kind_nodes (declares.Exception is) in
+      let all = kind_outside (declares.Exception is) in
       part_so (λ x. Unit {0}) (Declares all) (hide_all q env.local is).answer (λ region. rule (Some (exceptions_from env s region is)))
       (any_answer (hide_all q env.local is).answer)
       (λ region u. subst (λ ds. size.declarations_nodes ds ≤ all) (sym (exceptions_made env s region is)) (nothing_in all))

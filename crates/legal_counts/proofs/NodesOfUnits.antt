@@ -53,6 +53,7 @@ use Rattle.legal_counts.proofs.Lists.{every_parts}
 use Rattle.legal_counts.proofs.NodesOfStatements.{DeclaresIn, declarations_few, FrameAs, handled_few, block_in}
 use Rattle.legal_counts.proofs.OutsideTypes.{kind_outside, declaration_outside, handled_outside, kind_split, declarations_split, handled_split, IsOutside, AreOutside, within_text}
 use Rattle.legal_programs.proofs.WholeRegions.{local_whole, redefined_whole}
+use Rattle.legal_counts.proofs.ExceptionNames.{kind_exceptions, declared_exceptions, handled_exceptions, body_exceptions, package_item_exceptions, package_items_exceptions, body_items_exceptions, item_exceptions, units_exceptions}
 use Rattle.legal_types.specs.TypeTokens.{kind_types, declared_types, handled_types, body_types, package_item_types, package_items_types, body_items_types, item_types, units_types}
 
 -- lists beside each other
@@ -334,7 +335,7 @@ module _ (l : Library) where
       (λ x k. part_so (More (bodies_in us) x) (More (bodies_in (u ∷ us)) s) (all_bodies_judged typing l w x (n + 1) us).answer (λ rest. rule (Some rest))
       (all_bodies_within w x (n + 1) us h.1 world parts.1) (λ rest r. more_both (bodies_of_item u.item) (bodies_in us) s x rest k r)))
 
-subprograms_outside : (l : Library) (main : List ℕ) (p : Program) → IsLegal l main p → IsWholeStandard l.standard → UnitsHaveChoices l.units
+pub subprograms_outside : (l : Library) (main : List ℕ) (p : Program) → IsLegal l main p → IsWholeStandard l.standard → UnitsHaveChoices l.units
     → AreOutside p.subprograms (bodies_in l.units)
 subprograms_outside l main p is standard filled =
     let seen = of_ok (λ y. Seen beginning_state y)
@@ -351,122 +352,132 @@ pub subprograms_within : (l : Library) (main : List ℕ) (p : Program) → IsLeg
 subprograms_within l main p is standard filled =
     within_text p.subprograms (bodies_in l.units) (subprograms_outside l main p is standard filled)
 
--- whole programs
-one_few : (s : Subprogram) (b : SubprogramBody) → IsOutside s b → size.subprogram_nodes s + body_types b ≤ body_nodes b
+-- whole programs: what types weigh and what names exceptions have tokens apart
+abbrev pub body_apart : SubprogramBody → ℕ
+body_apart b = body_types b + body_exceptions b
+
+pub one_few : (s : Subprogram) (b : SubprogramBody) → IsOutside s b → size.subprogram_nodes s + body_apart b ≤ body_nodes b
 one_few s b h =
     one_in (length s.parameters) (size.block_nodes s.body) (sum_by parameter_nodes b.specification.parameters)
-    (sum_by declaration_outside b.declarations) (declared_types b.declarations) (sum_by declaration_nodes b.declarations)
-    (handled_outside b.statements) (handled_types b.statements) (handled_nodes b.statements)
+    (sum_by declaration_outside b.declarations) (declared_types b.declarations) (declared_exceptions b.declarations) (sum_by declaration_nodes b.declarations)
+    (handled_outside b.statements) (handled_types b.statements) (handled_exceptions b.statements) (handled_nodes b.statements)
     (if_present (λ n. 1 + name_nodes n) b.specification.result_mark) (one_if_present b.end_name)
     h.parameters h.block (declarations_split b.declarations) (handled_split b.statements)
   where
-    one_in : (n m a c ct cn d dt dn r e : ℕ) → n ≤ a → m ≤ c + d → c + ct ≤ cn → d + dt ≤ dn → suc (n + m) + (ct + dt) ≤ (2 + a + r) + 3 + cn + dn + e
-    one_in n m a c ct cn d dt dn r e h k i j = omega (arith, h, k, i, j)
+    one_in : (n m a c ct cx cn d dt dx dn r e : ℕ) → n ≤ a → m ≤ c + d → c + (ct + cx) ≤ cn → d + (dt + dx) ≤ dn
+        → suc (n + m) + ((ct + dt) + (cx + dx)) ≤ (2 + a + r) + 3 + cn + dn + e
+    one_in n m a c ct cx cn d dt dx dn r e h k i j = omega (arith, h, k, i, j)
 
-all_few : (ss : List Subprogram) (bs : List SubprogramBody) → AreOutside ss bs → sum_by size.subprogram_nodes ss + sum_by body_types bs ≤ sum_by body_nodes bs
+all_few : (ss : List Subprogram) (bs : List SubprogramBody) → AreOutside ss bs → sum_by size.subprogram_nodes ss + sum_by body_apart bs ≤ sum_by body_nodes bs
 all_few [] [] h = at_itself 0
   where
     at_itself : (n : ℕ) → n + 0 ≤ n
     at_itself n = omega (arith)
 all_few (s ∷ ss) (b ∷ bs) h =
     let left = sum_by-cons size.subprogram_nodes s ss in
-    let types = sum_by-cons body_types b bs in
+    let apart = sum_by-cons body_apart b bs in
     let right = sum_by-cons body_nodes b bs in
     let first = one_few s b h.0 in
     let rest = all_few ss bs h.1 in
-    omega (arith, left, types, right, first, rest)
+    omega (arith, left, apart, right, first, rest)
 all_few [] (b ∷ bs) h = absurd h
 all_few (s ∷ ss) [] h = absurd h
 
 -- what stands beside the bodies has tokens of its own
-package_item_few : (i : PackageItem) → package_item_types i ≤ package_item_nodes i
-package_item_few (part.Declaration d) = let split = kind_split d.kind in under (kind_outside d.kind) (kind_types d.kind) (kind_nodes d.kind) split
+nothing_in : (n : ℕ) → 0 + 0 ≤ n
+nothing_in n = omega (arith)
+
+package_item_few : (i : PackageItem) → package_item_types i + package_item_exceptions i ≤ package_item_nodes i
+package_item_few (part.Declaration d) =
+    let split = kind_split d.kind in under (kind_outside d.kind) (kind_types d.kind + kind_exceptions d.kind) (kind_nodes d.kind) split
   where
     under : (a b c : ℕ) → a + b ≤ c → b ≤ c
     under a b c h = omega (arith, h)
 package_item_few (part.Subprogram x) = nothing_in (package_item_nodes (part.Subprogram x))
-  where
-    nothing_in : (n : ℕ) → 0 ≤ n
-    nothing_in n = omega (arith)
 
-package_items_few : (is : List PackageItem) → package_items_types is ≤ sum_by package_item_nodes is
+package_items_few : (is : List PackageItem) → package_items_types is + package_items_exceptions is ≤ sum_by package_item_nodes is
 package_items_few [] = nothing_in (sum_by package_item_nodes [])
-  where
-    nothing_in : (n : ℕ) → 0 ≤ n
-    nothing_in n = omega (arith)
 package_items_few (i ∷ is) =
-    both_in (package_item_types i) (package_items_types is) (package_item_nodes i) (sum_by package_item_nodes is) (sum_by package_item_nodes (i ∷ is))
-    (sum_by-cons package_item_nodes i is) (package_item_few i) (package_items_few is)
+    both_in (package_item_types i) (package_item_exceptions i) (package_items_types is) (package_items_exceptions is) (package_item_nodes i)
+    (sum_by package_item_nodes is) (sum_by package_item_nodes (i ∷ is)) (sum_by-cons package_item_nodes i is) (package_item_few i) (package_items_few is)
   where
-    both_in : (a b c d n : ℕ) → n ≡ c + d → a ≤ c → b ≤ d → a + b ≤ n
-    both_in a b c d n e h k = omega (arith, e, h, k)
+    both_in : (a x b y c d n : ℕ) → n ≡ c + d → a + x ≤ c → b + y ≤ d → (a + b) + (x + y) ≤ n
+    both_in a x b y c d n e h k = omega (arith, e, h, k)
 
-among_few : (is : List BodyItem) → sum_by body_nodes (bodies_among is) + body_items_types is ≤ sum_by body_item_nodes is + sum_by body_types (bodies_among is)
+among_few : (is : List BodyItem)
+    → sum_by body_nodes (bodies_among is) + (body_items_types is + body_items_exceptions is) ≤ sum_by body_item_nodes is + sum_by body_apart (bodies_among is)
 among_few [] = at_itself 0
   where
-    at_itself : (n : ℕ) → n + 0 ≤ n + 0
+    at_itself : (n : ℕ) → n + (0 + 0) ≤ n + 0
     at_itself n = omega (arith)
 among_few (item.Body b ∷ is) =
-    both_in (body_nodes b) (body_types b) (sum_by body_nodes (bodies_among is)) (body_items_types is) (sum_by body_item_nodes is) (sum_by body_types (bodies_among is))
-    (sum_by body_nodes (b ∷ bodies_among is)) (sum_by body_item_nodes (item.Body b ∷ is)) (sum_by body_types (b ∷ bodies_among is))
-    (sum_by-cons body_nodes b (bodies_among is)) (sum_by-cons body_item_nodes (item.Body b) is) (sum_by-cons body_types b (bodies_among is)) (among_few is)
+    both_in (body_nodes b) (body_types b) (body_exceptions b) (sum_by body_nodes (bodies_among is)) (body_items_types is) (body_items_exceptions is)
+    (sum_by body_item_nodes is) (sum_by body_apart (bodies_among is))
+    (sum_by body_nodes (b ∷ bodies_among is)) (sum_by body_item_nodes (item.Body b ∷ is)) (sum_by body_apart (b ∷ bodies_among is))
+    (sum_by-cons body_nodes b (bodies_among is)) (sum_by-cons body_item_nodes (item.Body b) is) (sum_by-cons body_apart b (bodies_among is)) (among_few is)
   where
-    both_in : (n t a b c d x y z : ℕ) → x ≡ n + a → y ≡ n + c → z ≡ t + d → a + b ≤ c + d → x + (t + b) ≤ y + z
-    both_in n t a b c d x y z e f g h = omega (arith, e, f, g, h)
+    both_in : (n t v a b s c d x y z : ℕ) → x ≡ n + a → y ≡ n + c → z ≡ (t + v) + d → a + (b + s) ≤ c + d → x + ((t + b) + (v + s)) ≤ y + z
+    both_in n t v a b s c d x y z e f g h = omega (arith, e, f, g, h)
 among_few (item.Declared i ∷ is) =
-    more_in (package_item_types i) (package_item_nodes i) (sum_by body_nodes (bodies_among is)) (body_items_types is) (sum_by body_item_nodes is)
-    (sum_by body_types (bodies_among is)) (sum_by body_item_nodes (item.Declared i ∷ is))
+    more_in (package_item_types i) (package_item_exceptions i) (package_item_nodes i) (sum_by body_nodes (bodies_among is)) (body_items_types is) (body_items_exceptions is)
+    (sum_by body_item_nodes is) (sum_by body_apart (bodies_among is)) (sum_by body_item_nodes (item.Declared i ∷ is))
     (sum_by-cons body_item_nodes (item.Declared i) is) (package_item_few i) (among_few is)
   where
-    more_in : (t n a b c d y : ℕ) → y ≡ n + c → t ≤ n → a + b ≤ c + d → a + (t + b) ≤ y + d
-    more_in t n a b c d y f k h = omega (arith, f, k, h)
+    more_in : (t v n a b s c d y : ℕ) → y ≡ n + c → t + v ≤ n → a + (b + s) ≤ c + d → a + ((t + b) + (v + s)) ≤ y + d
+    more_in t v n a b s c d y f k h = omega (arith, f, k, h)
 
-item_few : (i : LibraryItem) → sum_by body_nodes (bodies_of_item i) + item_types i ≤ item_nodes i + sum_by body_types (bodies_of_item i)
+pub item_few : (i : LibraryItem) → sum_by body_nodes (bodies_of_item i) + (item_types i + item_exceptions i) ≤ item_nodes i + sum_by body_apart (bodies_of_item i)
 item_few (library.PackageBody b) =
-    around (sum_by body_nodes (bodies_among b.items)) (body_items_types b.items) (sum_by body_item_nodes b.items) (sum_by body_types (bodies_among b.items))
-    (one_if_present b.end_name) (among_few b.items)
+    around (sum_by body_nodes (bodies_among b.items)) (body_items_types b.items + body_items_exceptions b.items) (sum_by body_item_nodes b.items)
+    (sum_by body_apart (bodies_among b.items)) (one_if_present b.end_name) (among_few b.items)
   where
     around : (a b c d e : ℕ) → a + b ≤ c + d → a + b ≤ (5 + c + e) + d
     around a b c d e h = omega (arith, h)
 item_few (library.Subprogram b) =
     let nodes = sum_by-cons body_nodes b [] in
-    let types = sum_by-cons body_types b [] in
-    alone (sum_by body_nodes (b ∷ [])) (body_nodes b) (sum_by body_types (b ∷ [])) (body_types b) nodes types
+    let apart = sum_by-cons body_apart b [] in
+    alone (sum_by body_nodes (b ∷ [])) (body_nodes b) (sum_by body_apart (b ∷ [])) (body_apart b) nodes apart
   where
     alone : (n m t u : ℕ) → n ≡ m + 0 → t ≡ u + 0 → n + u ≤ m + t
     alone n m t u e f = omega (arith, e, f)
 item_few (library.Package x) =
-    items_in (if_present (λ fs. 1 + sum_by formal_nodes fs) x.formals) (package_items_types x.items) (sum_by package_item_nodes x.items) (one_if_present x.end_name)
-    (package_items_few x.items)
+    items_in (if_present (λ fs. 1 + sum_by formal_nodes fs) x.formals) (package_items_types x.items + package_items_exceptions x.items)
+    (sum_by package_item_nodes x.items) (one_if_present x.end_name) (package_items_few x.items)
   where
     items_in : (f t n e : ℕ) → t ≤ n → 0 + t ≤ (f + 4 + n + e) + 0
     items_in f t n e h = omega (arith, h)
-item_few (library.Instance i) = nothing_in (item_nodes (library.Instance i))
+item_few (library.Instance i) = none_at (item_nodes (library.Instance i))
   where
-    nothing_in : (n : ℕ) → 0 + 0 ≤ n + 0
-    nothing_in n = omega (arith)
+    none_at : (n : ℕ) → 0 + (0 + 0) ≤ n + 0
+    none_at n = omega (arith)
 
-units_few : (us : List LibraryUnit) → sum_by body_nodes (bodies_in us) + units_types us ≤ sum_by unit_nodes us + sum_by body_types (bodies_in us)
+units_few : (us : List LibraryUnit)
+    → sum_by body_nodes (bodies_in us) + (units_types us + units_exceptions us) ≤ sum_by unit_nodes us + sum_by body_apart (bodies_in us)
 units_few [] = at_itself 0
   where
-    at_itself : (n : ℕ) → n + 0 ≤ n + 0
+    at_itself : (n : ℕ) → n + (0 + 0) ≤ n + 0
     at_itself n = omega (arith)
 units_few (u ∷ us) =
-    both_in (sum_by body_nodes (bodies_of_item u.item)) (item_types u.item) (item_nodes u.item) (sum_by body_types (bodies_of_item u.item))
-    (sum_by body_nodes (bodies_in us)) (units_types us) (sum_by unit_nodes us) (sum_by body_types (bodies_in us)) (sum_by with_nodes u.withs)
-    (sum_by body_nodes (bodies_of_item u.item ++ bodies_in us)) (sum_by unit_nodes (u ∷ us)) (sum_by body_types (bodies_of_item u.item ++ bodies_in us))
-    (sum_by-append body_nodes (bodies_of_item u.item) (bodies_in us)) (sum_by-cons unit_nodes u us) (sum_by-append body_types (bodies_of_item u.item) (bodies_in us))
+    both_in (sum_by body_nodes (bodies_of_item u.item)) (item_types u.item) (item_exceptions u.item) (item_nodes u.item) (sum_by body_apart (bodies_of_item u.item))
+    (sum_by body_nodes (bodies_in us)) (units_types us) (units_exceptions us) (sum_by unit_nodes us) (sum_by body_apart (bodies_in us)) (sum_by with_nodes u.withs)
+    (sum_by body_nodes (bodies_of_item u.item ++ bodies_in us)) (sum_by unit_nodes (u ∷ us)) (sum_by body_apart (bodies_of_item u.item ++ bodies_in us))
+    (sum_by-append body_nodes (bodies_of_item u.item) (bodies_in us)) (sum_by-cons unit_nodes u us) (sum_by-append body_apart (bodies_of_item u.item) (bodies_in us))
     (item_few u.item) (units_few us)
   where
-    both_in : (a b c d e f g h w x y z : ℕ) → x ≡ a + e → y ≡ (w + c) + g → z ≡ d + h → a + b ≤ c + d → e + f ≤ g + h → x + (b + f) ≤ y + z
-    both_in a b c d e f g h w x y z i j k l m = omega (arith, i, j, k, l, m)
+    both_in : (a b s c d e f t g h w x y z : ℕ) → x ≡ a + e → y ≡ (w + c) + g → z ≡ d + h → a + (b + s) ≤ c + d → e + (f + t) ≤ g + h
+        → x + ((b + f) + (s + t)) ≤ y + z
+    both_in a b s c d e f t g h w x y z i j k l m = omega (arith, i, j, k, l, m)
 
-pub few_beside_types : (l : Library) (main : List ℕ) (p : Program) → IsLegal l main p → IsWholeStandard l.standard → UnitsHaveChoices l.units
-    → sum_by size.subprogram_nodes p.subprograms + units_types l.units ≤ sum_by unit_nodes l.units
-few_beside_types l main p is standard filled =
+few_apart : (l : Library) (main : List ℕ) (p : Program) → IsLegal l main p → IsWholeStandard l.standard → UnitsHaveChoices l.units
+    → sum_by size.subprogram_nodes p.subprograms + (units_types l.units + units_exceptions l.units) ≤ sum_by unit_nodes l.units
+few_apart l main p is standard filled =
     let bodies = all_few p.subprograms (bodies_in l.units) (subprograms_outside l main p is standard filled) in
     let units = units_few l.units in
     omega (arith, bodies, units)
+
+pub few_beside_types : (l : Library) (main : List ℕ) (p : Program) → IsLegal l main p → IsWholeStandard l.standard → UnitsHaveChoices l.units
+    → sum_by size.subprogram_nodes p.subprograms + units_types l.units ≤ sum_by unit_nodes l.units
+few_beside_types l main p is standard filled = let all = few_apart l main p is standard filled in omega (arith, all)
 
 pub few_nodes : (l : Library) (main : List ℕ) (p : Program) → IsLegal l main p → IsWholeStandard l.standard → UnitsHaveChoices l.units
     → sum_by size.subprogram_nodes p.subprograms ≤ sum_by unit_nodes l.units

@@ -1,6 +1,5 @@
 -- What specifications, bodies and the items of packages note of the objects of the library level.
 use Rattle.std.proofs.Common.{◌+◌, ℕ, nat_eq, Bool, true, false, if◌then◌else◌, List, [], ◌∷◌, ◌++◌, Option, Some, None, option_map, IfSome, IfOk}
-use Rattle.std.proofs.lemmas.Bool.{false≢true}
 use Rattle.cov_base.specs.declared.position.Pos.{Pos}
 use Rattle.ada_syntax.specs.Tree.{Name}
 use Rattle.ada_syntax.specs.declared.name.Identifier.{Identifier}
@@ -23,30 +22,30 @@ use Rattle.legal_laws.specs.Kept.{OnlyDecides}
 use Rattle.legal_laws.proofs.KeptExpressions.{mark_part_behind}
 use Rattle.legal_laws.proofs.KeptStatics.{decides_statics}
 use Rattle.legal_laws.proofs.Passing.{IfPassed, if_map, if_test, answered, ruled_so, part_so, weaker_ok, typed_either, any_answer}
-use Rattle.legal_counts.proofs.NotedDeclarations.{Notes, Note, NotesOn, notes_same, notes_both, notes_inside, notes_statics, IsApart, declaration_notes, declarations_note}
+use Rattle.legal_counts.proofs.NotedDeclarations.{Notes, Note, NotesOn, place_of, notes_same, notes_both, notes_inside, notes_statics, declaration_notes, declarations_note}
 use Rattle.legal_counts.proofs.NotedStatements.{Keep, handled_note}
 
 -- specifications
-limited_notes : (n : ℕ) (is : List Identifier) (s : State) → Notes false s (limited n is s)
-limited_notes n [] s = notes_same false s
+limited_notes : (n : ℕ) (is : List Identifier) (s : State) → Notes None s (limited n is s)
+limited_notes n [] s = notes_same None s
 limited_notes n (i ∷ is) s =
-    notes_both false s (exceeded (nat_eq n most_parameters) i.pos s) (limited (n + 1) is (exceeded (nat_eq n most_parameters) i.pos s)) (exceeded_notes (nat_eq n most_parameters))
+    notes_both None s (exceeded (nat_eq n most_parameters) i.pos s) (limited (n + 1) is (exceeded (nat_eq n most_parameters) i.pos s)) (exceeded_notes (nat_eq n most_parameters))
     (limited_notes (n + 1) is (exceeded (nat_eq n most_parameters) i.pos s))
   where
-    exceeded_notes : (b : Bool) → Notes false s (exceeded b i.pos s)
-    exceeded_notes true = notes_same false s
-    exceeded_notes false = notes_same false s
+    exceeded_notes : (b : Bool) → Notes None s (exceeded b i.pos s)
+    exceeded_notes true = notes_same None s
+    exceeded_notes false = notes_same None s
 
 mark_notes : (env : Env) (s : State) (n : Name) → IfOk (mark_part env s n).answer (Keep s)
 mark_notes env s n =
     weaker_ok (λ x. OnlyDecides s x.next) (Keep s) (mark_part env s n).answer (mark_part_behind env s n)
-    (λ x h. notes_statics false s x.next (decides_statics s x.next h))
+    (λ x h. notes_statics None s x.next (decides_statics s x.next h))
 
 abbrev with_parameters : SourceParameter → Given Marked → State
 with_parameters q t = with_objects t.value.subtype q.names (limited t.next.objects q.names t.next)
 
 parameters_note : (env : Env) (s : State) (at : Pos) (qs : List SourceParameter) → IfOk (parameters_judged env s at qs).answer (Keep s)
-parameters_note env s at [] = notes_same false s
+parameters_note env s at [] = notes_same None s
 parameters_note env s at (q ∷ qs) =
     answered (Keep s) at _
     (part_so (λ x. Unit {0}) (Keep s) (hide_all at env.local q.names).answer
@@ -62,16 +61,16 @@ parameters_note env s at (q ∷ qs) =
     (parameters_judged (with_local env (parameter_objects (mode_of q.mode) t.value.subtype t.next.objects names q.names)) (with_parameters q t) at qs).answer
     (λ rest. rule (Some (given (record { parameters = parameters_for (mode_of q.mode) t.value q.names ++ rest.value.parameters; result = None; region = rest.value.region }) rest.next)))
     (parameters_note (with_local env (parameter_objects (mode_of q.mode) t.value.subtype t.next.objects names q.names)) (with_parameters q t) at qs)
-    (λ rest k. notes_both false s t.next rest.next h
-    (notes_both false t.next (limited t.next.objects q.names t.next) rest.next (limited_notes t.next.objects q.names t.next) k)))))
+    (λ rest k. notes_both None s t.next rest.next h
+    (notes_both None t.next (limited t.next.objects q.names t.next) rest.next (limited_notes t.next.objects q.names t.next) k)))))
 
-result_notes : (env : Env) (s : State) (q : Given Profile) (n : Option Name) → Notes false s q.next → IfPassed (result_judged env q n).outcome (Keep s)
+result_notes : (env : Env) (s : State) (q : Given Profile) (n : Option Name) → Notes None s q.next → IfPassed (result_judged env q n).outcome (Keep s)
 result_notes env s q None h = h
 result_notes env s q (Some n) h =
     part_so (Keep q.next) (Keep s) (mark_part (with_local env q.value.region) q.next n).answer
     (λ t. typed_rule env.step (with_result q t) (if is_function_profile q.value.parameters t.value then Some (with_result q t) else None))
     (mark_notes (with_local env q.value.region) q.next n)
-    (λ t k. let all = notes_both false s q.next t.next h k in
+    (λ t k. let all = notes_both None s q.next t.next h k in
     typed_either (Keep s) env.step (with_result q t) _ all (if_test (Keep s) (is_function_profile q.value.parameters t.value) _ (λ b. all)))
 
 pub specified_notes : (env : Env) (s : State) (x : Specification) → IfOk (specified env s x).answer (Keep s)
@@ -109,23 +108,23 @@ module _ (env : Env) (before : State) (b : SubprogramBody) (region : Region) (na
   abbrev made : Declared → Given Frame → State
   made x f = body_made env before q.value (block_of x.made f.value) f.next
 
-  pub judged_notes : IfOk (body_judged env before b region name q).answer (Notes false q.next)
+  pub judged_notes : IfOk (body_judged env before b region name q).answer (Notes None q.next)
   judged_notes =
-      answered (Notes false q.next) b.specification.pos _
-      (part_so (NotesOn false q.next) (Notes false q.next) (all_declared inside q.next b.specification.pos b.declarations).answer
+      answered (Notes None q.next) b.specification.pos _
+      (part_so (NotesOn None q.next) (Notes None q.next) (all_declared inside q.next b.specification.pos b.declarations).answer
       (λ x. all_handled (with_local inside x.region) x.next b.specification.pos b.statements
       >>= (λ f. closed_by b.specification.pos b.specification.name b.end_name
       >>= (λ u. typed_rule env.step (made x f) (if may_end b q.value.result then Some (made x f) else None))))
-      (declarations_note inside (λ e. absurd (false≢true e)) q.next b.specification.pos b.declarations)
-      (λ x h. part_so (Keep x.next) (Notes false q.next) (all_handled (with_local inside x.region) x.next b.specification.pos b.statements).answer
+      (declarations_note inside q.next b.specification.pos b.declarations)
+      (λ x h. part_so (Keep x.next) (Notes None q.next) (all_handled (with_local inside x.region) x.next b.specification.pos b.statements).answer
       (λ f. closed_by b.specification.pos b.specification.name b.end_name
       >>= (λ u. typed_rule env.step (made x f) (if may_end b q.value.result then Some (made x f) else None)))
       (handled_note (with_local inside x.region) x.next b.specification.pos b.statements)
-      (λ f k. part_so (λ u. Unit {0}) (Notes false q.next) (closed_by b.specification.pos b.specification.name b.end_name).answer
+      (λ f k. part_so (λ u. Unit {0}) (Notes None q.next) (closed_by b.specification.pos b.specification.name b.end_name).answer
       (λ u. typed_rule env.step (made x f) (if may_end b q.value.result then Some (made x f) else None))
       (any_answer (closed_by b.specification.pos b.specification.name b.end_name).answer)
-      (λ u v. let all = notes_both false q.next x.next f.next h k in
-      typed_either (Notes false q.next) env.step (made x f) _ all (if_test (Notes false q.next) (may_end b q.value.result) (Some (made x f)) (λ e. all))))))
+      (λ u v. let all = notes_both None q.next x.next f.next h k in
+      typed_either (Notes None q.next) env.step (made x f) _ all (if_test (Notes None q.next) (may_end b q.value.result) (Some (made x f)) (λ e. all))))))
 
 module _ (env : Env) (s : State) (b : SubprogramBody) where
   abbrev after_conforming : Region → Given Profile → Plan (Given Region)
@@ -148,41 +147,41 @@ module _ (env : Env) (s : State) (b : SubprogramBody) where
       (specified_notes (with_local env region) s b.specification)
       (λ q h. part_so (λ v. Unit {0}) (Keep s) (conforming b.specification.pos region b.specification.name q.value).answer
       (λ fit. after_conforming region q) (any_answer (conforming b.specification.pos region b.specification.name q.value).answer)
-      (λ fit v. part_so (Notes false q.next) (Keep s)
+      (λ fit v. part_so (Notes None q.next) (Keep s)
       (body_judged env s b (with_routine env region b.specification.name q.value) (key b.specification.name) q).answer
       (λ next. rule (Some (given (with_routine env region b.specification.name q.value) next)))
       (judged_notes env s b (with_routine env region b.specification.name q.value) (key b.specification.name) q)
-      (λ next k. notes_both false s q.next next h k)))))
+      (λ next k. notes_both None s q.next next h k)))))
 
 -- the items of packages
-item_notes : (env : Env) → IsApart env → (s : State) (i : PackageItem) → IfPassed (package_item env s i).outcome (Note env.is_library s)
-item_notes env apart s (part.Declaration d) =
-    part_so (NotesOn env.is_library s) (Note env.is_library s) (declared env s d).answer (λ x. rule (Some (given x.region x.next))) (declaration_notes env apart s d)
+item_notes : (env : Env) (s : State) (i : PackageItem) → IfPassed (package_item env s i).outcome (Note (place_of env) s)
+item_notes env s (part.Declaration d) =
+    part_so (NotesOn (place_of env) s) (Note (place_of env) s) (declared env s d).answer (λ x. rule (Some (given x.region x.next))) (declaration_notes env s d)
     (λ x h. h)
-item_notes env apart s (part.Subprogram x) =
-    part_so (Keep s) (Note env.is_library s) (subprogram_declared env s x).answer (λ r. rule (Some r)) (subprogram_notes env s x)
-    (λ r h. notes_inside env.is_library s r.next h)
+item_notes env s (part.Subprogram x) =
+    part_so (Keep s) (Note (place_of env) s) (subprogram_declared env s x).answer (λ r. rule (Some r)) (subprogram_notes env s x)
+    (λ r h. notes_inside (place_of env) s r.next h)
 
-pub items_note : (env : Env) → IsApart env → (s : State) (p : Pos) (is : List PackageItem) → IfOk (package_items env s p is).answer (Note env.is_library s)
-items_note env apart s p [] = notes_same env.is_library s
-items_note env apart s p (i ∷ is) =
-    answered (Note env.is_library s) p _
-    (part_so (Note env.is_library s) (Note env.is_library s) _ (λ r. package_items (with_local env r.value) r.next p is >>= (λ rest. rule (Some rest)))
-    (answered (Note env.is_library s) p (package_item env s i).outcome (item_notes env apart s i))
-    (λ r h. part_so (Note env.is_library r.next) (Note env.is_library s) (package_items (with_local env r.value) r.next p is).answer (λ rest. rule (Some rest))
-    (items_note (with_local env r.value) apart r.next p is) (λ rest k. notes_both env.is_library s r.next rest.next h k)))
+pub items_note : (env : Env) (s : State) (p : Pos) (is : List PackageItem) → IfOk (package_items env s p is).answer (Note (place_of env) s)
+items_note env s p [] = notes_same (place_of env) s
+items_note env s p (i ∷ is) =
+    answered (Note (place_of env) s) p _
+    (part_so (Note (place_of env) s) (Note (place_of env) s) _ (λ r. package_items (with_local env r.value) r.next p is >>= (λ rest. rule (Some rest)))
+    (answered (Note (place_of env) s) p (package_item env s i).outcome (item_notes env s i))
+    (λ r h. part_so (Note (place_of env) r.next) (Note (place_of env) s) (package_items (with_local env r.value) r.next p is).answer (λ rest. rule (Some rest))
+    (items_note (with_local env r.value) r.next p is) (λ rest k. notes_both (place_of env) s r.next rest.next h k)))
 
-body_item_notes : (env : Env) → IsApart env → (s : State) (i : BodyItem) → IfPassed (body_item env s i).outcome (Note env.is_library s)
-body_item_notes env apart s (item.Declared i) = item_notes env apart s i
-body_item_notes env apart s (item.Body b) =
-    part_so (Keep s) (Note env.is_library s) (packaged_body env s b).answer (λ r. rule (Some r)) (packaged_notes env s b)
-    (λ r h. notes_inside env.is_library s r.next h)
+body_item_notes : (env : Env) (s : State) (i : BodyItem) → IfPassed (body_item env s i).outcome (Note (place_of env) s)
+body_item_notes env s (item.Declared i) = item_notes env s i
+body_item_notes env s (item.Body b) =
+    part_so (Keep s) (Note (place_of env) s) (packaged_body env s b).answer (λ r. rule (Some r)) (packaged_notes env s b)
+    (λ r h. notes_inside (place_of env) s r.next h)
 
-pub body_items_note : (env : Env) → IsApart env → (s : State) (p : Pos) (is : List BodyItem) → IfOk (body_items env s p is).answer (Note env.is_library s)
-body_items_note env apart s p [] = notes_same env.is_library s
-body_items_note env apart s p (i ∷ is) =
-    answered (Note env.is_library s) p _
-    (part_so (Note env.is_library s) (Note env.is_library s) _ (λ r. body_items (with_local env r.value) r.next p is >>= (λ rest. rule (Some rest)))
-    (answered (Note env.is_library s) p (body_item env s i).outcome (body_item_notes env apart s i))
-    (λ r h. part_so (Note env.is_library r.next) (Note env.is_library s) (body_items (with_local env r.value) r.next p is).answer (λ rest. rule (Some rest))
-    (body_items_note (with_local env r.value) apart r.next p is) (λ rest k. notes_both env.is_library s r.next rest.next h k)))
+pub body_items_note : (env : Env) (s : State) (p : Pos) (is : List BodyItem) → IfOk (body_items env s p is).answer (Note (place_of env) s)
+body_items_note env s p [] = notes_same (place_of env) s
+body_items_note env s p (i ∷ is) =
+    answered (Note (place_of env) s) p _
+    (part_so (Note (place_of env) s) (Note (place_of env) s) _ (λ r. body_items (with_local env r.value) r.next p is >>= (λ rest. rule (Some rest)))
+    (answered (Note (place_of env) s) p (body_item env s i).outcome (body_item_notes env s i))
+    (λ r h. part_so (Note (place_of env) r.next) (Note (place_of env) s) (body_items (with_local env r.value) r.next p is).answer (λ rest. rule (Some rest))
+    (body_items_note (with_local env r.value) r.next p is) (λ rest k. notes_both (place_of env) s r.next rest.next h k)))

@@ -5,3 +5,4 @@ pub mod Within
 pub mod ObjectWords
 pub mod LibraryWords
 pub mod Generics
+pub mod TextParts

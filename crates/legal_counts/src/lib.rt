@@ -5,24 +5,24 @@
 //!   another (`ConditionPlaces`); statement obligations hold the decisions;
 //! - each node has a token (`Within`) outside the declarations of types, where alternatives and handlers have
 //!   choices (`Choices`); so nodes and what types weigh have tokens apart;
-//! - each exception that is declared has a token;
+//! - each exception that is declared has a token, and by the generics in whose text they stand, nodes, types and
+//!   exceptions have tokens apart (`TextParts`);
 //! - the words of objects keep to their limit in each instance, and are those that the rules count where
 //!   bounds are known (`ObjectWords`);
-//! - where no unit is a generic or an instance (`PlainUnits` of `legal_programs`), the objects of the library
-//!   level stand in no generic and have the words that are counted by units (`LibraryWords`), so the library
-//!   level has a size.
+//! - the objects of the library level have no more words, each in the instances in which it stands, than are
+//!   counted by units (`LibraryWords`), so the library level has a size.
 //!
 //! The functions here do nothing: each carries a law of the definitions as its contract, some of them by a
 //! call of one whose law they cite.
 #![tactic(auto)]
 
-ghost use Rattle.std.specs.Prelude.{true, None, length, slice_get, List, map, Some, sum_by, ℕ, ◌+◌, ◌<◌, ◌≤◌, ◌≡◌};
+ghost use Rattle.std.specs.Prelude.{true, length, slice_get, List, map, Option, Some, sum_by, ℕ, ◌+◌, ◌<◌, ◌≤◌, ◌≡◌};
 ghost use Rattle.cov_base.specs.Expr.{negates_once};
 ghost use Rattle.cov_base.specs.Lists.{Everywhere};
 ghost use Rattle.ada_syntax.specs.Nodes.{unit_nodes};
 ghost use Rattle.ada_meaning.specs.Collected.{condition_places, decisions_of, labels_of};
 ghost use Rattle.ada_meaning.specs.Bodies.{StandsIn};
-ghost use Rattle.ada_meaning.specs.Program.{Program, Subprogram};
+ghost use Rattle.ada_meaning.specs.Program.{Instance, Program, Subprogram};
 ghost use Rattle.ada_meaning.specs.Statics.{values_of};
 ghost use Rattle.ada_resolved.specs.Library.{program_size};
 ghost use Rattle.ada_resolved.specs.Sizes.{type_size};
@@ -34,7 +34,9 @@ ghost use Rattle.legal_types.specs.legal_instances.specs.InOrder.{UnitsRise};
 ghost use Rattle.legal_counts.specs.ObjectWords.{words_of_objects};
 ghost use Rattle.legal_laws.specs.Bounded.{IsBounded};
 ghost use Rattle.ada_meaning.specs.Tree.{shape_of};
+ghost use Rattle.ada_rules.specs.Environment.{World};
 ghost use Rattle.ada_rules.specs.Library.{Library, library_of};
+ghost use Rattle.ada_tree.specs.Weights.{in_instances, text_nodes};
 ghost use Rattle.legal_programs.specs.Walked.{IsLegal};
 ghost use Rattle.legal_programs.specs.WholeWorld.{IsWholeStandard};
 ghost use Rattle.legal_counts.specs.BodyTexts.{bodies_in};
@@ -42,10 +44,11 @@ ghost use Rattle.legal_counts.specs.Choices.{UnitsHaveChoices};
 ghost use Rattle.legal_counts.specs.ConditionPlaces.{units_conditions};
 ghost use Rattle.statement_code.specs.Sizes.{block_nodes, subprogram_nodes};
 ghost use Rattle.legal_counts.specs.Generics.{generics_of};
-ghost use Rattle.legal_programs.specs.PlainUnits.{ArePlainUnits};
 ghost use Rattle.legal_counts.specs.Within.{AreWithin};
 ghost use Rattle.legal_types.specs.TypeTokens.{units_types};
-ghost use Rattle.program_weights.specs.TypeWeights.{types_weight};
+ghost use Rattle.legal_counts.specs.TextParts.{AreCounted, exceptions_in, nodes_in, role_nodes_in};
+ghost use Rattle.program_weights.specs.Entries.{entries_of};
+ghost use Rattle.program_weights.specs.TypeWeights.{types_weight, types_weight_in};
 
 /// The conditions of each decision of a legal program stand where those of its units stand, decisions in
 /// the order of the text; and no `not` stands directly in another.
@@ -101,6 +104,36 @@ pub fn each_exception_has_a_token()
     legal_types::orders_of_legal_programs_are_whole();
 }
 
+/// By the generics in whose text they stand: the nodes of the subprograms of a legal program, what the composite
+/// types that it declares weigh and the exceptions that it declares are together no more than the units have
+/// tokens whose text counts for this generic, or, for none, counts once. So it is over the entries of the units
+/// in each world with these interfaces, where no unit has more tokens than are counted.
+pub fn parts_of_each_generic_have_tokens()
+    ensures text { (standard : Standard) (units : List LibraryUnit) (main : List ℕ) (p : Program)
+        → (is : IsLegal (library_of standard units) main p) → IsWholeStandard standard → UnitsHaveChoices units
+        → (g : Option ℕ) → nodes_in g p.subprograms + types_weight_in g is.walked.next.types_declared
+        + exceptions_in g p.declared ≤ role_nodes_in g is.walk.seen.world (library_of standard units) 0 units }
+    ensures entries { (standard : Standard) (units : List LibraryUnit) (main : List ℕ) (p : Program)
+        → (is : IsLegal (library_of standard units) main p) → IsWholeStandard standard → UnitsHaveChoices units
+        → AreCounted units → (w : World) → w.interfaces ≡ is.walk.seen.world.interfaces → (g : Option ℕ)
+        → nodes_in g p.subprograms + types_weight_in g is.walked.next.types_declared + exceptions_in g p.declared
+        ≤ text_nodes g (entries_of w (library_of standard units)) }
+{
+    legal_types::types_of_each_generic_weigh_no_more_than_their_text();
+    legal_types::orders_of_legal_programs_are_whole();
+}
+
+/// The instances of a legal program are those that its units are: each count by the generics of instances comes to
+/// the same over the program's instances and over the entries of the units, in each world with these interfaces.
+pub fn instances_are_those_that_units_are()
+    ensures { (standard : Standard) (units : List LibraryUnit) (main : List ℕ) (p : Program)
+        → (is : IsLegal (library_of standard units) main p) → (count : ℕ → ℕ) → (w : World)
+        → w.interfaces ≡ is.walk.seen.world.interfaces → sum_by (λ (i : Instance). count i.generic) p.instances
+        ≡ in_instances count (entries_of w (library_of standard units)) }
+{
+    legal_types::orders_of_legal_programs_are_whole();
+}
+
 /// The objects of each subprogram of a legal program take no more words than the limit, in each instance in
 /// which it stands. Where the bounds of their types are known there, each has a size, and these are the words
 /// of their shapes.
@@ -122,33 +155,25 @@ pub fn words_are_within_limits()
     legal_types::instances_have_their_facts();
 }
 
-/// The words of the objects of the library level of a legal program, counted by units, are no more than the
-/// limit. Where those by the instances in which they stand are within it too, and the bounds of their types
-/// are known there, the library has a size, which is these words.
+/// The words of the objects of the library level of a legal program, counted by units, a generic's at each of
+/// its instances, are no more than the limit; and those by the instances in which the objects stand are no more
+/// than these. Where the bounds of their types are known there, the library has a size, which is its words by
+/// instances.
 pub fn library_words_are_within_limits()
     ensures units { (l : Library) (main : List ℕ) (p : Program) → (is : IsLegal l main p)
         → words_of_units is.walked.world is.walked.next.unit_words 0 l.units ≤ most_words_of_library }
+    ensures counted { (standard : Standard) (units : List LibraryUnit) (main : List ℕ) (p : Program)
+        → (is : IsLegal (library_of standard units) main p) → UnitsRise units
+        → library_words p is.walked.world.instances
+        ≤ words_of_units is.walked.world is.walked.next.unit_words 0 units }
+    ensures few { (standard : Standard) (units : List LibraryUnit) (main : List ℕ) (p : Program)
+        → (is : IsLegal (library_of standard units) main p) → UnitsRise units
+        → library_words p is.walked.world.instances ≤ most_words_of_library }
     ensures sized { (standard : Standard) (units : List LibraryUnit) (main : List ℕ) (p : Program)
         → (is : IsLegal (library_of standard units) main p) → UnitsRise units
         → Everywhere (λ o. (i : ℕ) → StandsIn p o.generic i → IsBounded p i o.subtype) p.objects
-        → library_words p is.walked.world.instances ≤ most_words_of_library
         → program_size p ≡ Some (library_words p is.walked.world.instances) }
 {
     legal_types::instances_have_their_facts();
+    legal_types::orders_of_legal_programs_are_whole();
 }
-
-/// Where no unit of a legal program is a generic or an instance, the objects of the library level stand in no
-/// generic, and their words are those that are counted by units, so they are no more than the limit. Where the
-/// bounds of their types are known, the library has a size, which is these words.
-pub fn library_words_of_packages_are_within_limits()
-    ensures apart { (l : Library) (main : List ℕ) (p : Program) → IsLegal l main p → ArePlainUnits l.units
-        → Everywhere (λ o. o.generic ≡ None) p.objects }
-    ensures counted { (l : Library) (main : List ℕ) (p : Program) → (is : IsLegal l main p) → ArePlainUnits l.units
-        → library_words p is.walked.world.instances
-        ≡ words_of_units is.walked.world is.walked.next.unit_words 0 l.units }
-    ensures few { (l : Library) (main : List ℕ) (p : Program) → (is : IsLegal l main p) → ArePlainUnits l.units
-        → library_words p is.walked.world.instances ≤ most_words_of_library }
-    ensures sized { (l : Library) (main : List ℕ) (p : Program) → (is : IsLegal l main p) → ArePlainUnits l.units
-        → Everywhere (λ o. (i : ℕ) → StandsIn p o.generic i → IsBounded p i o.subtype) p.objects
-        → program_size p ≡ Some (library_words p is.walked.world.instances) }
-{}

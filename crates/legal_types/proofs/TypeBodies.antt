@@ -115,9 +115,9 @@ subprogram_keeps env s x =
     any_some (Some n) = tt
 
 -- bodies
-body_weighs : (env : Env) (before s : State) (q : Given Profile) (b : SubprogramBody) (x : Declared) (f : Given Frame) (n : ℕ) → Weighs n before f.next
-    → Weighs n before (body_made env before q.value (block_of x.made f.value) f.next)
-body_weighs env before s q b x f n h = record { most = h.most }
+body_weighs : (env : Env) (before s : State) (q : Given Profile) (b : SubprogramBody) (x : Declared) (f : Given Frame) (n : ℕ) → Weighs env.generic n before f.next
+    → Weighs env.generic n before (body_made env before q.value (block_of x.made f.value) f.next)
+body_weighs env before s q b x f n h = record { most = h.most; each = h.each }
 
 module _ (env : Env) (before : State) (b : SubprogramBody) (region : Region) (name : List ℕ) (q : Given Profile) where
   abbrev inside : Env
@@ -126,25 +126,25 @@ module _ (env : Env) (before : State) (b : SubprogramBody) (region : Region) (na
   abbrev made : Declared → Given Frame → State
   made x f = body_made env before q.value (block_of x.made f.value) f.next
 
-  pub judged_weighs : Keeps before q.next → IfOk (body_judged env before b region name q).answer (Weighs (body_types b) before)
+  pub judged_weighs : Keeps before q.next → IfOk (body_judged env before b region name q).answer (Weighs env.generic (body_types b) before)
   judged_weighs h =
       let n = body_types b in
-      answered (Weighs n before) b.specification.pos _
-      (part_so (WeighsOn (declared_types b.declarations) q.next) (Weighs n before) (all_declared inside q.next b.specification.pos b.declarations).answer
+      answered (Weighs env.generic n before) b.specification.pos _
+      (part_so (WeighsOn env.generic (declared_types b.declarations) q.next) (Weighs env.generic n before) (all_declared inside q.next b.specification.pos b.declarations).answer
       (λ x. all_handled (with_local inside x.region) x.next b.specification.pos b.statements
       >>= (λ f. closed_by b.specification.pos b.specification.name b.end_name
       >>= (λ u. typed_rule env.step (made x f) (if may_end b q.value.result then Some (made x f) else None))))
       (declarations_weigh inside q.next b.specification.pos b.declarations)
-      (λ x k. part_so (Weigh (handled_types b.statements) x.next) (Weighs n before) (all_handled (with_local inside x.region) x.next b.specification.pos b.statements).answer
+      (λ x k. part_so (Weigh env.generic (handled_types b.statements) x.next) (Weighs env.generic n before) (all_handled (with_local inside x.region) x.next b.specification.pos b.statements).answer
       (λ f. closed_by b.specification.pos b.specification.name b.end_name
       >>= (λ u. typed_rule env.step (made x f) (if may_end b q.value.result then Some (made x f) else None)))
       (handled_weighs (with_local inside x.region) x.next b.specification.pos b.statements)
-      (λ f l. part_so (λ u. Unit {0}) (Weighs n before) (closed_by b.specification.pos b.specification.name b.end_name).answer
+      (λ f l. part_so (λ u. Unit {0}) (Weighs env.generic n before) (closed_by b.specification.pos b.specification.name b.end_name).answer
       (λ u. typed_rule env.step (made x f) (if may_end b q.value.result then Some (made x f) else None))
       (any_answer (closed_by b.specification.pos b.specification.name b.end_name).answer)
-      (λ u v. let all = body_weighs env before x.next q b x f n (weighs_behind n before q.next f.next h
-      (weighs_both (declared_types b.declarations) (handled_types b.statements) q.next x.next f.next k l)) in
-      typed_either (Weighs n before) env.step (made x f) _ all (if_test (Weighs n before) (may_end b q.value.result) (Some (made x f)) (λ e. all))))))
+      (λ u v. let all = body_weighs env before x.next q b x f n (weighs_behind env.generic n before q.next f.next h
+      (weighs_both env.generic (declared_types b.declarations) (handled_types b.statements) q.next x.next f.next k l)) in
+      typed_either (Weighs env.generic n before) env.step (made x f) _ all (if_test (Weighs env.generic n before) (may_end b q.value.result) (Some (made x f)) (λ e. all))))))
 
 module _ (env : Env) (s : State) (b : SubprogramBody) where
   abbrev after_conforming : Region → Given Profile → Plan (Given Region)
@@ -158,52 +158,52 @@ module _ (env : Env) (s : State) (b : SubprogramBody) where
   abbrev after_completed : Region → Plan (Given Region)
   after_completed region = specified (with_local env region) s b.specification >>= after_specified region
 
-  pub packaged_weighs : IfOk (packaged_body env s b).answer (Weigh (body_types b) s)
+  pub packaged_weighs : IfOk (packaged_body env s b).answer (Weigh env.generic (body_types b) s)
   packaged_weighs =
-      answered (Weigh (body_types b) s) b.specification.pos _
-      (part_so (λ r. Unit {0}) (Weigh (body_types b) s) (completed env.local b.specification.name).answer after_completed
+      answered (Weigh env.generic (body_types b) s) b.specification.pos _
+      (part_so (λ r. Unit {0}) (Weigh env.generic (body_types b) s) (completed env.local b.specification.name).answer after_completed
       (any_answer (completed env.local b.specification.name).answer)
-      (λ region u. part_so (Keep s) (Weigh (body_types b) s) (specified (with_local env region) s b.specification).answer (after_specified region)
+      (λ region u. part_so (Keep s) (Weigh env.generic (body_types b) s) (specified (with_local env region) s b.specification).answer (after_specified region)
       (specified_keeps (with_local env region) s b.specification)
-      (λ q h. part_so (λ v. Unit {0}) (Weigh (body_types b) s) (conforming b.specification.pos region b.specification.name q.value).answer
+      (λ q h. part_so (λ v. Unit {0}) (Weigh env.generic (body_types b) s) (conforming b.specification.pos region b.specification.name q.value).answer
       (λ fit. after_conforming region q) (any_answer (conforming b.specification.pos region b.specification.name q.value).answer)
-      (λ fit v. part_so (Weighs (body_types b) s) (Weigh (body_types b) s)
+      (λ fit v. part_so (Weighs env.generic (body_types b) s) (Weigh env.generic (body_types b) s)
       (body_judged env s b (with_routine env region b.specification.name q.value) (key b.specification.name) q).answer
       (λ next. rule (Some (given (with_routine env region b.specification.name q.value) next)))
       (judged_weighs env s b (with_routine env region b.specification.name q.value) (key b.specification.name) q h)
       (λ next k. k)))))
 
 -- the items of packages
-item_weighs : (env : Env) (s : State) (i : PackageItem) → IfPassed (package_item env s i).outcome (Weigh (package_item_types i) s)
+item_weighs : (env : Env) (s : State) (i : PackageItem) → IfPassed (package_item env s i).outcome (Weigh env.generic (package_item_types i) s)
 item_weighs env s (part.Declaration d) =
-    part_so (WeighsOn (kind_types d.kind) s) (Weigh (kind_types d.kind) s) (declared env s d).answer (λ x. rule (Some (given x.region x.next))) (declaration_weighs env s d) (λ x h. h)
+    part_so (WeighsOn env.generic (kind_types d.kind) s) (Weigh env.generic (kind_types d.kind) s) (declared env s d).answer (λ x. rule (Some (given x.region x.next))) (declaration_weighs env s d) (λ x h. h)
 item_weighs env s (part.Subprogram x) =
-    part_so (Keep s) (Weigh 0 s) (subprogram_declared env s x).answer (λ r. rule (Some r)) (subprogram_keeps env s x) (λ r h. of_keeps 0 s r.next h)
+    part_so (Keep s) (Weigh env.generic 0 s) (subprogram_declared env s x).answer (λ r. rule (Some r)) (subprogram_keeps env s x) (λ r h. of_keeps env.generic 0 s r.next h)
 
-pub items_weigh : (env : Env) (s : State) (p : Pos) (is : List PackageItem) → IfOk (package_items env s p is).answer (Weigh (package_items_types is) s)
-items_weigh env s p [] = of_keeps 0 s s (keeps_same s)
+pub items_weigh : (env : Env) (s : State) (p : Pos) (is : List PackageItem) → IfOk (package_items env s p is).answer (Weigh env.generic (package_items_types is) s)
+items_weigh env s p [] = of_keeps env.generic 0 s s (keeps_same s)
 items_weigh env s p (i ∷ is) =
     let n = package_item_types i + package_items_types is in
-    answered (Weigh n s) p _
-    (part_so (Weigh (package_item_types i) s) (Weigh n s) _ (λ r. package_items (with_local env r.value) r.next p is >>= (λ rest. rule (Some rest)))
-    (answered (Weigh (package_item_types i) s) p (package_item env s i).outcome (item_weighs env s i))
-    (λ r h. part_so (Weigh (package_items_types is) r.next) (Weigh n s) (package_items (with_local env r.value) r.next p is).answer (λ rest. rule (Some rest))
-    (items_weigh (with_local env r.value) r.next p is) (λ rest k. weighs_both (package_item_types i) (package_items_types is) s r.next rest.next h k)))
+    answered (Weigh env.generic n s) p _
+    (part_so (Weigh env.generic (package_item_types i) s) (Weigh env.generic n s) _ (λ r. package_items (with_local env r.value) r.next p is >>= (λ rest. rule (Some rest)))
+    (answered (Weigh env.generic (package_item_types i) s) p (package_item env s i).outcome (item_weighs env s i))
+    (λ r h. part_so (Weigh env.generic (package_items_types is) r.next) (Weigh env.generic n s) (package_items (with_local env r.value) r.next p is).answer (λ rest. rule (Some rest))
+    (items_weigh (with_local env r.value) r.next p is) (λ rest k. weighs_both env.generic (package_item_types i) (package_items_types is) s r.next rest.next h k)))
 
-body_item_weighs : (env : Env) (s : State) (i : BodyItem) → IfPassed (body_item env s i).outcome (Weigh (body_item_types i) s)
+body_item_weighs : (env : Env) (s : State) (i : BodyItem) → IfPassed (body_item env s i).outcome (Weigh env.generic (body_item_types i) s)
 body_item_weighs env s (item.Declared i) = item_weighs env s i
 body_item_weighs env s (item.Body b) =
-    part_so (Weigh (body_types b) s) (Weigh (body_types b) s) (packaged_body env s b).answer (λ r. rule (Some r)) (packaged_weighs env s b) (λ r h. h)
+    part_so (Weigh env.generic (body_types b) s) (Weigh env.generic (body_types b) s) (packaged_body env s b).answer (λ r. rule (Some r)) (packaged_weighs env s b) (λ r h. h)
 
-pub body_items_weigh : (env : Env) (s : State) (p : Pos) (is : List BodyItem) → IfOk (body_items env s p is).answer (Weigh (body_items_types is) s)
-body_items_weigh env s p [] = of_keeps 0 s s (keeps_same s)
+pub body_items_weigh : (env : Env) (s : State) (p : Pos) (is : List BodyItem) → IfOk (body_items env s p is).answer (Weigh env.generic (body_items_types is) s)
+body_items_weigh env s p [] = of_keeps env.generic 0 s s (keeps_same s)
 body_items_weigh env s p (i ∷ is) =
     let n = body_item_types i + body_items_types is in
-    answered (Weigh n s) p _
-    (part_so (Weigh (body_item_types i) s) (Weigh n s) _ (λ r. body_items (with_local env r.value) r.next p is >>= (λ rest. rule (Some rest)))
-    (answered (Weigh (body_item_types i) s) p (body_item env s i).outcome (body_item_weighs env s i))
-    (λ r h. part_so (Weigh (body_items_types is) r.next) (Weigh n s) (body_items (with_local env r.value) r.next p is).answer (λ rest. rule (Some rest))
-    (body_items_weigh (with_local env r.value) r.next p is) (λ rest k. weighs_both (body_item_types i) (body_items_types is) s r.next rest.next h k)))
+    answered (Weigh env.generic n s) p _
+    (part_so (Weigh env.generic (body_item_types i) s) (Weigh env.generic n s) _ (λ r. body_items (with_local env r.value) r.next p is >>= (λ rest. rule (Some rest)))
+    (answered (Weigh env.generic (body_item_types i) s) p (body_item env s i).outcome (body_item_weighs env s i))
+    (λ r h. part_so (Weigh env.generic (body_items_types is) r.next) (Weigh env.generic n s) (body_items (with_local env r.value) r.next p is).answer (λ rest. rule (Some rest))
+    (body_items_weigh (with_local env r.value) r.next p is) (λ rest k. weighs_both env.generic (body_item_types i) (body_items_types is) s r.next rest.next h k)))
 
 -- formals
 formal_type_keeps : (env : Env) (s : State) (i : Identifier) (k : ℕ) (integral : Bool) → IfPassed (formal_type_declared env s i k integral).outcome (Keep s)

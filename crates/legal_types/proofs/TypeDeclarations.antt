@@ -35,9 +35,11 @@ use Rattle.legal_laws.proofs.KeptExpressions.{judged_behind, mark_part_behind, s
 use Rattle.std.specs.Prelude.{sum_by}
 use Rattle.std.proofs.lemmas.List.Sums.{sum_by-cons}
 use Rattle.ada_syntax.specs.Nodes.{name_nodes, expr_nodes, range_nodes, indication_nodes, component_nodes, definition_nodes}
+use Rattle.ada_tree.specs.Weights.{stands_in}
 use Rattle.legal_types.specs.TypeTokens.{kind_types, declared_types}
-use Rattle.program_weights.specs.TypeWeights.{component_count, shape_weight, types_weight}
+use Rattle.program_weights.specs.TypeWeights.{component_count, shape_weight, types_weight, types_weight_in}
 use Rattle.legal_types.specs.Weights.{Keeps, Weighs}
+use Rattle.legal_types.specs.TextGenerics.{part_in}
 
 -- what a construct gives keeps them
 abbrev pub Keep : {A : Type 0} → State → Given A → Type 0
@@ -46,8 +48,8 @@ Keep s g = Keeps s g.next
 abbrev pub KeepsOn : State → Declared → Type 0
 KeepsOn s x = Keeps s x.next
 
-abbrev pub WeighsOn : ℕ → State → Declared → Type 0
-WeighsOn n s x = Weighs n s x.next
+abbrev pub WeighsOn : Option ℕ → ℕ → State → Declared → Type 0
+WeighsOn o n s x = Weighs o n s x.next
 
 pub keeps_both : (s t u : State) → Keeps s t → Keeps t u → Keeps s u
 keeps_both s t u h k = record { types = k.types ∙ h.types }
@@ -65,39 +67,55 @@ pub keeps_same : (s : State) → Keeps s s
 keeps_same s = record { types = refl }
 
 -- what weighs nothing, and two weights
-pub of_keeps : (n : ℕ) (s t : State) → Keeps s t → Weighs n s t
-of_keeps n s t h = record { most = at_most n (types_weight t.types_declared) (types_weight s.types_declared) (ap types_weight h.types) }
+pub of_keeps : (o : Option ℕ) (n : ℕ) (s t : State) → Keeps s t → Weighs o n s t
+of_keeps o n s t h = record {
+  most = at_most n (types_weight t.types_declared) (types_weight s.types_declared) (ap types_weight h.types);
+  each = λ g. at_most (part_in g o n) (types_weight_in g t.types_declared) (types_weight_in g s.types_declared) (ap (types_weight_in g) h.types);
+}
   where
     at_most : (m a b : ℕ) → a ≡ b → a ≤ m + b
     at_most m a b e = omega (arith, e)
 
-pub weighs_both : (m n : ℕ) (s t u : State) → Weighs m s t → Weighs n t u → Weighs (m + n) s u
-weighs_both m n s t u h k = record {
+pub weighs_both : (o : Option ℕ) (m n : ℕ) (s t u : State) → Weighs o m s t → Weighs o n t u → Weighs o (m + n) s u
+weighs_both o m n s t u h k = record {
   most = summed m n (types_weight s.types_declared) (types_weight t.types_declared) (types_weight u.types_declared) h.most k.most;
+  each = λ g. each_summed (stands_in g o) (types_weight_in g s.types_declared) (types_weight_in g t.types_declared) (types_weight_in g u.types_declared) (h.each g) (k.each g);
 }
   where
     summed : (m n a b c : ℕ) → b ≤ m + a → c ≤ n + b → c ≤ (m + n) + a
     summed m n a b c p q = omega (arith, p, q)
 
-pub weighs_behind : (n : ℕ) (s t u : State) → Keeps s t → Weighs n t u → Weighs n s u
-weighs_behind n s t u h k = record { most = moved n (types_weight s.types_declared) (types_weight t.types_declared) (types_weight u.types_declared) (ap types_weight h.types) k.most }
+    each_summed : (at : Bool) (a b c : ℕ) → b ≤ (if at then m else 0) + a → c ≤ (if at then n else 0) + b → c ≤ (if at then m + n else 0) + a
+    each_summed true a b c p q = summed m n a b c p q
+    each_summed false a b c p q = summed 0 0 a b c p q
+
+pub weighs_behind : (o : Option ℕ) (n : ℕ) (s t u : State) → Keeps s t → Weighs o n t u → Weighs o n s u
+weighs_behind o n s t u h k = record {
+  most = moved n (types_weight s.types_declared) (types_weight t.types_declared) (types_weight u.types_declared) (ap types_weight h.types) k.most;
+  each = λ g. moved (part_in g o n) (types_weight_in g s.types_declared) (types_weight_in g t.types_declared) (types_weight_in g u.types_declared) (ap (types_weight_in g) h.types) (k.each g);
+}
   where
     moved : (n a b c : ℕ) → b ≡ a → c ≤ n + b → c ≤ n + a
     moved n a b c e h = omega (arith, e, h)
 
-pub of_passed : (n : ℕ) (s : State) (o : Outcome Declared) → IfPassed o (KeepsOn s) → IfPassed o (WeighsOn n s)
-of_passed n s (refused_in q) h = tt
-of_passed n s broken h = tt
-of_passed n s (passed x) h = of_keeps n s x.next h
+pub of_passed : (o : Option ℕ) (n : ℕ) (s : State) (x : Outcome Declared) → IfPassed x (KeepsOn s) → IfPassed x (WeighsOn o n s)
+of_passed o n s (refused_in q) h = tt
+of_passed o n s broken h = tt
+of_passed o n s (passed x) h = of_keeps o n s x.next h
 
 counted_weighs : (env : Env) (q : Pos) (t : AdaSubtype) (s u : State) (n : ℕ) → shape_weight (subtype_in_tree t) ≤ n → Keeps s u
-    → Weighs n s (type_counted env q t u)
+    → Weighs env.generic n s (type_counted env q t u)
 counted_weighs env q t s u n light h = record {
   most = one_more n (shape_weight (subtype_in_tree t)) (types_weight u.types_declared) (types_weight s.types_declared) light (ap types_weight h.types);
+  each = λ g. one_each (stands_in g env.generic) (types_weight_in g u.types_declared) (types_weight_in g s.types_declared) (ap (types_weight_in g) h.types);
 }
   where
     one_more : (n w a b : ℕ) → w ≤ n → a ≡ b → (w + 0) + a ≤ n + b
     one_more n w a b h e = omega (arith, h, e)
+
+    one_each : (at : Bool) (a b : ℕ) → a ≡ b → (if at then shape_weight (subtype_in_tree t) + 0 else 0) + a ≤ (if at then n else 0) + b
+    one_each true a b e = one_more n (shape_weight (subtype_in_tree t)) a b light e
+    one_each false a b e = omega (arith, e)
 
 pub both_answers : {A : Type 0} (P Q : A → Type 0) (answer : Result A Pos) → IfOk answer P → IfOk answer Q → IfOk answer (λ x. P x × Q x)
 both_answers P Q (Ok x) h k = (h, k)
@@ -432,46 +450,46 @@ defined_light env s q i (definition.Record cs) =
     (λ fs. rule (Some (unchanged env.local (of_type (record_type i fs.value) base) fs.next))) (fields_few (opened env) s q cs)
     (λ fs h. record_light (component_count (fields_in_tree fs.value)) (sum_by component_nodes cs) h))
 
-kind_weighs : (env : Env) (s : State) (q : Pos) (d : DeclarationKind) → IfPassed (kind_declared env s q d).outcome (WeighsOn (kind_types d) s)
+kind_weighs : (env : Env) (s : State) (q : Pos) (d : DeclarationKind) → IfPassed (kind_declared env s q d).outcome (WeighsOn env.generic (kind_types d) s)
 kind_weighs env s q (declares.Type i d) =
-    part_so (λ x. Unit {0}) (WeighsOn (kind_types (declares.Type i d)) s) (hide env.local i).answer
+    part_so (λ x. Unit {0}) (WeighsOn env.generic (kind_types (declares.Type i d)) s) (hide env.local i).answer
     (λ region. defined (with_local env region) (one_type_more s) q (new_identity env s) d >>= (λ x. rule (Some (type_declared env q i (new_identity env s) x))))
     (any_answer (hide env.local i).answer)
-    (λ region u. part_so (λ x. Keeps (one_type_more s) x.next × IsLight d x) (WeighsOn (kind_types (declares.Type i d)) s)
+    (λ region u. part_so (λ x. Keeps (one_type_more s) x.next × IsLight d x) (WeighsOn env.generic (kind_types (declares.Type i d)) s)
     (defined (with_local env region) (one_type_more s) q (new_identity env s) d).answer
     (λ x. rule (Some (type_declared env q i (new_identity env s) x)))
     (both_answers (Keep (one_type_more s)) (IsLight d) _ (defined_keeps (with_local env region) (one_type_more s) q (new_identity env s) d)
     (defined_light (with_local env region) (one_type_more s) q (new_identity env s) d))
     (λ x h. counted_weighs env q x.value.subtype s x.next (kind_types (declares.Type i d)) h.1 (keeps_both s (one_type_more s) x.next (keeps_typed s) h.0)))
 kind_weighs env s q (declares.Subtype i t) =
-    part_so (λ x. Unit {0}) (WeighsOn 0 s) (hide env.local i).answer
+    part_so (λ x. Unit {0}) (WeighsOn env.generic 0 s) (hide env.local i).answer
     (λ region. indicated (with_local env region) (one_type_more s) t >>= (λ x. rule (Some (subtype_declared i region (new_identity env s) x))))
     (any_answer (hide env.local i).answer)
-    (λ region u. part_so (Keep (one_type_more s)) (WeighsOn 0 s) (indicated (with_local env region) (one_type_more s) t).answer
+    (λ region u. part_so (Keep (one_type_more s)) (WeighsOn env.generic 0 s) (indicated (with_local env region) (one_type_more s) t).answer
     (λ x. rule (Some (subtype_declared i region (new_identity env s) x))) (indicated_keeps (with_local env region) (one_type_more s) t)
-    (λ x h. of_keeps 0 s x.next (keeps_both s (one_type_more s) x.next (keeps_typed s) h)))
+    (λ x h. of_keeps env.generic 0 s x.next (keeps_both s (one_type_more s) x.next (keeps_typed s) h)))
 kind_weighs env s q (declares.Object is c t i) =
-    part_so (λ x. Unit {0}) (WeighsOn 0 s) (hide_all q env.local is).answer
+    part_so (λ x. Unit {0}) (WeighsOn env.generic 0 s) (hide_all q env.local is).answer
     (λ region. indicated (with_local env region) s t >>= (λ x. objects_declared env q c region is x i)) (any_answer (hide_all q env.local is).answer)
-    (λ region u. part_so (Keep s) (WeighsOn 0 s) (indicated (with_local env region) s t).answer
+    (λ region u. part_so (Keep s) (WeighsOn env.generic 0 s) (indicated (with_local env region) s t).answer
     (λ x. objects_declared env q c region is x i) (indicated_keeps (with_local env region) s t)
-    (λ x h. of_passed 0 s (objects_declared env q c region is x i).outcome (objects_keep env q c region is s x i h)))
+    (λ x h. of_passed env.generic 0 s (objects_declared env q c region is x i).outcome (objects_keep env q c region is s x i h)))
 kind_weighs env s q (declares.Exception is) =
-    part_so (λ x. Unit {0}) (WeighsOn 0 s) (hide_all q env.local is).answer (λ region. rule (Some (exceptions_from env s region is)))
-    (any_answer (hide_all q env.local is).answer) (λ region u. of_keeps 0 s (exceptions_from env s region is).next (exceptions_keep env s region is))
-kind_weighs env s q (declares.Pragma a) = of_keeps 0 s s (keeps_same s)
+    part_so (λ x. Unit {0}) (WeighsOn env.generic 0 s) (hide_all q env.local is).answer (λ region. rule (Some (exceptions_from env s region is)))
+    (any_answer (hide_all q env.local is).answer) (λ region u. of_keeps env.generic 0 s (exceptions_from env s region is).next (exceptions_keep env s region is))
+kind_weighs env s q (declares.Pragma a) = of_keeps env.generic 0 s s (keeps_same s)
 
-pub declaration_weighs : (env : Env) (s : State) (d : Declaration) → IfOk (declared env s d).answer (WeighsOn (kind_types d.kind) s)
-declaration_weighs env s d = answered (WeighsOn (kind_types d.kind) s) d.pos (kind_declared env s d.pos d.kind).outcome (kind_weighs env s d.pos d.kind)
+pub declaration_weighs : (env : Env) (s : State) (d : Declaration) → IfOk (declared env s d).answer (WeighsOn env.generic (kind_types d.kind) s)
+declaration_weighs env s d = answered (WeighsOn env.generic (kind_types d.kind) s) d.pos (kind_declared env s d.pos d.kind).outcome (kind_weighs env s d.pos d.kind)
 
-pub declarations_weigh : (env : Env) (s : State) (q : Pos) (ds : List Declaration) → IfOk (all_declared env s q ds).answer (WeighsOn (declared_types ds) s)
-declarations_weigh env s q [] = of_keeps 0 s s (keeps_same s)
+pub declarations_weigh : (env : Env) (s : State) (q : Pos) (ds : List Declaration) → IfOk (all_declared env s q ds).answer (WeighsOn env.generic (declared_types ds) s)
+declarations_weigh env s q [] = of_keeps env.generic 0 s s (keeps_same s)
 declarations_weigh env s q (d ∷ ds) =
-    answered (WeighsOn (declared_types (d ∷ ds)) s) q _
-    (part_so (WeighsOn (kind_types d.kind) s) (WeighsOn (declared_types (d ∷ ds)) s) (declared env s d).answer
+    answered (WeighsOn env.generic (declared_types (d ∷ ds)) s) q _
+    (part_so (WeighsOn env.generic (kind_types d.kind) s) (WeighsOn env.generic (declared_types (d ∷ ds)) s) (declared env s d).answer
     (λ x. all_declared (with_local env x.region) x.next q ds >>= (λ xs. rule (Some (record { region = xs.region; next = xs.next; made = x.made ++ xs.made }))))
     (declaration_weighs env s d)
-    (λ x h. part_so (WeighsOn (declared_types ds) x.next) (WeighsOn (declared_types (d ∷ ds)) s) (all_declared (with_local env x.region) x.next q ds).answer
+    (λ x h. part_so (WeighsOn env.generic (declared_types ds) x.next) (WeighsOn env.generic (declared_types (d ∷ ds)) s) (all_declared (with_local env x.region) x.next q ds).answer
     (λ xs. rule (Some (record { region = xs.region; next = xs.next; made = x.made ++ xs.made })))
     (declarations_weigh (with_local env x.region) x.next q ds)
-    (λ xs k. weighs_both (kind_types d.kind) (declared_types ds) s x.next xs.next h k)))
+    (λ xs k. weighs_both env.generic (kind_types d.kind) (declared_types ds) s x.next xs.next h k)))

@@ -1,5 +1,5 @@
 -- What all types of a legal program weigh.
-use Rattle.std.proofs.Common.{◌≡◌, ◌≤◌, ◌+◌, ℕ, suc, Bool, true, false, if◌then◌else◌, List, [], ◌∷◌, slice_get, refl, sym, ap, ◌∙◌, arith}
+use Rattle.std.proofs.Common.{◌≡◌, ◌≤◌, ◌+◌, ℕ, suc, Bool, true, false, if◌then◌else◌, List, [], ◌∷◌, Option, None, slice_get, refl, sym, ap, ◌∙◌, arith}
 use Rattle.std.proofs.lemmas.Bool.{false≢true}
 use Rattle.std.specs.List.{sum_by}
 use Rattle.std.proofs.lemmas.List.Sums.{sum_by-cons}
@@ -7,17 +7,20 @@ use Rattle.ada_syntax.specs.declared.unit.LibraryItem.{LibraryItem}
 use Rattle.ada_syntax.specs.declared.unit.LibraryItem.TheVariants as library
 use Rattle.ada_syntax.specs.declared.unit.Unit.{Unit as LibraryUnit}
 use Rattle.ada_meaning.specs.Program.{Program}
-use Rattle.ada_rules.specs.Environment.{typing, beginning_state}
-use Rattle.ada_rules.specs.Library.{Library, is_package_body, units_but_bodies}
-use Rattle.ada_rules.specs.Units.{Walked, all_interfaces, all_bodies_judged, world_before}
+use Rattle.ada_tree.specs.Weights.{stands_in}
+use Rattle.ada_rules.specs.Entities.{key}
+use Rattle.ada_rules.specs.Environment.{typing, World, beginning_state}
+use Rattle.ada_rules.specs.Library.{Library, unit_named, is_package_body, units_but_bodies}
+use Rattle.ada_rules.specs.Units.{generic_at, Walked, all_interfaces, all_bodies_judged, world_before}
 use Rattle.legal_instances.specs.Ordered.{IsWholeOrder}
 use Rattle.legal_instances.specs.legal_programs.specs.Walked.{IsLegal}
 use Rattle.legal_instances.specs.legal_programs.proofs.Passed.{of_ok}
-use Rattle.legal_types.specs.TypeTokens.{item_types, units_types}
-use Rattle.program_weights.specs.TypeWeights.{types_weight}
-use Rattle.legal_types.specs.Weights.{Weighs}
-use Rattle.legal_types.proofs.TypeDeclarations.{weighs_both}
-use Rattle.legal_types.proofs.TypeUnits.{seen_types, seen_types_of, seen_types_at, inner_types, inner_types_of, interfaces_weigh, all_bodies_weigh}
+use Rattle.legal_types.specs.TypeTokens.{package_items_types, body_items_types, body_types, item_types, units_types}
+use Rattle.program_weights.specs.TypeWeights.{types_weight, types_weight_in}
+use Rattle.legal_types.specs.Weights.{WeighsBy}
+use Rattle.legal_types.specs.TextGenerics as text
+use Rattle.legal_types.specs.TextGenerics.{generic_of_item, shown_in, text_generic, part_in, units_in}
+use Rattle.legal_types.proofs.TypeUnits.{shown_of, shown_at, shown_types_at, inner_types_in, seen_types, seen_types_of, seen_types_at, inner_types, inner_types_of, interfaces_weigh, all_bodies_weigh}
 
 -- of a unit, by what others see of it and by its bodies
 item_split : (i : LibraryItem) → item_types i ≡ seen_types i + inner_types i
@@ -65,6 +68,75 @@ module _ (g : ℕ → ℕ) where
           let sum = sum_by-cons g n (units_but_bodies (n + 1) us) in
           omega (arith, own, sum, all)
 
+-- by the generics
+nothing_if : (b : Bool) (n : ℕ) → n ≡ 0 → (if b then n else 0) ≡ n
+nothing_if true n e = refl
+nothing_if false n e = sym e
+
+nothing_in : (g o : Option ℕ) → part_in g o 0 ≡ 0
+nothing_in g o = nothing_if (stands_in g o) 0 refl
+
+item_split_in : (g : Option ℕ) (w : World) (l : Library) (n : ℕ) (i : LibraryItem)
+    → part_in g (text_generic w l n i) (item_types i) ≡ part_in g (shown_in n i) (seen_types i) + part_in g (generic_of_item w l i) (inner_types i)
+item_split_in g w l n (library.Package x) =
+    let none = nothing_in g None in behind (part_in g (generic_at x.formals n) (package_items_types x.items)) (part_in g None 0) none
+  where
+    behind : (a b : ℕ) → b ≡ 0 → a ≡ a + b
+    behind a b e = omega (arith, e)
+item_split_in g w l n (library.PackageBody b) =
+    let none = nothing_in g None in before (part_in g None 0) (part_in g (text.generic_at w (unit_named l.names (key b.name))) (body_items_types b.items)) none
+  where
+    before : (a b : ℕ) → a ≡ 0 → b ≡ a + b
+    before a b e = omega (arith, e)
+item_split_in g w l n (library.Instance i) =
+    let none = nothing_in g None in omega (arith, none)
+item_split_in g w l n (library.Subprogram b) =
+    let none = nothing_in g None in before (part_in g None 0) (part_in g None (body_types b)) none
+  where
+    before : (a b : ℕ) → a ≡ 0 → b ≡ a + b
+    before a b e = omega (arith, e)
+
+abbrev shown_types_in : Option ℕ → ℕ → List LibraryUnit → ℕ
+shown_types_in g n [] = 0
+shown_types_in g n (u ∷ us) = part_in g (shown_in n u.item) (seen_types u.item) + shown_types_in g (n + 1) us
+
+units_split_in : (g : Option ℕ) (w : World) (l : Library) (n : ℕ) (us : List LibraryUnit)
+    → units_in item_types g w l n us ≡ shown_types_in g n us + inner_types_in w l us g
+units_split_in g w l n [] = omega arith
+units_split_in g w l n (u ∷ us) =
+    let one = item_split_in g w l n u.item in
+    let rest = units_split_in g w l (n + 1) us in
+    omega (arith, one, rest)
+
+ordered_in : (g : Option ℕ) (l : Library) (ns : List ℕ) → shown_types_at l ns g ≡ sum_by (λ n. shown_at g l n) ns
+ordered_in g l [] = refl
+ordered_in g l (n ∷ ns) = ap (λ m. shown_at g l n + m) (ordered_in g l ns) ∙ sym (sum_by-cons (λ n. shown_at g l n) n ns)
+
+body_shows_in : (g : Option ℕ) (n : ℕ) (i : LibraryItem) → is_package_body i ≡ true → part_in g (shown_in n i) (seen_types i) ≡ 0
+body_shows_in g n (library.PackageBody b) h = nothing_in g None
+body_shows_in g n (library.Package x) h = absurd (false≢true h)
+body_shows_in g n (library.Instance i) h = nothing_in g None
+body_shows_in g n (library.Subprogram b) h = nothing_in g None
+
+module _ (g : Option ℕ) (f : ℕ → ℕ) where
+  counted_in : (n : ℕ) (us : List LibraryUnit) → ((i : ℕ) → f (n + i) ≡ part_in g (shown_of (n + i) (slice_get us i)) (seen_types_of (slice_get us i)))
+      → sum_by f (units_but_bodies n us) ≡ shown_types_in g n us
+  counted_in n [] h = refl
+  counted_in n (u ∷ us) h =
+      by_item (is_package_body u.item) refl
+      (counted_in (n + 1) us (λ i. let next : (n + 1) + i ≡ n + suc i = omega arith in
+      ap f next ∙ (h (suc i) ∙ ap (λ m. part_in g (shown_of m (slice_get us i)) (seen_types_of (slice_get us i))) (sym next))))
+    where
+      by_item : (b : Bool) → is_package_body u.item ≡ b → sum_by f (units_but_bodies (n + 1) us) ≡ shown_types_in g (n + 1) us
+          → sum_by f (if b then units_but_bodies (n + 1) us else n ∷ units_but_bodies (n + 1) us)
+          ≡ part_in g (shown_in n u.item) (seen_types u.item) + shown_types_in g (n + 1) us
+      by_item true e all = let none = body_shows_in g n u.item e in omega (arith, none, all)
+      by_item false e all =
+          let own : f n ≡ part_in g (shown_in n u.item) (seen_types u.item) =
+          (let at : n ≡ n + 0 = omega arith in ap f at ∙ (h 0 ∙ ap (λ m. part_in g (shown_in m u.item) (seen_types u.item)) (sym at))) in
+          let sum = sum_by-cons f n (units_but_bodies (n + 1) us) in
+          omega (arith, own, sum, all)
+
 module _ (l : Library) (main : List ℕ) (p : Program) (is : IsLegal l main p) (whole : IsWholeOrder l) where
   seen_law : seen_types_at l l.order ≡ seen_types_in l.units
   seen_law =
@@ -72,16 +144,37 @@ module _ (l : Library) (main : List ℕ) (p : Program) (is : IsLegal l main p) (
       ∙ sym (whole.units (λ n. seen_types_of (slice_get l.units n)))
       ∙ counted (λ n. seen_types_of (slice_get l.units n)) 0 l.units (λ i. let same : 0 + i ≡ i = omega arith in ap (λ n. seen_types_of (slice_get l.units n)) same)
 
+  shown_law : (g : Option ℕ) → shown_types_at l l.order g ≡ shown_types_in g 0 l.units
+  shown_law g =
+      ordered_in g l l.order
+      ∙ sym (whole.units (λ n. shown_at g l n))
+      ∙ counted_in g (λ n. shown_at g l n) 0 l.units (λ i. let same : 0 + i ≡ i = omega arith in
+      ap (λ n. shown_at g l n) same ∙ ap (λ m. part_in g (shown_of m (slice_get l.units i)) (seen_types_of (slice_get l.units i))) (sym same))
+
+  seen_weigh : WeighsBy (seen_types_at l l.order) (shown_types_at l l.order) beginning_state is.walk.seen.next
+  seen_weigh =
+      of_ok (λ (y : Walked). WeighsBy (seen_types_at l l.order) (shown_types_at l l.order) beginning_state y.next)
+      (all_interfaces typing l (record { world = world_before l; next = beginning_state }) l.order).answer is.walk.seen is.walk.interfaces
+      (interfaces_weigh typing l (record { world = world_before l; next = beginning_state }) l.order)
+
+  bodies_weigh : WeighsBy (inner_types_of l.units) (inner_types_in is.walk.seen.world l l.units) is.walk.seen.next is.walked.next
+  bodies_weigh =
+      of_ok (WeighsBy (inner_types_of l.units) (inner_types_in is.walk.seen.world l l.units) is.walk.seen.next)
+      (all_bodies_judged typing l is.walk.seen.world is.walk.seen.next 0 l.units).answer is.walked.next is.walk.bodies
+      (all_bodies_weigh typing l is.walk.seen.world is.walk.seen.next 0 l.units)
+
   pub types_law : types_weight is.walked.next.types_declared ≤ units_types l.units
   types_law =
-      let seen = of_ok (λ (y : Walked). Weighs (seen_types_at l l.order) beginning_state y.next)
-      (all_interfaces typing l (record { world = world_before l; next = beginning_state }) l.order).answer is.walk.seen is.walk.interfaces
-      (interfaces_weigh typing l (record { world = world_before l; next = beginning_state }) l.order) in
-      let bodies = of_ok (Weighs (inner_types_of l.units) is.walk.seen.next)
-      (all_bodies_judged typing l is.walk.seen.world is.walk.seen.next 0 l.units).answer is.walked.next is.walk.bodies
-      (all_bodies_weigh typing l is.walk.seen.world is.walk.seen.next 0 l.units) in
-      let all = weighs_both (seen_types_at l l.order) (inner_types_of l.units) beginning_state is.walk.seen.next is.walked.next seen bodies in
-      let most = all.most in
+      let seen = seen_weigh.most in
+      let bodies = bodies_weigh.most in
       let same = seen_law in
       let split = units_split l.units in
-      omega (arith, most, same, split)
+      omega (arith, seen, bodies, same, split)
+
+  pub types_law_in : (g : Option ℕ) → types_weight_in g is.walked.next.types_declared ≤ units_in item_types g is.walk.seen.world l 0 l.units
+  types_law_in g =
+      let seen = seen_weigh.each g in
+      let bodies = bodies_weigh.each g in
+      let same = shown_law g in
+      let split = units_split_in g is.walk.seen.world l 0 l.units in
+      omega (arith, seen, bodies, same, split)

@@ -1,3 +1,4 @@
 pub mod TypeTokens
+pub mod TextGenerics
 pub mod Weights
 pub use Rattle.legal_instances

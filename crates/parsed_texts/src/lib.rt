@@ -13,7 +13,7 @@ pub use laws::{
     texts_have_choices, units_of_files_rise,
 };
 pub use legal_counts::{
-    each_exception_has_a_token, library_words_of_packages_are_within_limits,
-    nodes_and_types_have_tokens, words_are_within_limits,
+    each_exception_has_a_token, library_words_are_within_limits, nodes_and_types_have_tokens,
+    words_are_within_limits,
 };
 pub use legal_texts::legal_programs_are_well_formed;

@@ -1,5 +1,5 @@
 -- Where each unit counts once, the expanded program has no fewer nodes than the units.
-use Rattle.std.proofs.Common.{◌≡◌, ℕ, ◌+◌, ◌≤◌, List, [], ◌∷◌, Ok, refl, ap, subst, sym, arith}
+use Rattle.std.proofs.Common.{◌≡◌, ℕ, ◌+◌, ◌≤◌, List, [], ◌∷◌, Ok, refl, ap, arith}
 use Rattle.std.specs.Prelude.{sum_by, Result, Err}
 use Rattle.std.proofs.lemmas.List.Sums.{sum_by-cons}
 use Rattle.cov_base.specs.declared.position.Pos.{Pos}

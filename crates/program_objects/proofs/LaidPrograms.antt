@@ -31,7 +31,6 @@ use Rattle.legal_laws.specs.Bounded.{IsBounded, AreObjectsBounded}
 use Rattle.legal_programs.proofs.Passed.{is_legal, legal_comes}
 use Rattle.legal_programs.specs.DecisionPlaces.{units_decisions}
 use Rattle.legal_programs.specs.InText.{Rise}
-use Rattle.legal_programs.specs.PlainUnits.{ArePlainUnits}
 use Rattle.legal_programs.specs.TextPlaces.{units_places}
 use Rattle.program_weights.specs.TypeWeights.{types_weight as declared_weight}
 use Rattle.parsed_texts.specs.legal_texts.specs.UnitTexts.{AreUnitTexts}
@@ -45,7 +44,7 @@ use Rattle.statement_code.specs.Sizes.{block_nodes, subprogram_nodes}
 use Rattle.program_objects.specs.Kernels.{CanBeLaid, nodes_of}
 use Rattle.program_objects.specs.Made.{exceptions_in}
 use Rattle.program_objects.specs.Texts.{AreUnitsOf, IsOfText, IsPlain}
-use Rattle.program_objects.proofs.PlainUnits.{instances_none, plain_units, outside_law}
+use Rattle.program_objects.proofs.PlainUnits.{instances_none, outside_law}
 use Rattle.program_objects.proofs.UnfoldedSizes.{block_alike}
 
 -- where types have the sizes that the rules count, they have sizes
@@ -62,11 +61,10 @@ pub record Laws (units : List LibraryUnit) (main : List ℕ) (p : meaning.Progra
       → Everywhere (IsBounded p inst) s.objects → (counts : type.Subtype → ℕ) × Everywhere (λ t. type_size (values_of p) inst t ≡ Some (counts t)) s.objects
   pub declared : UnitsRise units → (m inst : ℕ) (s : meaning.Subprogram) → slice_get p.subprograms m ≡ Some s → StandsIn p s.generic inst
       → Everywhere (IsBounded p inst) s.objects → text.words_of_objects p inst s.objects ≤ most_declared_words
-  pub library : ArePlainUnits units → UnitsRise units → AreUnitTexts units → IsSized (program_size p)
+  pub library : UnitsRise units → AreUnitTexts units → IsSized (program_size p)
 
 pub plain_law : (files : ℕ) (units : List LibraryUnit) (main : List ℕ) (p : meaning.Program) → AreUnitsOf files units main p → Laws units main p → IsPlain p
 plain_law files units main p h laws =
-    let subs = plain_units files units main p h in
     let statements = statements_rise_weakly open_extent files units h.read in
     let decisions = decisions_rise open_extent files units h.read in
     let texts = texts_of open_extent files units h.read in
@@ -80,7 +78,7 @@ plain_law files units main p h laws =
           let counted = laws.sized rise m inst s at stands (bounded m inst s at stands) in
           sized_by (values_of p) inst counted.0 s.objects counted.1;
       declared = λ m inst s at stands. laws.declared rise m inst s at stands (bounded m inst s at stands);
-      library = laws.library subs rise texts;
+      library = laws.library rise texts;
     }
 
 -- nodes, each within what all have

@@ -14,9 +14,8 @@ ghost use Rattle.lower.specs.Standing.{AreTypesNamed};
 
 use legal_programs::{obligations_are_numbered, obligations_stand_in_the_text};
 use parsed_texts::{
-    each_exception_has_a_token, legal_programs_are_well_formed,
-    library_words_of_packages_are_within_limits, nodes_and_types_have_tokens,
-    words_are_within_limits,
+    each_exception_has_a_token, legal_programs_are_well_formed, library_words_are_within_limits,
+    nodes_and_types_have_tokens, words_are_within_limits,
 };
 
 /// The units of a legal program come to no more than 4,096 nodes.
@@ -42,7 +41,7 @@ pub fn legal_programs_are_plain()
 {
     legal_programs_are_well_formed();
     words_are_within_limits();
-    library_words_of_packages_are_within_limits();
+    library_words_are_within_limits();
 }
 
 /// The nodes of its typed form are no more than its units have tokens that count, where its declarations of

@@ -18,7 +18,7 @@ returns c = λ files units main p h.
           (λ t. words_in is.walked.world.instances inst t, c.words_are_within_limits.ensures.sized whole_standard units main p is rise m inst s at stands bounded);
       declared = λ rise m inst s at stands bounded.
           c.words_are_within_limits.ensures.declared whole_standard units main p is rise m inst s at stands bounded;
-      library = λ subs rise texts.
-          subst IsSized (sym (c.library_words_of_packages_are_within_limits.ensures.sized (whole_library units) main p is subs
+      library = λ rise texts.
+          subst IsSized (sym (c.library_words_are_within_limits.ensures.sized whole_standard units main p is rise
           (c.legal_programs_are_well_formed.ensures.library units main p h.program.legal rise texts))) tt;
     })
