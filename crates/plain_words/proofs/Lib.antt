@@ -1,0 +1,5 @@
+mod NotedDeclarations
+mod NotedStatements
+mod NotedItems
+mod NotedUnits
+mod WordsOfPackages
