@@ -1,7 +1,7 @@
 -- How much of the language is open today.
 use Rattle.expression_parser.specs.declared.extent.Extent.{Extent}
-use Rattle.expression_parser.specs.declared.extent.Extent.TheVariants.{Exceptions}
+use Rattle.expression_parser.specs.declared.extent.Extent.TheVariants.{Generics}
 
 -- the extent whose productions are the language of today
 abbrev pub open_extent : Extent
-open_extent = Exceptions
+open_extent = Generics

@@ -17,7 +17,7 @@ use std::alloc::Global;
 use thiserror::Error;
 
 /// How much of the language is open today.
-const OPEN_EXTENT: Extent = Extent::Exceptions;
+const OPEN_EXTENT: Extent = Extent::Generics;
 
 /// The tokens derive no file. The place is that of the first token with which the tokens so far
 /// begin none, or, where there is no such token, that of the last one. Without tokens it is line 1

@@ -54,7 +54,7 @@ fn put_without_details<S: Sink>(text: &str, out: &mut S) -> Result<(), SinkFaile
 }
 
 fn is_detail(line: &str) -> bool {
-    ["object: ", "run: ", "instructions: ", "traces: "]
+    ["object: ", "file: ", "run: ", "instructions: ", "traces: "]
         .iter()
         .any(|name| line.starts_with(*name))
 }

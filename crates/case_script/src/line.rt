@@ -101,13 +101,6 @@ pub enum Line<'a> {
         plan: Plan<'a>,
         words: &'a str,
     },
-    /// `@ MAIN INPUTS NAME..`: prints this line, and what the image of the program of these sources does on
-    /// inputs, between which stands `;`.
-    Image {
-        main: &'a str,
-        inputs: &'a str,
-        names: &'a str,
-    },
     /// `digest NAME`, `bytes NAME` or `absent NAME`: prints this of the file.
     Show {
         what: Shown,
@@ -132,7 +125,6 @@ impl<'a> Line<'a> {
         match verb {
             "$" => Some(call(rest)),
             "!" => trial(rest),
-            "@" => image(rest),
             "keep" => Some(Line::Keep { name: rest }),
             "file" => Some(Line::Open(Opening::Whole { name: rest })),
             "change" => change(rest),
@@ -175,16 +167,6 @@ fn trial(rest: &str) -> Option<Line<'_>> {
     let room = room.parse::<usize>().ok()?;
     let plan = Plan { calls, puts, room };
     Some(Line::Trial { plan, words })
-}
-
-fn image(rest: &str) -> Option<Line<'_>> {
-    let (main, rest) = rest.split_once(' ')?;
-    let (inputs, names) = rest.split_once(' ')?;
-    Some(Line::Image {
-        main,
-        inputs,
-        names,
-    })
 }
 
 fn change(rest: &str) -> Option<Line<'_>> {

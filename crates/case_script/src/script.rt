@@ -6,8 +6,8 @@ use crate::answer::put_line;
 use crate::change::{closed, spliced};
 use crate::fault::ScriptFault;
 use crate::line::{Line, Making, Opening, Place, Plan, Shown, word_of};
-use crate::trial::{Trial, entries_of};
-use cov_io::{Entry, FileFault, Files, Sink};
+use crate::trial::Trial;
+use cov_io::{FileFault, Files, Sink};
 use sha2::{Digest, Sha256};
 use std::alloc::{AllocError, Global};
 
@@ -74,14 +74,12 @@ fn add_line(text: &mut String, line: &str) -> Result<(), AllocError>
     text.push('\n')
 }
 
-/// What a line asks for and leaves to be done.
+/// A call that a line asks for.
 pub enum Asked {
     /// One over real files.
     Call(Call),
     /// One over files in memory, of which some fail.
     Trial(Trial),
-    /// None of gnatcov, but the image of a program.
-    Image(Sources),
 }
 
 // Written out: a derived drop is proved anew in each crate above.
@@ -90,7 +88,6 @@ impl Drop for Asked {
         match self {
             Asked::Call(_) => {}
             Asked::Trial(_) => {}
-            Asked::Image(_) => {}
         }
     }
 }
@@ -127,45 +124,6 @@ impl Call {
     }
 }
 
-/// The sources of a program whose image is to be run.
-pub struct Sources {
-    /// The name of the main procedure.
-    pub main: String,
-    /// The inputs of the runs, with `;` between them, `,` between the numbers of one, and `-` for none.
-    pub inputs: String,
-    /// The sources.
-    pub files: Vec<Entry>,
-}
-
-// Written out: a derived drop is proved anew in each crate above.
-impl Drop for Sources {
-    fn drop(self) {
-        let Sources {
-            main: _,
-            inputs: _,
-            files: _,
-        } = self;
-    }
-}
-
-impl Sources {
-    /// The files with these names, and what to run of them.
-    fn of<F: Files>(
-        alloc: Global,
-        main: &str,
-        inputs: &str,
-        names: &str,
-        files: &mut F,
-    ) -> Result<Self, ScriptFault> {
-        let names = words_of(alloc, names)?;
-        Ok(Sources {
-            main: String::from_str(alloc, main)?,
-            inputs: String::from_str(alloc, inputs)?,
-            files: entries_of(alloc, names.as_slice(), files)?,
-        })
-    }
-}
-
 /// A script that is being played.
 pub struct Script {
     alloc: Global,
@@ -195,8 +153,8 @@ impl Script {
         }
     }
 
-    /// Plays the next line, over the files and the sink of the transcript. The call or the image that it asks
-    /// for, if it asks for one, is left to be made.
+    /// Plays the next line, over the files and the sink of the transcript. The call that it asks for, if
+    /// it asks for one, is left to be made.
     pub fn play<F: Files, S: Sink>(
         &mut self,
         line: &str,
@@ -242,17 +200,6 @@ impl Script {
             Some(Line::Trial { plan, words }) => {
                 put_line(line, out)?;
                 return Ok(Some(Asked::Trial(self.trial(plan, words, files)?)));
-            }
-            Some(
-                Line::Image {
-                    main,
-                    inputs,
-                    names,
-                },
-            ) => {
-                put_line(line, out)?;
-                let sources = Sources::of(alloc, main, inputs, names, files)?;
-                return Ok(Some(Asked::Image(sources)));
             }
             Some(Line::Show { what, name }) => show(alloc, what, name, files, out)?,
         }

@@ -155,7 +155,7 @@ fn name_of<'a>(kept: &'a [Entry], bytes: &[u8]) -> &'a str {
 }
 
 /// Copies in memory of the files with these names.
-pub(crate) fn entries_of<F: Files>(
+fn entries_of<F: Files>(
     alloc: Global,
     names: &[String],
     files: &mut F,

@@ -1,15 +1,10 @@
 //! Plays a script of commands, and prints the transcript: what each call of [`public_call::gnatcov`]
-//! over real files put, and its status; the same of calls over files in memory, of which some fail; and what
-//! images of programs do that are within the whole language.
+//! over real files put, and its status; and the same of calls over files in memory, of which some fail.
 //! The script comes from standard input; [`case_script::Line`] has its language.
 #![tactic(auto)]
 
-use case_script::{
-    Asked, Call, Script, ScriptFault, Sources, Trial, put_answer, put_line, put_outcome,
-};
-use cov_base::Failure;
+use case_script::{Asked, Call, Script, ScriptFault, Trial, put_answer, put_outcome};
 use cov_io::{Files, HostFiles, HostSink, MemSink, Sink};
-use program_images::tell;
 use public_call::gnatcov;
 use std::alloc::Global;
 use std::io;
@@ -51,31 +46,6 @@ fn answer_in_memory<S: Sink>(alloc: Global, trial: &Trial, out: &mut S) -> Resul
     )
 }
 
-/// Runs the image of a program, and puts what it does, or why there is none.
-fn answer_by_image<S: Sink>(
-    alloc: Global,
-    sources: &Sources,
-    out: &mut S,
-) -> Result<(), ScriptFault> {
-    let mut text = String::new(alloc);
-    let told = tell(
-        alloc,
-        &mut text,
-        sources.files.as_slice(),
-        sources.main.as_str(),
-        sources.inputs.as_str(),
-    );
-    out.put(text.as_bytes())?;
-    match told {
-        Ok(()) => Ok(()),
-        Err(Failure::Fault(fault)) => {
-            let line = format!(in alloc; "no image: {fault}")?;
-            Ok(put_line(line.as_str(), out)?)
-        }
-        Err(Failure::WantOfMemory) => Err(ScriptFault::Memory),
-    }
-}
-
 /// Plays the script of standard input. A line that is none of its language ends it.
 fn main(rt: HostRuntime) -> Result<(), ScriptFault> {
     let alloc = rt.alloc();
@@ -89,7 +59,6 @@ fn main(rt: HostRuntime) -> Result<(), ScriptFault> {
         match &asked {
             Some(Asked::Call(call)) => answer(alloc, call, &mut files, &mut out)?,
             Some(Asked::Trial(trial)) => answer_in_memory(alloc, trial, &mut out)?,
-            Some(Asked::Image(sources)) => answer_by_image(alloc, sources, &mut out)?,
             None => {}
         }
     }

@@ -1,14 +1,11 @@
 -- Refusals of units are told as faults of their sources.
-use Rattle.std.proofs.Common.{◌≡◌, ℕ, List, Ok, Err, Result, IfOk, IfErr, refl, sym, ap, ◌∙◌, subst}
+use Rattle.std.proofs.Common.{◌≡◌, ℕ, List, Ok, Err, Result, IfOk, IfErr, sym, ap, ◌∙◌, subst}
 use Rattle.std.specs.Prelude.{IsErrAnd, MatchResult}
 use Rattle.std.specs.Str.{str_to_ascii_lowercase}
 use Rattle.cov_base.specs.declared.failure.Failure.{Failure}
 use Rattle.cov_base.specs.declared.failure.Failure.TheVariants.{Fault, WantOfMemory}
 use Rattle.cov_base.specs.declared.obligations.SourceFile.{SourceFile}
-use Rattle.cov_base.specs.declared.position.Pos.{Pos}
-use Rattle.ada_rules.specs.Environment.{naming, typing}
 use Rattle.ada_rules.specs.Legal.{legal, checked}
-use Rattle.ada_rules.specs.Units.{Walked, judged_in}
 use Rattle.ada_syntax.specs.declared.unit.Unit.{Unit as LibraryUnit}
 use Rattle.ada_tree.specs.declared.program.Program.{Program as TypedProgram}
 use Rattle.ada_tree.specs.declared.program.UnitEntry.{UnitEntry}
@@ -20,10 +17,10 @@ use Rattle.checker.specs.fault.CheckFault.{CheckFault}
 use Rattle.compiler.specs.Checking.{illegal}
 use Rattle.program_objects.specs.Expanding.{AreFew, PassesLimit, has_too_many, passes, no_memory}
 use Rattle.program_objects.specs.Legal as units
-use Rattle.program_objects.specs.Legal.{entries_in, entries_for, AreProgram, UnitsAreRefused, RefusesUnits, RefusesFor}
+use Rattle.program_objects.specs.Legal.{entries_for, AreProgram, UnitsAreRefused, RefusesUnits, RefusesFor}
 use Rattle.program_objects.specs.Units.{HaveUnits, FailsFor}
 use Rattle.program_objects.specs.declared.fault.SourceFault.{SourceFault}
-use Rattle.program_objects.proofs.FewNodes.{none_refused}
+use Rattle.program_objects.proofs.Entries.{entries_law}
 use Rattle.generic_expand.specs.Expanded.{past_instances, first_past}
 
 -- by the rules, with the reason for each refusal
@@ -47,12 +44,7 @@ pub ruleset refusals = (illegal_units)
 -- the entries of a typed program are those that the limits ask of its units
 pub entries_are : (us : List LibraryUnit) (main : List ℕ) (p : TypedProgram) → checked us main ≡ legal (program_of p) → HasEntries (whole_library us) main p
     → p.units ≡ entries_for us main
-entries_are us main p h has = by_answer (judged_in typing (whole_library us) main).answer refl
-  where
-    by_answer : (r : Result Walked Pos) → (judged_in typing (whole_library us) main).answer ≡ r → p.units ≡ entries_in (whole_library us) r
-    by_answer (Ok x) is = has x is
-    by_answer (Err q) is =
-        absurd (none_refused (whole_library us) main (judged_in naming (whole_library us) main).answer (judged_in typing (whole_library us) main).answer (program_of p) q h is)
+entries_are us main p h has = entries_law us main (program_of p) h (λ (es : List UnitEntry). p.units ≡ es) has
 
 pub program_law : (us : List LibraryUnit) (main : List ℕ) (p : TypedProgram) → checked us main ≡ legal (program_of p) → HasEntries (whole_library us) main p → AreFew p.units
     → AreProgram us main (program_of p)

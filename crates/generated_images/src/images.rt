@@ -12,7 +12,7 @@ use rv_semantics::{DATA_START, MEMORY_BYTES};
 use std::alloc::{AllocError, Global};
 
 /// The image of a kernel; none where it is too large for the memory or for the reach of jumps.
-pub fn image_of(alloc: Global, kernel: &Kernel) -> Result<Option<Image>, AllocError>
+pub(crate) fn image_of(alloc: Global, kernel: &Kernel) -> Result<Option<Image>, AllocError>
     ensures { IfOk result (λ image. IfSome image (λ image. image ≡ linked (kernel_pieces kernel.now) kernel.now.library)) }
 {
     let pieces = generate(alloc, kernel)?;

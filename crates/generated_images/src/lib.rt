@@ -41,5 +41,3 @@ mod words;
 pub use asking::answer;
 pub use draft::Draft;
 pub use fault::{Answer, StepFault};
-pub use images::image_of;
-pub use runs::{Shown, Told, run};

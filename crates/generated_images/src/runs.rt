@@ -11,7 +11,7 @@ use std::alloc::{AllocError, Global};
 
 /// What an executed instruction tells.
 #[derive(Clone, Copy)]
-pub enum Told {
+pub(crate) enum Told {
     /// A statement starts.
     Starts {
         statement: u32,
@@ -26,7 +26,7 @@ pub enum Told {
 
 /// What a run leaves: the number that it ended with, where it neither trapped nor went over its
 /// budget; the words that were put; what its instructions told, in order; and how many were executed.
-pub struct Shown {
+pub(crate) struct Shown {
     pub ending: Option<u32>,
     pub put: Vec<i32>,
     pub told: Vec<Told>,
@@ -47,7 +47,7 @@ impl Drop for Shown {
 
 /// Runs an image that has so many exceptions on an input, for at most `budget` instructions. None
 /// where the image does not lie in memory.
-pub fn run(
+pub(crate) fn run(
     alloc: Global,
     image: &Image,
     exceptions: usize,

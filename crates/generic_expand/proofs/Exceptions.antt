@@ -18,7 +18,7 @@ module _ {X : Type 0} (before : X → X → Bool) where
     by_test true rest = ap suc rest
     by_test false rest = refl
 
-  as_long : (xs : List X) → length (in_order before xs) ≡ length xs
+  pub as_long : (xs : List X) → length (in_order before xs) ≡ length xs
   as_long [] = refl
   as_long (x ∷ xs) = one_longer x (in_order before xs) ∙ ap suc (as_long xs)
 
@@ -36,16 +36,29 @@ of_one : (d : meaning.ExceptionDeclaration) (g : Option ℕ) (is : List meaning.
 of_one d None is = refl
 of_one d (Some g) is = for_each d g 1 1 is
 
-of_all : (p : Program) (ds : List ExceptionDeclaration)
-    → length (listed (map exception_declaration_of ds) (map instance_of p.instances)) ≡ sum_by (λ d. declared_copies p d.generic) ds
-of_all p [] = refl
-of_all p (d ∷ ds) =
-    length-append (listed_by d.generic (exception_declaration_of d) (map instance_of p.instances)) (listed (map exception_declaration_of ds) (map instance_of p.instances))
-    ∙ (λ i. of_one (exception_declaration_of d) d.generic (map instance_of p.instances) i + of_all p ds i)
+-- declarations list as many exceptions as there are, each once for every instance of its generic
+pub listed_long : (ds : List meaning.ExceptionDeclaration) (is : List meaning.Instance)
+    → length (listed ds is) ≡ sum_by (λ (d : meaning.ExceptionDeclaration). length (instances_of d.generic is)) ds
+listed_long [] is = refl
+listed_long (d ∷ ds) is =
+    length-append (listed_by d.generic d is) (listed ds is)
+    ∙ (λ i. of_one d d.generic is i + listed_long ds is i)
+    ∙ sym (sum_by-cons (λ (e : meaning.ExceptionDeclaration). length (instances_of e.generic is)) d ds)
+
+-- a declaration that is typed is seen with its generic
+seen_declared : (p : Program) (ds : List ExceptionDeclaration)
+    → sum_by (λ (d : meaning.ExceptionDeclaration). length (instances_of d.generic (map instance_of p.instances))) (map exception_declaration_of ds)
+    ≡ sum_by (λ d. declared_copies p d.generic) ds
+seen_declared p [] = refl
+seen_declared p (d ∷ ds) =
+    sum_by-cons (λ (e : meaning.ExceptionDeclaration). length (instances_of e.generic (map instance_of p.instances))) (exception_declaration_of d)
+    (map exception_declaration_of ds)
+    ∙ (λ i. declared_copies p d.generic + seen_declared p ds i)
     ∙ sym (sum_by-cons (λ e. declared_copies p e.generic) d ds)
 
 pub exceptions_counted : (p : Program) → IsNumbered (program_of p) → length p.exceptions ≡ exception_count p
 exceptions_counted p numbered =
     sym (length-map p.exceptions raisable_of) ∙ ap length numbered.exceptions
     ∙ length-map (ordered_exceptions (program_of p)) (λ x. x.entry)
-    ∙ as_long is_listed_before (listed (map exception_declaration_of p.declared) (map instance_of p.instances)) ∙ of_all p p.declared
+    ∙ as_long is_listed_before (listed (map exception_declaration_of p.declared) (map instance_of p.instances))
+    ∙ listed_long (map exception_declaration_of p.declared) (map instance_of p.instances) ∙ seen_declared p p.declared

@@ -1,13 +1,15 @@
 -- The answers on limits are exact, and the copies of a program weigh no more than its nodes.
-use Rattle.std.proofs.Common.{◌≡◌, ℕ, ◌+◌, ◌*◌, ◌≤◌, ◌<◌, Bool, true, false, List, [], ◌∷◌, ◌++◌, length, map, sum_by, Option, Some, None, option_map, slice_get, if◌then◌else◌, refl, sym, ap, subst, ◌∙◌, arith}
+use Rattle.std.proofs.Common.{◌≡◌, ℕ, zero, suc, ◌+◌, ◌*◌, ◌≤◌, ◌<◌, Bool, true, false, List, [], ◌∷◌, ◌++◌, length, map, sum_by, Option, Some, None, option_map, slice_get, if◌then◌else◌, refl, sym, ap, subst, ◌∙◌, arith}
 use Rattle.std.specs.Prelude.{nat_eq, nat_lt, unwrap_or}
 use Rattle.std.proofs.lemmas.Bool.Decides.{nat_tests}
 use Rattle.std.proofs.lemmas.List.{append_assoc, length-append}
-use Rattle.std.proofs.lemmas.List.Sums.{sum_by-cons, sum_by-append, sum_by_push}
+use Rattle.std.proofs.lemmas.List.Sums.{get_or-le-sum_by, sum_by-append, sum_by-cons, sum_by-le-sum_by, sum_by_push}
+use Rattle.std.proofs.lemmas.Option.{get_or_from_slice_get, slice_get_within}
 use Rattle.cov_base.specs.declared.position.Pos.{Pos}
-use Rattle.ada_meaning.specs.Bodies.{instances_from, instances_of}
+use Rattle.ada_meaning.specs.Bodies.{StandsIn, instances_from, instances_of}
+use Rattle.ada_meaning.specs.Program as meaning
 use Rattle.ada_tree.specs.Programs.{instance_of, types_of}
-use Rattle.ada_tree.specs.Weights.{IsWeighed, bodies_weight, in_instance, stands_in, text_nodes, type_nodes, types_weight as types_in, unit_nodes_in}
+use Rattle.ada_tree.specs.Weights.{IsWeighed, bodies_weight, exceptions_in, in_instance, stands_in, text_nodes, type_nodes, types_weight as types_in, unit_nodes_in}
 use Rattle.ada_tree.specs.Weights as text
 use Rattle.ada_tree.specs.declared.program.ExceptionDeclaration.{ExceptionDeclaration}
 use Rattle.ada_tree.specs.declared.program.Instance.{Instance}
@@ -121,38 +123,38 @@ module _ {X : Type 0} (generic : X → Option ℕ) (weight : X → ℕ) where
   abbrev in_text : Option ℕ → X → ℕ
   in_text g x = if stands_in g (generic x) then weight x else 0
 
-  abbrev in_each : List Instance → X → ℕ
-  in_each is x = sum_by (λ i. in_text (Some i.generic) x) is
+  abbrev in_each : List meaning.Instance → X → ℕ
+  in_each is x = sum_by (λ (i : meaning.Instance). in_text (Some i.generic) x) is
 
-  abbrev times : Option ℕ → List Instance → ℕ
-  times g is = length (instances_of g (map instance_of is))
+  abbrev times : Option ℕ → List meaning.Instance → ℕ
+  times g is = length (instances_of g is)
 
   -- one item in no generic has one copy
-  none_zero : (x : X) (is : List Instance) → generic x ≡ None → in_each is x ≡ 0
+  none_zero : (x : X) (is : List meaning.Instance) → generic x ≡ None → in_each is x ≡ 0
   none_zero x [] none = refl
   none_zero x (i ∷ is) none =
       omega (
         arith,
-        sum_by-cons (λ j. in_text (Some j.generic) x) i is,
+        sum_by-cons (λ (j : meaning.Instance). in_text (Some j.generic) x) i is,
         none_zero x is none,
         ap (λ g. if stands_in (Some i.generic) g then weight x else 0) none,
       )
 
   -- one in a generic has one for each instance of it
-  some_each : (x : X) (g n : ℕ) (is : List Instance) → generic x ≡ Some g → weight x * length (instances_from g n (map instance_of is)) ≡ in_each is x
+  some_each : (x : X) (g n : ℕ) (is : List meaning.Instance) → generic x ≡ Some g → weight x * length (instances_from g n is) ≡ in_each is x
   some_each x g n [] some = omega arith
   some_each x g n (i ∷ is) some =
       by_test (nat_eq i.generic g) (some_each x g (n + 1) is some)
       ∙ ap (λ o. (if stands_in (Some i.generic) o then weight x else 0) + in_each is x) (sym some)
-      ∙ sym (sum_by-cons (λ j. in_text (Some j.generic) x) i is)
+      ∙ sym (sum_by-cons (λ (j : meaning.Instance). in_text (Some j.generic) x) i is)
     where
-      by_test : (b : Bool) → weight x * length (instances_from g (n + 1) (map instance_of is)) ≡ in_each is x
-          → weight x * length (if b then n ∷ instances_from g (n + 1) (map instance_of is) else instances_from g (n + 1) (map instance_of is))
+      by_test : (b : Bool) → weight x * length (instances_from g (n + 1) is) ≡ in_each is x
+          → weight x * length (if b then n ∷ instances_from g (n + 1) is else instances_from g (n + 1) is)
           ≡ (if b then weight x else 0) + in_each is x
-      by_test true rest = one_more (weight x) n (instances_from g (n + 1) (map instance_of is)) ∙ ap (λ k. weight x + k) rest
+      by_test true rest = one_more (weight x) n (instances_from g (n + 1) is) ∙ ap (λ k. weight x + k) rest
       by_test false rest = omega (arith, rest)
 
-  one_copied : (x : X) (is : List Instance) → weight x * times (generic x) is ≡ in_text None x + in_each is x
+  one_copied : (x : X) (is : List meaning.Instance) → weight x * times (generic x) is ≡ in_text None x + in_each is x
   one_copied x is = by_case (generic x) refl
     where
       by_case : (o : Option ℕ) → generic x ≡ o → weight x * times o is ≡ (if stands_in None o then weight x else 0) + in_each is x
@@ -163,26 +165,26 @@ module _ {X : Type 0} (generic : X → Option ℕ) (weight : X → ℕ) where
   of_text g xs = sum_by (in_text g) xs
 
   -- all items in one instance after the other
-  abbrev of_instances : List Instance → List X → ℕ
-  of_instances is xs = sum_by (λ i. of_text (Some i.generic) xs) is
+  abbrev of_instances : List meaning.Instance → List X → ℕ
+  of_instances is xs = sum_by (λ (i : meaning.Instance). of_text (Some i.generic) xs) is
 
-  no_item : (is : List Instance) → of_instances is [] ≡ 0
+  no_item : (is : List meaning.Instance) → of_instances is [] ≡ 0
   no_item [] = refl
-  no_item (i ∷ is) = omega (arith, sum_by-cons (λ j. of_text (Some j.generic) []) i is, no_item is)
+  no_item (i ∷ is) = omega (arith, sum_by-cons (λ (j : meaning.Instance). of_text (Some j.generic) []) i is, no_item is)
 
-  next_item : (x : X) (xs : List X) (is : List Instance) → of_instances is (x ∷ xs) ≡ in_each is x + of_instances is xs
+  next_item : (x : X) (xs : List X) (is : List meaning.Instance) → of_instances is (x ∷ xs) ≡ in_each is x + of_instances is xs
   next_item x xs [] = refl
   next_item x xs (i ∷ is) =
       omega (
         arith,
-        sum_by-cons (λ j. of_text (Some j.generic) (x ∷ xs)) i is,
-        sum_by-cons (λ j. of_text (Some j.generic) xs) i is,
-        sum_by-cons (λ j. in_text (Some j.generic) x) i is,
+        sum_by-cons (λ (j : meaning.Instance). of_text (Some j.generic) (x ∷ xs)) i is,
+        sum_by-cons (λ (j : meaning.Instance). of_text (Some j.generic) xs) i is,
+        sum_by-cons (λ (j : meaning.Instance). in_text (Some j.generic) x) i is,
         sum_by-cons (in_text (Some i.generic)) x xs,
         next_item x xs is,
       )
 
-  all_copied : (xs : List X) (is : List Instance) → sum_by (λ x. weight x * times (generic x) is) xs ≡ of_text None xs + of_instances is xs
+  all_copied : (xs : List X) (is : List meaning.Instance) → sum_by (λ x. weight x * times (generic x) is) xs ≡ of_text None xs + of_instances is xs
   all_copied [] is = omega (arith, no_item is)
   all_copied (x ∷ xs) is =
       omega (
@@ -193,6 +195,73 @@ module _ {X : Type 0} (generic : X → Option ℕ) (weight : X → ℕ) where
         sum_by-cons (in_text None) x xs,
         next_item x xs is,
       )
+
+-- the instances of a program are those that its units are
+abbrev AreInstancesOf : List UnitEntry → List meaning.Instance → Type 0
+AreInstancesOf us is = (count : ℕ → ℕ) → sum_by (λ (i : meaning.Instance). count i.generic) is ≡ text.in_instances count us
+
+-- then the text in no generic and that of each instance's generic are all of the expanded program
+whole_text : (is : List meaning.Instance) (us : List UnitEntry) → AreInstancesOf us is
+    → text_nodes None us + sum_by (λ (i : meaning.Instance). text_nodes (Some i.generic) us) is ≡ node_count us
+whole_text is us instances = omega (arith, instances (λ g. text_nodes (Some g) us), expanded_text us us)
+
+-- what weighs no more than the text of its generic does so in all instances
+each_below : (count : Option ℕ → ℕ) (us : List UnitEntry) → ((g : Option ℕ) → count g ≤ text_nodes g us) → (is : List meaning.Instance)
+    → sum_by (λ (i : meaning.Instance). count (Some i.generic)) is ≤ sum_by (λ (i : meaning.Instance). text_nodes (Some i.generic) us) is
+each_below count us within is =
+    sum_by-le-sum_by (λ (i : meaning.Instance). count (Some i.generic)) (λ (i : meaning.Instance). text_nodes (Some i.generic) us) is (λ i. within (Some i.generic))
+
+-- where items weigh no more than the text, generic by generic, their copies weigh no more than the nodes of the expanded program
+pub items_within : {X : Type 0} (generic : X → Option ℕ) (weight : X → ℕ) (xs : List X) (is : List meaning.Instance) (us : List UnitEntry)
+    → ((g : Option ℕ) → sum_by (λ x. if stands_in g (generic x) then weight x else 0) xs ≤ text_nodes g us)
+    → ((count : ℕ → ℕ) → sum_by (λ (i : meaning.Instance). count i.generic) is ≡ text.in_instances count us)
+    → sum_by (λ x. weight x * length (instances_of (generic x) is)) xs ≤ node_count us
+items_within generic weight xs is us within instances =
+    omega (
+      arith,
+      all_copied generic weight xs is,
+      within None,
+      each_below (λ g. of_text generic weight g xs) us within is,
+      whole_text is us instances,
+    )
+
+-- an item of a list adds to its sum
+part_of : {X : Type 0} (f : X → ℕ) (xs : List X) (m : ℕ) (x : X) → slice_get xs m ≡ Some x → f x ≤ sum_by f xs
+part_of f xs m x at =
+    subst (λ y. f y ≤ sum_by f xs) (get_or_from_slice_get xs m x x at) (get_or-le-sum_by f xs m x (slice_get_within xs m x at))
+
+-- then one of them that has a copy weighs no more than these nodes
+pub one_within : {X : Type 0} (generic : X → Option ℕ) (weight : X → ℕ) (xs : List X) (p : meaning.Program) (us : List UnitEntry)
+    → ((g : Option ℕ) → sum_by (λ x. if stands_in g (generic x) then weight x else 0) xs ≤ text_nodes g us)
+    → ((count : ℕ → ℕ) → sum_by (λ (i : meaning.Instance). count i.generic) p.instances ≡ text.in_instances count us)
+    → (m inst : ℕ) (x : X) → slice_get xs m ≡ Some x → StandsIn p (generic x) inst → weight x ≤ node_count us
+one_within generic weight xs p us within instances m inst x at stands =
+    omega (arith, by_generic (generic x) refl inst stands, whole_text p.instances us instances)
+  where
+    -- it is part of the text of its generic
+    of_own : (o : Option ℕ) → generic x ≡ o → stands_in o o ≡ true → weight x ≤ text_nodes o us
+    of_own o is own =
+        let counts : in_text generic weight o x ≡ weight x = ap (λ y. if stands_in o y then weight x else 0) is ∙ ap (λ b. if b then weight x else 0) own in
+        omega (arith, counts, part_of (in_text generic weight o) xs m x at, within o)
+
+    by_generic : (o : Option ℕ) → generic x ≡ o → (inst : ℕ) → StandsIn p o inst
+        → weight x ≤ text_nodes None us + sum_by (λ (i : meaning.Instance). text_nodes (Some i.generic) us) p.instances
+    by_generic None is inst stands = omega (arith, of_own None is refl)
+    by_generic (Some g) is zero stands = absurd stands
+    by_generic (Some g) is (suc k) stands = of_instance (slice_get p.instances k) refl stands
+      where
+        of_instance : (o : Option meaning.Instance) → slice_get p.instances k ≡ o → option_map (λ (i : meaning.Instance). i.generic) o ≡ Some g
+            → weight x ≤ text_nodes None us + sum_by (λ (i : meaning.Instance). text_nodes (Some i.generic) us) p.instances
+        of_instance None at none = absurd (let no : ⊥ = cc none in no)
+        of_instance (Some i) at some =
+            let own : i.generic ≡ g = ap (λ (o : Option ℕ). unwrap_or o g) some in
+            let text = ap (λ (h : ℕ). text_nodes (Some h) us) own in
+            omega (
+              arith,
+              of_own (Some g) is (grind (arith, nat_tests)),
+              text,
+              part_of (λ (i : meaning.Instance). text_nodes (Some i.generic) us) p.instances k i at,
+            )
 
 -- the copies of one body
 module _ (weight : Subprogram → ℕ) (p : Program) where
@@ -235,23 +304,6 @@ module _ (weight : Subprogram → ℕ) (p : Program) where
       ap (sum_by (weight_of weight p)) (sym (of_all (types_of p.types) 0 p.subprograms p.instances))
       ∙ copies_from [] p.subprograms 0 p.instances refl refl
 
-  -- bodies, types and exceptions of each instance's generic are within its text
-  each_within : IsWeighed weight p → (is : List Instance)
-      → of_instances (λ (s : Subprogram). s.generic) weight is p.subprograms + of_instances (λ (t : TypeDeclaration). t.generic) type_nodes is p.types
-      + of_instances (λ (d : ExceptionDeclaration). d.generic) (λ d. 1) is p.declared
-      ≤ sum_by (λ i. text_nodes (Some i.generic) p.units) is
-  each_within weighed [] = omega arith
-  each_within weighed (i ∷ is) =
-      omega (
-        arith,
-        sum_by-cons (λ j. of_text (λ (s : Subprogram). s.generic) weight (Some j.generic) p.subprograms) i is,
-        sum_by-cons (λ j. of_text (λ (t : TypeDeclaration). t.generic) type_nodes (Some j.generic) p.types) i is,
-        sum_by-cons (λ j. of_text (λ (d : ExceptionDeclaration). d.generic) (λ d. 1) (Some j.generic) p.declared) i is,
-        sum_by-cons (λ j. text_nodes (Some j.generic) p.units) i is,
-        weighed.text (Some i.generic),
-        each_within weighed is,
-      )
-
   once_each : (ds : List ExceptionDeclaration) → sum_by (λ d. declared_copies p d.generic) ds ≡ sum_by (λ d. 1 * declared_copies p d.generic) ds
   once_each [] = refl
   once_each (d ∷ ds) =
@@ -262,17 +314,50 @@ module _ (weight : Subprogram → ℕ) (p : Program) where
         once_each ds,
       )
 
+  -- bodies, types and exceptions of a generic together
+  abbrev together : Option ℕ → ℕ
+  together g = bodies_weight weight g p.subprograms + types_in weight g p.types + exceptions_in g p.declared
+
+  -- in all instances they are those of each kind
+  all_together : (is : List meaning.Instance)
+      → of_instances (λ (s : Subprogram). s.generic) weight is p.subprograms + of_instances (λ (t : TypeDeclaration). t.generic) type_nodes is p.types
+      + of_instances (λ (d : ExceptionDeclaration). d.generic) (λ d. 1) is p.declared
+      ≡ sum_by (λ (i : meaning.Instance). together (Some i.generic)) is
+  all_together [] = omega arith
+  all_together (i ∷ is) =
+      omega (
+        arith,
+        sum_by-cons (λ (j : meaning.Instance). of_text (λ (s : Subprogram). s.generic) weight (Some j.generic) p.subprograms) i is,
+        sum_by-cons (λ (j : meaning.Instance). of_text (λ (t : TypeDeclaration). t.generic) type_nodes (Some j.generic) p.types) i is,
+        sum_by-cons (λ (j : meaning.Instance). of_text (λ (d : ExceptionDeclaration). d.generic) (λ d. 1) (Some j.generic) p.declared) i is,
+        sum_by-cons (λ (j : meaning.Instance). together (Some j.generic)) i is,
+        all_together is,
+      )
+
+  -- an instance that is typed is seen with its generic
+  seen_instances : (count : ℕ → ℕ) (is : List Instance)
+      → sum_by (λ (i : meaning.Instance). count i.generic) (map instance_of is) ≡ sum_by (λ (i : Instance). count i.generic) is
+  seen_instances count [] = refl
+  seen_instances count (i ∷ is) =
+      omega (
+        arith,
+        sum_by-cons (λ (j : meaning.Instance). count j.generic) (instance_of i) (map instance_of is),
+        sum_by-cons (λ (j : Instance). count j.generic) i is,
+        seen_instances count is,
+      )
+
   pub copies_within : IsWeighed weight p → copies_weight weight p + types_weight p + exception_count p ≤ node_count p.units
   copies_within weighed =
+      let is = map instance_of p.instances in
       omega (
         arith,
         copies_are,
-        all_copied (λ (s : Subprogram). s.generic) weight p.subprograms p.instances,
-        all_copied (λ (t : TypeDeclaration). t.generic) type_nodes p.types p.instances,
+        all_copied (λ (s : Subprogram). s.generic) weight p.subprograms is,
+        all_copied (λ (t : TypeDeclaration). t.generic) type_nodes p.types is,
         once_each p.declared,
-        all_copied (λ (d : ExceptionDeclaration). d.generic) (λ d. 1) p.declared p.instances,
+        all_copied (λ (d : ExceptionDeclaration). d.generic) (λ d. 1) p.declared is,
         weighed.text None,
-        each_within weighed p.instances,
-        weighed.instances (λ g. text_nodes (Some g) p.units),
-        expanded_text p.units p.units,
+        all_together is,
+        each_below together p.units weighed.text is,
+        whole_text is p.units (λ count. seen_instances count p.instances ∙ weighed.instances count),
       )

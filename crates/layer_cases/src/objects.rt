@@ -3,7 +3,7 @@
 //! | Line | Asks |
 //! |---|---|
 //! | `object` | whether the latest blob is an object file, which is then written again, or why not |
-//! | `plain` | the same in the language without regions and instances |
+//! | `plain` | the same in the language of the moment, which has no regions |
 //! | `input` | the numbers of the latest blob as an input file, or the line that is refused |
 //! | `run OBJECT BUDGET` | a run on the latest blob as the input file: what it puts, how it ends, its trace |
 //! | `words OBJECT ADDRESS..` | the kind of each word, where a block from there ends, the condition there |

@@ -20,9 +20,10 @@ use Rattle.legal_programs.specs.Walked.{IsLegal}
 use Rattle.legal_programs.proofs.Passed.{of_ok}
 use Rattle.legal_types.specs.TextGenerics as text
 use Rattle.legal_types.specs.TextGenerics.{generic_of_item, shown_in, text_generic, part_in, units_in}
+use Rattle.legal_counts.specs.Seen.{shown_of}
 use Rattle.legal_counts.proofs.ExceptionNames.{package_items_exceptions, body_items_exceptions, body_exceptions, item_exceptions, units_exceptions, units_few}
 use Rattle.legal_counts.proofs.ExceptionDeclarations.{AddsBy, declared_in}
-use Rattle.legal_counts.proofs.ExceptionUnits.{shown_of, shown_at, shown_exceptions_at, inner_exceptions_in, seen_exceptions, seen_exceptions_of, seen_exceptions_at, inner_exceptions, inner_exceptions_of, interfaces_add, all_bodies_add}
+use Rattle.legal_counts.proofs.ExceptionUnits.{shown_at, shown_exceptions_at, inner_exceptions_in, seen_exceptions, seen_exceptions_of, seen_exceptions_at, inner_exceptions, inner_exceptions_of, interfaces_add, all_bodies_add}
 
 -- of a unit, by what others see of it and by its bodies
 item_split : (i : LibraryItem) → item_exceptions i ≡ seen_exceptions i + inner_exceptions i
@@ -149,6 +150,19 @@ module _ (g : Option ℕ) (f : ℕ → ℕ) where
           let sum = sum_by-cons f n (units_but_bodies (n + 1) us) in
           omega (arith, own, sum, all)
 
+module _ (l : Library) (main : List ℕ) (p : Program) (is : IsLegal l main p) where
+  pub seen_adds : AddsBy (seen_exceptions_at l l.order) (shown_exceptions_at l l.order) beginning_state is.walk.seen.next
+  seen_adds =
+      of_ok (λ (y : Walked). AddsBy (seen_exceptions_at l l.order) (shown_exceptions_at l l.order) beginning_state y.next)
+      (all_interfaces typing l (record { world = world_before l; next = beginning_state }) l.order).answer is.walk.seen is.walk.interfaces
+      (interfaces_add typing l (record { world = world_before l; next = beginning_state }) l.order)
+
+  pub bodies_adds : AddsBy (inner_exceptions_of l.units) (inner_exceptions_in is.walk.seen.world l l.units) is.walk.seen.next is.walked.next
+  bodies_adds =
+      of_ok (AddsBy (inner_exceptions_of l.units) (inner_exceptions_in is.walk.seen.world l l.units) is.walk.seen.next)
+      (all_bodies_judged typing l is.walk.seen.world is.walk.seen.next 0 l.units).answer is.walked.next is.walk.bodies
+      (all_bodies_add typing l is.walk.seen.world is.walk.seen.next 0 l.units)
+
 module _ (l : Library) (main : List ℕ) (p : Program) (is : IsLegal l main p) (whole : IsWholeOrder l) where
   seen_law : seen_exceptions_at l l.order ≡ seen_exceptions_in l.units
   seen_law =
@@ -163,30 +177,18 @@ module _ (l : Library) (main : List ℕ) (p : Program) (is : IsLegal l main p) (
       ∙ counted_in g (λ n. shown_at g l n) 0 l.units (λ i. let same : 0 + i ≡ i = omega arith in
       ap (λ n. shown_at g l n) same ∙ ap (λ m. part_in g (shown_of m (slice_get l.units i)) (seen_exceptions_of (slice_get l.units i))) (sym same))
 
-  seen_add : AddsBy (seen_exceptions_at l l.order) (shown_exceptions_at l l.order) beginning_state is.walk.seen.next
-  seen_add =
-      of_ok (λ (y : Walked). AddsBy (seen_exceptions_at l l.order) (shown_exceptions_at l l.order) beginning_state y.next)
-      (all_interfaces typing l (record { world = world_before l; next = beginning_state }) l.order).answer is.walk.seen is.walk.interfaces
-      (interfaces_add typing l (record { world = world_before l; next = beginning_state }) l.order)
-
-  bodies_add : AddsBy (inner_exceptions_of l.units) (inner_exceptions_in is.walk.seen.world l l.units) is.walk.seen.next is.walked.next
-  bodies_add =
-      of_ok (AddsBy (inner_exceptions_of l.units) (inner_exceptions_in is.walk.seen.world l l.units) is.walk.seen.next)
-      (all_bodies_judged typing l is.walk.seen.world is.walk.seen.next 0 l.units).answer is.walked.next is.walk.bodies
-      (all_bodies_add typing l is.walk.seen.world is.walk.seen.next 0 l.units)
-
   declared_few : length is.walked.next.exceptions_declared ≤ units_exceptions l.units
   declared_few =
-      let seen = seen_add.most in
-      let bodies = bodies_add.most in
+      let seen = (seen_adds l main p is).most in
+      let bodies = (bodies_adds l main p is).most in
       let same = seen_law in
       let split = units_split l.units in
       omega (arith, seen, bodies, same, split)
 
   declared_few_in : (g : Option ℕ) → declared_in g is.walked.next.exceptions_declared ≤ units_in item_exceptions g is.walk.seen.world l 0 l.units
   declared_few_in g =
-      let seen = seen_add.each g in
-      let bodies = bodies_add.each g in
+      let seen = (seen_adds l main p is).each g in
+      let bodies = (bodies_adds l main p is).each g in
       let same = shown_law g in
       let split = units_split_in g is.walk.seen.world l 0 l.units in
       omega (arith, seen, bodies, same, split)

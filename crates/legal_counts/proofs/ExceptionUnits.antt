@@ -24,6 +24,7 @@ use Rattle.ada_rules.specs.Units.{env_of, generic_at, is_generic_interface, pack
 use Rattle.legal_laws.proofs.Passing.{IfPassed, answered, part_so, typed_either, any_answer}
 use Rattle.legal_types.specs.TextGenerics as text
 use Rattle.legal_types.specs.TextGenerics.{generic_of_item, shown_in, part_in}
+use Rattle.legal_counts.specs.Seen.{shown_of}
 use Rattle.legal_counts.proofs.ExceptionNames.{body_exceptions, package_items_exceptions, body_items_exceptions}
 use Rattle.legal_counts.proofs.ExceptionDeclarations.{declared_in, AddsBy, Keeps, Adds, keeps_same, Add, name_keeps, keeps_both, Keep, expression_keeps, static_keeps, mapped_keeps, of_keeps, adds_behind}
 use Rattle.legal_counts.proofs.ExceptionBodies.{specified_keeps, judged_adds, items_add, body_items_add, formals_keep}
@@ -142,10 +143,6 @@ seen_exceptions_at l [] = 0
 seen_exceptions_at l (n ∷ ns) = seen_exceptions_of (slice_get l.units n) + seen_exceptions_at l ns
 
 -- by the generics
-abbrev pub shown_of : ℕ → Option LibraryUnit → Option ℕ
-shown_of n None = None
-shown_of n (Some u) = shown_in n u.item
-
 abbrev pub shown_at : Option ℕ → Library → ℕ → ℕ
 shown_at g l n = part_in g (shown_of n (slice_get l.units n)) (seen_exceptions_of (slice_get l.units n))
 

@@ -18,8 +18,8 @@ mod NotedStatements
 mod NotedItems
 mod NotedFormals
 mod NotedUnits
+pub mod SeenUnits
 mod ShownInstances
-pub mod WordsOfInstances
 mod ExceptionDeclarations
 mod ExceptionStatements
 mod ExceptionBodies
@@ -28,3 +28,6 @@ pub mod ExceptionNodes
 pub mod NodesByGeneric
 pub mod ShownInterfaces
 pub mod InstancesByGeneric
+pub mod WordsOfInstances
+pub mod TextsOfDeclarations
+pub mod SeenInstances

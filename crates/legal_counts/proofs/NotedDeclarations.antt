@@ -21,16 +21,7 @@ use Rattle.legal_laws.specs.Kept.{OnlyStatics}
 use Rattle.legal_laws.proofs.KeptStatics.{Behind, indicated_keeps, defined_keeps, new_value_keeps, library_value_keeps}
 use Rattle.legal_laws.proofs.KnownObjects.{constant_keeps}
 use Rattle.legal_laws.proofs.Passing.{IfPassed, answered, part_so, weaker_ok, typed_either, any_answer}
-
--- an object of the library level: the generic in whose text it is declared, and its subtype
-abbrev pub Standing : Type 0
-Standing = Option ℕ × Subtype
-
-abbrev pub standing : LibraryObject → Standing
-standing o = (o.generic, o.subtype)
-
-abbrev pub all_standing : Option ℕ → List Subtype → List Standing
-all_standing g ts = map (λ t. (g, t)) ts
+use Rattle.legal_counts.specs.LibraryWords.{Standing, standing, all_standing}
 
 -- The objects that were declared, the latest first: those whose words this unit has, in the text of this generic or in
 -- none, and behind them those of the units that came before, of which these words are noted.

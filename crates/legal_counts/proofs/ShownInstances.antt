@@ -16,20 +16,21 @@ use Rattle.ada_syntax.specs.declared.unit.Unit.{Unit as LibraryUnit}
 use Rattle.ada_meaning.specs.Program.{Instance}
 use Rattle.ada_rules.specs.Denoted.{nowhere}
 use Rattle.ada_rules.specs.Entities.{key, hidden, unit, Entity, visible, Region, Actual}
-use Rattle.ada_rules.specs.Environment.{Step, naming, typing, Interface, no_interface, instance_interface, World, interface_of, State, beginning_state, Given, Env, regions_of}
-use Rattle.ada_rules.specs.Instances.{formals_declared, generic_of, generic_or_any, generic_named, formals_of, actuals_judged, instance_made}
+use Rattle.ada_rules.specs.Environment.{Step, naming, typing, Interface, no_interface, generic_interface, instance_interface, World, interface_of, State, beginning_state, Given, Env, regions_of}
+use Rattle.ada_rules.specs.Instances.{formals_declared, generic_number, generic_of, generic_or_any, generic_named, formals_of, actuals_judged, instance_made}
 use Rattle.ada_rules.specs.Library.{Library, is_instance, is_package_body, instance_number, units_but_bodies}
 use Rattle.ada_rules.specs.Plan.{◌>>=◌, rule}
 use Rattle.ada_rules.specs.Subprograms.{specified, declared_only, closed_by}
-use Rattle.ada_rules.specs.Units.{env_of, package_items, interface_with, Walked, at_unit, formals_in, in_specification, with_package, package_judged, with_instance, instance_judged, with_subprogram, library_routine, library_subprogram, seen_in, interface_judged, interface_at, all_interfaces, world_before}
+use Rattle.ada_rules.specs.Units.{env_of, is_generic_interface, package_items, interface_with, Walked, at_unit, formals_in, in_specification, with_package, package_judged, with_instance, instance_judged, with_subprogram, library_routine, library_subprogram, seen_in, interface_judged, interface_at, all_interfaces, world_before}
 use Rattle.legal_laws.proofs.Passing.{answered, part_so, weaker_ok, any_answer, ruled_so, if_then, steps_apart}
 use Rattle.legal_types.specs.legal_instances.specs.Ordered.{HaveSameItems}
 use Rattle.legal_programs.specs.Growing.{Adds}
-use Rattle.legal_programs.specs.Homes.{IsThere}
 use Rattle.legal_programs.proofs.Adding.{Add, adds_both}
 use Rattle.legal_programs.proofs.Extending.{specified_adds, items_add, formals_add}
 use Rattle.legal_programs.proofs.ExtendingUnits.{actuals_add, adds_at_unit}
+use Rattle.legal_counts.specs.Seen.{IsInterfaceOf, AreInterfacesOf, shown_of}
 use Rattle.legal_counts.proofs.NotedUnits.{IsNoInstance}
+use Rattle.legal_counts.proofs.SeenUnits.{interface_set, none_seen, seen_at, generic_shown, package_seen}
 
 abbrev In : List ℕ → ℕ → Type 0
 In ns n = Somewhere (λ m. m ≡ n) ns
@@ -48,9 +49,11 @@ pub record IsShown (us : List LibraryUnit) (x : Walked) (n : ℕ) (u : LibraryUn
   pub there : Somewhere (λ i. i ≡ made) x.next.instances_declared
   pub place : made.place ≡ u.item_pos
   pub of_generic : made.generic ≡ generic
+  pub formals : shown_of generic (slice_get us generic) ≡ Some generic
 
 pub record AreShown (us : List LibraryUnit) (ns : List ℕ) (x : Walked) : Type 0 where
   pub sized : length x.world.interfaces ≡ length us
+  pub kinds : AreInterfacesOf x.world.interfaces us
   pub others : (n : ℕ) → IsNoInstance (slice_get us n) → IsOther (interface_of x.world n)
   pub instances : (n : ℕ) (u : LibraryUnit) → slice_get us n ≡ Some u → is_instance u.item ≡ true → In ns n → IsShown us x n u
 
@@ -123,7 +126,11 @@ module _ (us : List LibraryUnit) where
       there = sets.kept is.made is.there;
       place = is.place;
       of_generic = is.of_generic;
+      formals = is.formals;
     }
+
+    now_kinds : IsInterfaceOf i u.item → AreInterfacesOf y.world.interfaces us
+    now_kinds is = subst (λ js. AreInterfacesOf js us) (sym sets.set_now) (interface_set x.world.interfaces us n u i h.kinds there is)
 
     now_sized : length y.world.interfaces ≡ length us
     now_sized = ap length sets.set_now ∙ (set_length x.world.interfaces n i ∙ h.sized)
@@ -133,9 +140,10 @@ module _ (us : List LibraryUnit) where
     of_behind m other (inr k) = k
 
     -- one that is no instance
-    other_set : is_instance u.item ≡ false → IsOther i → AreShown us (n ∷ ns) y
-    other_set no_instance is = record {
+    other_set : is_instance u.item ≡ false → IsOther i → IsInterfaceOf i u.item → AreShown us (n ∷ ns) y
+    other_set no_instance is of = record {
       sized = now_sized;
+      kinds = now_kinds of;
       others = λ m none. by_place m none (nat_eq n m) refl;
       instances = λ m v at one among.
           let apart = λ (e : n ≡ m). apart_from m v at one e in still_shown m v apart (h.instances m v at one (of_behind m apart among));
@@ -151,9 +159,10 @@ module _ (us : List LibraryUnit) where
             false≢true (sym no_instance ∙ (ap (λ (w : LibraryUnit). is_instance w.item) same ∙ one))
 
     -- and an instance
-    instance_set : is_instance u.item ≡ true → (interface_of y.world n ≡ i → IsShown us y n u) → AreShown us (n ∷ ns) y
-    instance_set one now = record {
+    instance_set : is_instance u.item ≡ true → IsInterfaceOf i u.item → (interface_of y.world n ≡ i → IsShown us y n u) → AreShown us (n ∷ ns) y
+    instance_set one of now = record {
       sized = now_sized;
+      kinds = now_kinds of;
       others = λ m none. subst IsOther (sym (others_same m (λ e. apart_from m none e))) (h.others m none);
       instances = λ m v at is among. by_place m v at is among (nat_eq n m) refl;
     }
@@ -181,24 +190,33 @@ with_other : {A : Type 0} (o : Option A) (formals region : Region) → IsOther (
 with_other None formals region = tt
 with_other (Some x) formals region = tt
 
--- the generic of an instance
-generic_there : (env : Env) (i : Identifier) → env.step ≡ typing → IfOk (generic_named env i).answer IsThere
+-- the generic of an instance is seen as one
+abbrev IsGenericIn : World → Option ℕ → Type 0
+IsGenericIn w None = ⊥
+IsGenericIn w (Some g) = is_generic_interface (interface_of w g) g ≡ Some g
+
+generic_there : (env : Env) (i : Identifier) → env.step ≡ typing → IfOk (generic_named env i).answer (IsGenericIn env.world)
 generic_there env i step =
-    answered IsThere i.pos (rule (option_and_then (λ x. generic_or_any env (generic_of env.world x)) (visible (key i) (regions_of env)))).outcome
-    (ruled_so IsThere _ (if_then (λ x. Unit {0}) IsThere (λ x. generic_or_any env (generic_of env.world x)) (visible (key i) (regions_of env))
-    (any_some (visible (key i) (regions_of env))) (λ x u. some_generic (generic_of env.world x))))
+    answered (IsGenericIn env.world) i.pos (rule (option_and_then (λ x. generic_or_any env (generic_of env.world x)) (visible (key i) (regions_of env)))).outcome
+    (ruled_so (IsGenericIn env.world) _
+    (if_then (λ x. Unit {0}) (IsGenericIn env.world) (λ x. generic_or_any env (generic_of env.world x)) (visible (key i) (regions_of env))
+    (any_some (visible (key i) (regions_of env))) (λ x u. of_entity x)))
   where
     any_some : (o : Option Entity) → IfSome o (λ x. Unit {0})
     any_some None = tt
     any_some (Some x) = tt
 
-    none_typed : (s : Step) → s ≡ typing → IfSome (generic_or_any (record env { step = s }) None) IsThere
+    none_typed : (s : Step) → s ≡ typing → IfSome (generic_or_any (record env { step = s }) None) (IsGenericIn env.world)
     none_typed naming e = absurd (steps_apart e)
     none_typed typing e = tt
 
-    some_generic : (o : Option ℕ) → IfSome (generic_or_any env o) IsThere
-    some_generic None = none_typed env.step step
-    some_generic (Some n) = tt
+    of_interface : (n : ℕ) (j : Interface) → interface_of env.world n ≡ j → IfSome (generic_or_any env (generic_number env.world n j)) (IsGenericIn env.world)
+    of_interface n (generic_interface formals region) e = ap (λ j. is_generic_interface j n) e
+    of_interface n j e = none_typed env.step step
+
+    of_entity : (x : Entity) → IfSome (generic_or_any env (generic_of env.world x)) (IsGenericIn env.world)
+    of_entity (unit n) = of_interface n (interface_of env.world n) refl
+    of_entity x = none_typed env.step step
 
 module _ (l : Library) where
   abbrev Shown : List ℕ → Walked → Type 0
@@ -208,8 +226,8 @@ module _ (l : Library) where
     abbrev here : Walked
     here = record { world = w; next = s }
 
-    package_shown : (env : Env) (x : PackageSpecification) → env.world ≡ w → is_instance u.item ≡ false → IfOk (package_judged env s u.item_pos n x).answer (Shown (n ∷ ns))
-    package_shown env x same other =
+    package_shown : (env : Env) (x : PackageSpecification) → env.world ≡ w → u.item ≡ library.Package x → IfOk (package_judged env s u.item_pos n x).answer (Shown (n ∷ ns))
+    package_shown env x same of =
         answered (Shown (n ∷ ns)) u.item_pos _
         (part_so (Add (at_unit s)) (Shown (n ∷ ns)) (formals_declared (in_specification env n x []) (at_unit s) u.item_pos 0 (formals_in x.formals)).answer
         (λ formals. package_items (in_specification env n x formals.value) formals.next u.item_pos x.items
@@ -228,10 +246,11 @@ module _ (l : Library) where
           kept = kept_adds l.units s region.next y
               (adds_both s (at_unit s) region.next (adds_at_unit s) (adds_both (at_unit s) formals.next region.next k m)) refl;
         })
-        other (with_other x.formals formals.value region.value)))))
+        (ap is_instance of) (with_other x.formals formals.value region.value)
+        (subst (IsInterfaceOf shows) (sym of) (package_seen x.formals x formals.value region.value refl))))))
 
-    library_shown : (env : Env) (b : SubprogramBody) → env.world ≡ w → is_instance u.item ≡ false → IfOk (library_subprogram env s n b).answer (Shown (n ∷ ns))
-    library_shown env b same other =
+    library_shown : (env : Env) (b : SubprogramBody) → env.world ≡ w → u.item ≡ library.Subprogram b → IfOk (library_subprogram env s n b).answer (Shown (n ∷ ns))
+    library_shown env b same of =
         answered (Shown (n ∷ ns)) b.specification.pos _
         (part_so (Add (at_unit s)) (Shown (n ∷ ns)) (specified env (at_unit s) b.specification).answer
         (λ q. rule (Some (with_subprogram env.world n (library_routine env b q.value) (declared_only s q.next))))
@@ -243,12 +262,12 @@ module _ (l : Library) where
           set_now = ap (λ (z : World). set z.interfaces n shows) same;
           kept = kept_adds l.units s q.next y (adds_both s (at_unit s) q.next (adds_at_unit s) k) refl;
         })
-        other tt))
+        (ap is_instance of) tt (subst (IsInterfaceOf shows) (sym of) tt)))
 
-    with_shown : (env : Env) (i : SourceInstance) → env.world ≡ w → is_instance u.item ≡ true → (g : Option ℕ) → IsThere g → (actuals : Given (List Actual)) → Adds s actuals.next
+    with_shown : (env : Env) (i : SourceInstance) → env.world ≡ w → u.item ≡ library.Instance i → (g : Option ℕ) → IsGenericIn env.world g → (actuals : Given (List Actual)) → Adds s actuals.next
         → Shown (n ∷ ns) (with_instance env.world u.item_pos n (instance_number n l.units) i g actuals.value actuals.next)
-    with_shown env i same one None named actuals all = absurd named
-    with_shown env i same one (Some g) named actuals all =
+    with_shown env i same of None named actuals all = absurd named
+    with_shown env i same of (Some g) named actuals all =
         let shows = instance_interface (Some g) (instance_number n l.units) actuals.value in
         let y = with_instance env.world u.item_pos n (instance_number n l.units) i (Some g) actuals.value actuals.next in
         instance_set l.units ns here h n u there shows y
@@ -256,7 +275,7 @@ module _ (l : Library) where
           set_now = ap (λ (z : World). set z.interfaces n shows) same;
           kept = λ m among. inr (subst (Somewhere (λ j. j ≡ m)) (sym all.instances) among);
         })
-        one
+        (ap is_instance of) (subst (IsInterfaceOf shows) (sym of) tt)
         (λ now. record {
           generic = g;
           actuals = actuals.value;
@@ -265,26 +284,29 @@ module _ (l : Library) where
           there = inl refl;
           place = refl;
           of_generic = refl;
+          formals = generic_shown (interface_of w g) (slice_get l.units g) g g (seen_at w.interfaces l.units g h.kinds)
+              (ap (λ (v : World). is_generic_interface (interface_of v g) g) (sym same) ∙ named);
         })
 
-    instance_shown : (env : Env) (i : SourceInstance) → env.world ≡ w → env.step ≡ typing → is_instance u.item ≡ true
+    instance_shown : (env : Env) (i : SourceInstance) → env.world ≡ w → env.step ≡ typing → u.item ≡ library.Instance i
         → IfOk (instance_judged env s u.item_pos n (instance_number n l.units) i).answer (Shown (n ∷ ns))
-    instance_shown env i same step one =
+    instance_shown env i same step of =
         let k = instance_number n l.units in
         answered (Shown (n ∷ ns)) u.item_pos _
-        (part_so IsThere (Shown (n ∷ ns)) (generic_named env i.generic_name).answer
+        (part_so (IsGenericIn env.world) (Shown (n ∷ ns)) (generic_named env i.generic_name).answer
         (λ g. actuals_judged env (at_unit s) u.item_pos k [] (formals_of env.world g) i.actuals
         >>= (λ actuals. rule (Some (with_instance env.world u.item_pos n k i g actuals.value actuals.next))))
         (generic_there env i.generic_name step)
         (λ g named. part_so (Add (at_unit s)) (Shown (n ∷ ns)) (actuals_judged env (at_unit s) u.item_pos k [] (formals_of env.world g) i.actuals).answer
         (λ actuals. rule (Some (with_instance env.world u.item_pos n k i g actuals.value actuals.next)))
         (actuals_add env (at_unit s) u.item_pos k [] (formals_of env.world g) i.actuals)
-        (λ actuals all. with_shown env i same one g named actuals (adds_both s (at_unit s) actuals.next (adds_at_unit s) all))))
+        (λ actuals all. with_shown env i same of g named actuals (adds_both s (at_unit s) actuals.next (adds_at_unit s) all))))
 
     -- a body of a package shows nothing
     body_shown : is_instance u.item ≡ false → Shown (n ∷ ns) here
     body_shown other = record {
       sized = h.sized;
+      kinds = h.kinds;
       others = h.others;
       instances = λ m v at one among. h.instances m v at one (of_others m v at one among);
     }
@@ -296,15 +318,16 @@ module _ (l : Library) where
         of_others m v at one (inr k) = k
 
     interface_shown : (i : LibraryItem) → u.item ≡ i → IfOk (interface_judged typing l w s n u i).answer (Shown (n ∷ ns))
-    interface_shown (library.Package x) e = package_shown (env_of typing w n (key x.name) (seen_in w l u (unit n))) x refl (ap is_instance e)
-    interface_shown (library.Instance i) e = instance_shown (env_of typing w n (key i.name) (seen_in w l u hidden)) i refl refl (ap is_instance e)
-    interface_shown (library.Subprogram b) e = library_shown (env_of typing w n (key b.specification.name) (seen_in w l u hidden)) b refl (ap is_instance e)
+    interface_shown (library.Package x) e = package_shown (env_of typing w n (key x.name) (seen_in w l u (unit n))) x refl e
+    interface_shown (library.Instance i) e = instance_shown (env_of typing w n (key i.name) (seen_in w l u hidden)) i refl refl e
+    interface_shown (library.Subprogram b) e = library_shown (env_of typing w n (key b.specification.name) (seen_in w l u hidden)) b refl e
     interface_shown (library.PackageBody b) e = body_shown (ap is_instance e)
 
   -- a number of no unit
   none_shown : (ns : List ℕ) (x : Walked) (n : ℕ) → slice_get l.units n ≡ None → Shown ns x → Shown (n ∷ ns) x
   none_shown ns x n gone h = record {
     sized = h.sized;
+    kinds = h.kinds;
     others = h.others;
     instances = λ m v at one among. h.instances m v at one (of_others m v at among);
   }
@@ -429,9 +452,10 @@ shown_behind l same =
     weaker_ok (AreShown l.units (Later l [] l.order)) (AreShown l.units (units_but_bodies 0 l.units))
     (all_interfaces typing l (record { world = world_before l; next = beginning_state }) l.order).answer
     (interfaces_shown l [] (record { world = world_before l; next = beginning_state }) l.order
-    (record { sized = length_none l.units; others = λ n none. no_interfaces l.units n; instances = λ n u there one among. absurd among }))
+    (record { sized = length_none l.units; kinds = none_seen l.units; others = λ n none. no_interfaces l.units n; instances = λ n u there one among. absurd among }))
     (λ y h. record {
       sized = h.sized;
+      kinds = h.kinds;
       others = h.others;
       instances = λ n u there one among. h.instances n u there one (later_there l [] l.order n (in_both (units_but_bodies 0 l.units) l.order same n among));
     })

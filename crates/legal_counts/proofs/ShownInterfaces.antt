@@ -66,7 +66,7 @@ below_length (y ∷ xs) zero x e = positive (length xs)
 below_length (y ∷ xs) (suc n) x e = let less = below_length xs n x e in omega (arith, less)
 
 -- of a unit that is no body of a package
-abbrev IsRight : World → ℕ → LibraryItem → Type 0
+abbrev pub IsRight : World → ℕ → LibraryItem → Type 0
 IsRight w n i = is_package_body i ≡ false → is_generic_interface (interface_of w n) n ≡ shown_in n i
 
 abbrev IsRightAt : World → ℕ → Option LibraryUnit → Type 0
@@ -292,7 +292,7 @@ module _ (l : Library) (main : List ℕ) (p : Program) (is : IsLegal l main p) (
       (all_interfaces typing l (record { world = world_before l; next = beginning_state }) l.order).answer is.walk.seen is.walk.interfaces
       (interfaces_show typing l (record { world = world_before l; next = beginning_state }) l.order (none_sized l.units))
 
-  all_right : (n : ℕ) (u : LibraryUnit) → slice_get l.units n ≡ Some u → IsRight is.walk.seen.world n u.item
+  pub all_right : (n : ℕ) (u : LibraryUnit) → slice_get l.units n ≡ Some u → IsRight is.walk.seen.world n u.item
   all_right n u e body =
       let same : 0 + n ≡ n = omega (arith) in
       let at : Somewhere (λ k. k ≡ n) (units_but_bodies 0 l.units) = subst (λ m. Somewhere (λ k. k ≡ m) (units_but_bodies 0 l.units)) same (listed 0 l.units n u e body) in

@@ -6,3 +6,4 @@ pub mod ObjectWords
 pub mod LibraryWords
 pub mod Generics
 pub mod TextParts
+pub mod Seen

@@ -9,14 +9,16 @@
 //!   exceptions have tokens apart (`TextParts`);
 //! - the words of objects keep to their limit in each instance, and are those that the rules count where
 //!   bounds are known (`ObjectWords`);
-//! - the objects of the library level have no more words, each in the instances in which it stands, than are
-//!   counted by units (`LibraryWords`), so the library level has a size.
+//! - the objects of the library level have the words, each in the instances in which it stands, that are
+//!   counted by units (`LibraryWords`), so the library level has a size;
+//! - what other units see of each unit follows from its item, and each exception and each object of the library
+//!   level stands in the generic in whose text it is declared (`Seen`).
 //!
 //! The functions here do nothing: each carries a law of the definitions as its contract, some of them by a
 //! call of one whose law they cite.
 #![tactic(auto)]
 
-ghost use Rattle.std.specs.Prelude.{true, length, slice_get, List, map, Option, Some, sum_by, ℕ, ◌+◌, ◌<◌, ◌≤◌, ◌≡◌};
+ghost use Rattle.std.specs.Prelude.{true, false, length, slice_get, List, map, reverse, Ok, Option, Some, sum_by, ℕ, ◌+◌, ◌<◌, ◌≤◌, ◌≡◌};
 ghost use Rattle.cov_base.specs.Expr.{negates_once};
 ghost use Rattle.cov_base.specs.Lists.{Everywhere};
 ghost use Rattle.ada_syntax.specs.Nodes.{unit_nodes};
@@ -26,7 +28,10 @@ ghost use Rattle.ada_meaning.specs.Program.{Instance, Program, Subprogram};
 ghost use Rattle.ada_meaning.specs.Statics.{values_of};
 ghost use Rattle.ada_resolved.specs.Library.{program_size};
 ghost use Rattle.ada_resolved.specs.Sizes.{type_size};
-ghost use Rattle.legal_counts.specs.LibraryWords.{library_words, words_of_units};
+ghost use Rattle.legal_counts.specs.LibraryWords.{library_words, noted_words, own_words_of_units};
+ghost use Rattle.legal_counts.specs.LibraryWords.{standing, words_at, words_of_units};
+ghost use Rattle.legal_counts.specs.Seen.{AreInterfacesOf, IsGenericOfText, IsOfText, IsSeenAsInstance};
+ghost use Rattle.legal_types.specs.TextGenerics.{shown_in};
 ghost use Rattle.ada_rules.specs.Entities.{Standard};
 ghost use Rattle.ada_rules.specs.Limits.{most_words_of_library, most_words_of_subprogram, sum_in, words_in};
 ghost use Rattle.ada_syntax.specs.declared.unit.Unit.{Unit as LibraryUnit};
@@ -34,10 +39,11 @@ ghost use Rattle.legal_types.specs.legal_instances.specs.InOrder.{UnitsRise};
 ghost use Rattle.legal_counts.specs.ObjectWords.{words_of_objects};
 ghost use Rattle.legal_laws.specs.Bounded.{IsBounded};
 ghost use Rattle.ada_meaning.specs.Tree.{shape_of};
-ghost use Rattle.ada_rules.specs.Environment.{World};
-ghost use Rattle.ada_rules.specs.Library.{Library, library_of};
+ghost use Rattle.ada_rules.specs.Environment.{interface_of, Step, World};
+ghost use Rattle.ada_rules.specs.Units.{is_generic_interface, judged_in, Walked};
+ghost use Rattle.ada_rules.specs.Library.{is_instance, is_package_body, Library, library_of};
 ghost use Rattle.ada_tree.specs.Weights.{in_instances, text_nodes};
-ghost use Rattle.legal_programs.specs.Walked.{IsLegal};
+ghost use Rattle.legal_programs.specs.Walked.{IsLegal, IsWalked};
 ghost use Rattle.legal_programs.specs.WholeWorld.{IsWholeStandard};
 ghost use Rattle.legal_counts.specs.BodyTexts.{bodies_in};
 ghost use Rattle.legal_counts.specs.Choices.{UnitsHaveChoices};
@@ -156,16 +162,19 @@ pub fn words_are_within_limits()
 }
 
 /// The words of the objects of the library level of a legal program, counted by units, a generic's at each of
-/// its instances, are no more than the limit; and those by the instances in which the objects stand are no more
-/// than these. Where the bounds of their types are known there, the library has a size, which is its words by
-/// instances.
+/// its instances, are no more than the limit; and just these are the words by the instances in which the objects
+/// stand, those in no generic at the units themselves. Where the bounds of their types are known there, the
+/// library has a size, which is its words by instances.
 pub fn library_words_are_within_limits()
     ensures units { (l : Library) (main : List ℕ) (p : Program) → (is : IsLegal l main p)
         → words_of_units is.walked.world is.walked.next.unit_words 0 l.units ≤ most_words_of_library }
+    ensures bare { (l : Library) (main : List ℕ) (p : Program) → (is : IsLegal l main p)
+        → words_at p is.walked.world.instances 0 p.objects
+        ≡ own_words_of_units is.walked.world.instances is.walked.next.unit_words 0 l.units }
     ensures counted { (standard : Standard) (units : List LibraryUnit) (main : List ℕ) (p : Program)
         → (is : IsLegal (library_of standard units) main p) → UnitsRise units
         → library_words p is.walked.world.instances
-        ≤ words_of_units is.walked.world is.walked.next.unit_words 0 units }
+        ≡ words_of_units is.walked.world is.walked.next.unit_words 0 units }
     ensures few { (standard : Standard) (units : List LibraryUnit) (main : List ℕ) (p : Program)
         → (is : IsLegal (library_of standard units) main p) → UnitsRise units
         → library_words p is.walked.world.instances ≤ most_words_of_library }
@@ -177,3 +186,35 @@ pub fn library_words_are_within_limits()
     legal_types::instances_have_their_facts();
     legal_types::orders_of_legal_programs_are_whole();
 }
+
+/// What other units see of each unit follows from its item, in either step: of a package with formals a generic,
+/// of one without a package, of an instance one, of a library subprogram itself. In a legal program each package
+/// with formals is seen as a generic, and each instance as one of a package with formals.
+pub fn units_are_seen_as_their_items()
+    ensures walked { (step : Step) (l : Library) (main : List ℕ) (x : Walked) → IsWalked step l main x
+        → AreInterfacesOf x.world.interfaces l.units }
+    ensures kinds { (step : Step) (l : Library) (main : List ℕ) (x : Walked) → (judged_in step l main).answer ≡ Ok x
+        → AreInterfacesOf x.world.interfaces l.units }
+    ensures generics { (standard : Standard) (units : List LibraryUnit) (main : List ℕ) (p : Program)
+        → (is : IsLegal (library_of standard units) main p) → (n : ℕ) (u : LibraryUnit)
+        → slice_get units n ≡ Some u → is_package_body u.item ≡ false
+        → is_generic_interface (interface_of is.walked.world n) n ≡ shown_in n u.item }
+    ensures instances { (standard : Standard) (units : List LibraryUnit) (main : List ℕ) (p : Program)
+        → (is : IsLegal (library_of standard units) main p) → (n : ℕ) (u : LibraryUnit)
+        → slice_get units n ≡ Some u → is_instance u.item ≡ true
+        → IsSeenAsInstance is.walked.world units n }
+{
+    legal_types::orders_of_legal_programs_are_whole();
+}
+
+/// Each exception of a legal program stands in the generic, or in none, in which the text of one of its units
+/// stands; its objects of the library level are those whose words its units noted, each in the generic in which
+/// the text of that unit stands.
+pub fn declarations_stand_in_their_texts()
+    ensures exceptions { (l : Library) (main : List ℕ) (p : Program) → (is : IsLegal l main p)
+        → Everywhere (λ d. IsGenericOfText is.walked.world l d.generic) p.declared }
+    ensures objects { (l : Library) (main : List ℕ) (p : Program) → (is : IsLegal l main p)
+        → map standing p.objects ≡ reverse (noted_words is.walked.next.unit_words) }
+    ensures words { (l : Library) (main : List ℕ) (p : Program) → (is : IsLegal l main p)
+        → Everywhere (IsOfText is.walked.world l) is.walked.next.unit_words }
+{}

@@ -41,7 +41,7 @@ use Rattle.generic_expand.specs.declared.copies.BodyCopy.{BodyCopy}
 use Rattle.lower.specs.Context.{Surroundings, layout_at, layout_by, layout_named, shape_by, shape_named}
 use Rattle.lower.specs.Kernel.{surroundings_in}
 use Rattle.lower.specs.Schemes.{plan_in}
-use Rattle.lower.specs.Standing.{AreTypesNamed, IsNamed, IsSized, IsWithinLimits, most_nodes, size_of, words_of_objects}
+use Rattle.lower.specs.Standing.{AreTypesNamed, IsNamed, IsSized, IsWithinLimits, size_of, words_of_objects}
 use Rattle.lower.proofs.Frames.{AllPlaced, ArePlanned, AreSome, IsNone, StandsAt, all_placed, bare_law, composite_at, final_high, final_is, frame_law, parameters_stand, size, total, true_is_no_false}
 use Rattle.lower.proofs.Numbered.{before_at, each_below, everywhere_at, everywhere_from, everywhere_map, found_within, item_at, number_at, subtypes_are, taken_at}
 use Rattle.lower.proofs.LaidObjects.{has_layout, is_filled, layout_number}
@@ -189,7 +189,7 @@ module _ (p : Program) (copies : List BodyCopy) (inst : ℕ) (s : Subprogram) wh
 
     -- the frame is no wider than a frame may be
     nodes : block_nodes s.body ≤ 4096
-    nodes = everywhere_at (λ (s : Subprogram). block_nodes s.body ≤ most_nodes) p.subprograms m s limits.nodes at
+    nodes = limits.nodes m inst s at stands
 
     narrow_end : end_of_block plan.base s.body + 16 ≤ widest
     narrow_end = frame_narrow plan.base s.body (omega (arith, base_low)) nodes

@@ -72,5 +72,7 @@ pub record IsWithinLimits (p : Program) : Type 0 where
   pub declared : (m inst : ℕ) (s : Subprogram) → slice_get p.subprograms m ≡ Some s → StandsIn (program_of p) s.generic inst
       → words_of_objects p inst s.objects ≤ most_declared_words
   pub library : IsSized (program_size (program_of p))
-  pub nodes : Everywhere (λ s. block_nodes s.body ≤ most_nodes) p.subprograms
+  -- a body of which there is no copy may be of any size
+  pub nodes : (m inst : ℕ) (s : Subprogram) → slice_get p.subprograms m ≡ Some s → StandsIn (program_of p) s.generic inst
+      → block_nodes s.body ≤ most_nodes
   pub exceptions : length p.exceptions ≤ most_nodes

@@ -14,9 +14,9 @@ pub record IsObject (o : Object) : Type 0 where
   pub closed : IsClosed o
   pub sound : IsSound o
 
--- what the language of the moment leaves out: instances of generics, and regions
+-- the object has nothing that the language of the moment leaves out: regions
 abbrev pub is_plain : Object → Bool
-is_plain o = (length o.obligations.instances == 1) && (length o.obligations.regions == 0)
+is_plain o = length o.obligations.regions == 0
 
 -- the check `field` in the language of the moment
 abbrev pub passes_plain_field : Object → Bool

@@ -17,8 +17,8 @@ use std::alloc::Global;
 
 /// The object whose file the bytes are. The fault is the first check that fails: `Short` under 8
 /// bytes, `Magic`, `Version`, `Short` where a count runs past the end, and then the others in the
-/// order of [`ObjectFault`]. In the language of the moment an object has one instance and no regions, and
-/// any other fails as [`ObjectFault::Field`].
+/// order of [`ObjectFault`]. In the language of the moment an object has no regions, and any other fails
+/// as [`ObjectFault::Field`].
 pub fn read_object(alloc: Global, bytes: &[u8]) -> Result<Object, Failure<ObjectFault>>
     // What is read is an object, and is spelled so.
     ensures found { IfOk result (λ o. IsObject o × (is_plain o ≡ true) × (bytes.now ≡ object_bytes o)) }
@@ -78,6 +78,5 @@ fn check_plain(alloc: Global, value: &Object) -> Result<(), Failure<ObjectFault>
 fn is_plain(value: &Object) -> bool
     ensures { result ≡ is_plain value.now }
 {
-    let due = &value.obligations;
-    due.instances.len() == 1 && due.regions.len() == 0
+    value.obligations.regions.len() == 0
 }

@@ -7,7 +7,7 @@ pub mod Statements
 pub mod Decisions
 pub mod Conditions
 pub mod Few
+pub mod Nodes
 pub mod Texts
 pub mod Choices
 pub mod Spelling
-pub mod Packages

@@ -13,6 +13,10 @@ use Rattle.expression_parser.specs.Reading.{Tokens}
 abbrev pub most_bytes : ℕ
 most_bytes = 1048576
 
+-- the most nodes that the units of one file have: it has one token more than bytes at most, and each node is one
+abbrev pub most_nodes_of_file : ℕ
+most_nodes_of_file = 1048577
+
 -- tokens of the file with this number, in the order of its text, as the lexer gives them
 pub record AreTokensOf (file : ℕ) (source : List ℕ) (tokens : Tokens) : Type 0 where
   pub each : All (IsTokenOf file source) tokens

@@ -1,22 +1,21 @@
 //! Laws of parsed files. The functions here do nothing: they carry laws of the definitions as their contracts.
 
-ghost use Rattle.std.specs.Prelude.{◌≡◌, ℕ, List, false, true};
+ghost use Rattle.std.specs.Prelude.{◌≡◌, ℕ, ◌*◌, ◌≤◌, List, true, sum_by};
+ghost use Rattle.ada_syntax.specs.Nodes.{unit_nodes};
 ghost use Rattle.ada_syntax.specs.declared.unit.Unit.{Unit as LibraryUnit};
 ghost use Rattle.cov_base.specs.Lists.{Everywhere};
 ghost use Rattle.cov_base.specs.TextOrder.{rise};
-ghost use Rattle.expression_parser.specs.Extents.{opens};
 ghost use Rattle.expression_parser.specs.declared.extent.Extent.{Extent};
-ghost use Rattle.expression_parser.specs.declared.extent.Extent.TheVariants.{Generics};
 ghost use Rattle.legal_counts.specs.Choices.{UnitsHaveChoices};
 ghost use Rattle.legal_counts.specs.ConditionPlaces.{units_conditions};
 ghost use Rattle.legal_texts.specs.legal_instances.specs.InOrder.{UnitsRise};
 ghost use Rattle.legal_programs.specs.DecisionPlaces.{units_decisions};
 ghost use Rattle.legal_programs.specs.InText.{Rise};
-ghost use Rattle.legal_programs.specs.PlainUnits.{ArePlainUnits};
 ghost use Rattle.legal_programs.specs.TextPlaces.{units_places};
 ghost use Rattle.legal_texts.specs.UnitTexts.{AreUnitTexts};
 ghost use Rattle.parsed_texts.specs.Places.{AreInFiles, IsInFiles};
-ghost use Rattle.parsed_texts.specs.Parsed.{AreOfFiles};
+ghost use Rattle.legal_counts.specs.TextParts.{AreCounted};
+ghost use Rattle.parsed_texts.specs.Parsed.{AreOfFiles, most_nodes_of_file};
 ghost use Rattle.legal_names.specs.Spelled.{AreUnitsSpelled};
 
 /// The units of files stand one after the other.
@@ -70,8 +69,11 @@ pub fn names_of_files_are_ascii()
         → AreOfFiles extent files units → AreUnitsSpelled units }
 {}
 
-/// Where generics are closed, files have subprograms, packages and bodies of packages, and nothing else.
-pub fn files_without_generics_are_packages()
-    ensures { (extent : Extent) (files : ℕ) (units : List LibraryUnit) → opens extent Generics ≡ false
-        → AreOfFiles extent files units → ArePlainUnits units }
+/// Files have few nodes: no unit has more than are counted, and all of them together have no more than the files
+/// can have tokens.
+pub fn units_of_files_are_counted()
+    ensures counted { (extent : Extent) (files : ℕ) (units : List LibraryUnit)
+        → AreOfFiles extent files units → AreCounted units }
+    ensures few { (extent : Extent) (files : ℕ) (units : List LibraryUnit)
+        → AreOfFiles extent files units → sum_by unit_nodes units ≤ files * most_nodes_of_file }
 {}

@@ -9,11 +9,11 @@ mod laws;
 
 pub use laws::{
     conditions_of_files_stand_in_them, decisions_of_files_rise, files_have_texts,
-    files_without_generics_are_packages, names_of_files_are_ascii, statements_of_files_rise,
-    texts_have_choices, units_of_files_rise,
+    names_of_files_are_ascii, statements_of_files_rise, texts_have_choices,
+    units_of_files_are_counted, units_of_files_rise,
 };
 pub use legal_counts::{
-    each_exception_has_a_token, library_words_are_within_limits, nodes_and_types_have_tokens,
-    words_are_within_limits,
+    instances_are_those_that_units_are, library_words_are_within_limits,
+    parts_of_each_generic_have_tokens, words_are_within_limits,
 };
 pub use legal_texts::legal_programs_are_well_formed;

@@ -1,10 +1,9 @@
 -- Legal units can be compiled, and their object passes the checks and behaves.
-use Rattle.std.proofs.Common.{◌≡◌, ◌≤◌, ℕ, ◌<◌, length, map, true, List, [], ◌∷◌, sum_by, sym, ap, subst, ◌∙◌, arith, lit≤}
+use Rattle.std.proofs.Common.{◌≡◌, ◌≤◌, ◌*◌, ℕ, ◌<◌, length, map, true, List, sum_by, sym, ap, subst, ◌∙◌, arith}
 use Rattle.std.proofs.lemmas.List.{length-map}
-use Rattle.std.proofs.lemmas.List.Elements.{All-from_recursion}
 use Rattle.ada_meaning.specs.Collected.{labels_of, decisions_of}
-use Rattle.ada_meaning.specs.Obligations.{ordered_labels, statement_entry, decision_entry, instance_entry, no_instance}
-use Rattle.ada_meaning.specs.Program.{Instance, Program}
+use Rattle.ada_meaning.specs.Obligations.{ordered_labels, statement_entry, decision_entry}
+use Rattle.ada_meaning.specs.Program.{Program}
 use Rattle.ada_parser.specs.Opening.{open_extent}
 use Rattle.ada_syntax.specs.Nodes.{unit_nodes}
 use Rattle.ada_syntax.specs.declared.unit.Unit.{Unit as LibraryUnit}
@@ -17,7 +16,9 @@ use Rattle.program_objects.proofs.Statements.{entries_at, places_are_statements,
 use Rattle.program_objects.specs.Behaves.{Behaves, EndsInTime}
 use Rattle.program_objects.specs.Compiled.{IsCompiled}
 use Rattle.program_objects.specs.Made.{IsCompilable, IsMadeOf}
-use Rattle.program_objects.specs.Texts.{AreUnitsOf, IsOfText}
+use Rattle.program_objects.specs.Texts.{AreUnitsOf, HasFewCopies, IsOfText}
+use Rattle.program_objects.proofs.InstanceEntries.{instances_fit, instances_stand}
+use Rattle.parsed_texts.specs.Parsed.{most_nodes_of_file}
 use Rattle.program_objects.proofs.DecisionCounts.{decisions_few}
 use Rattle.program_objects.proofs.LabelCounts.{labels_few}
 use Rattle.cov_base.specs.Lists.{Everywhere}
@@ -27,8 +28,9 @@ use Rattle.object_format.specs.Fields.{are_instances, are_statements, are_decisi
 use Rattle.object_format.specs.Read.{HasObject, is_plain}
 use Rattle.object_format.specs.declared.object.Object.{Object}
 
-pub compilable_law : (units : List LibraryUnit) (p : Program) → IsOfText units p → sum_by unit_nodes units ≤ 4096 → IsCompilable p
-compilable_law units p text few =
+pub compilable_law : (files : ℕ) (units : List LibraryUnit) (p : Program) → IsOfText units p → HasFewCopies p → files ≤ 64
+    → sum_by unit_nodes units ≤ files * most_nodes_of_file → IsCompilable p
+compilable_law files units p text copies few counted =
     let nodes = text.nodes in
     let labelled = labels_few p.subprograms in
     let decided = decisions_few p.subprograms in
@@ -38,11 +40,10 @@ compilable_law units p text few =
       decisions_in_order = text.decisions_in_order;
       few_conditions = text.few_conditions;
       once = text.once;
-      few = omega (arith, few, nodes);
-      few_statements = omega (arith, labelled, few, nodes);
-      few_decisions = omega (arith, decided, few, nodes);
+      few_statements = omega (arith, labelled, few, nodes, counted);
+      few_decisions = omega (arith, decided, few, nodes, counted);
       exceptions = text.exceptions;
-      few_exceptions = let declared = text.few_exceptions in omega (arith, few, declared);
+      few_exceptions = copies.exceptions;
     }
 
 -- the entries of its statements are those of the places of the text
@@ -50,13 +51,9 @@ entries_of : (units : List LibraryUnit) (p : Program) → IsOfText units p → m
 entries_of units p text =
     ap (map statement_entry) text.statements_in_order ∙ (entries_at (labels_of p.subprograms) ∙ ap (map entry_at) text.statements)
 
--- no instance, beside all that stands in no generic
-alone_counted : AreCountable InstanceFits (no_instance ∷ [])
-alone_counted = (lit≤ tt, All-from_recursion InstanceFits (no_instance ∷ []) (lit≤ tt, tt))
-
-pub made_of : (files : ℕ) (units : List LibraryUnit) (main : List ℕ) (p : Program) (o : Object) → AreUnitsOf files units main p → IsOfText units p → IsCompiled units p o
-    → IsMadeOf p o
-made_of files units main p o h text compiled =
+pub made_of : (files : ℕ) (units : List LibraryUnit) (main : List ℕ) (p : Program) (o : Object) → AreUnitsOf files units main p → IsOfText units p → HasFewCopies p
+    → IsCompiled units p o → IsMadeOf p o
+made_of files units main p o h text copies compiled =
     let hs = decisions_of p.subprograms in
     let count : length (labels_of p.subprograms) ≡ length (map entry_at (units_places units)) =
     sym (length-map (labels_of p.subprograms) (λ l. l.place)) ∙ (ap length text.statements ∙ sym (length-map (units_places units) entry_at)) in
@@ -69,9 +66,9 @@ made_of files units main p o h text compiled =
       files = compiled.files;
       names = compiled.names;
       instances = ap (λ ob. are_instances (length o.files) ob.instances) compiled.obligations
-          ∙ ap (λ (is : List Instance). are_instances (length o.files) (no_instance ∷ map instance_entry is)) text.instances;
+          ∙ instances_stand (length o.files) units compiled.items p.instances text.instances copies.instances;
       instance_names = subst (λ ob. AreCountable InstanceFits ob.instances) (sym compiled.obligations)
-          (subst (λ (is : List Instance). AreCountable InstanceFits (no_instance ∷ map instance_entry is)) (sym text.instances) alone_counted);
+          (instances_fit units p.instances text.instances copies.instances);
       statements = ap (λ ob. are_statements (length o.files) ob.statements) compiled.obligations
           ∙ (ap (are_statements (length o.files)) (entries_of units p text)
           ∙ places_are_statements (length o.files) (units_places units) (statements_rise open_extent files units h.read) compiled.places);
@@ -82,15 +79,15 @@ made_of files units main p o h text compiled =
     }
 
 module _ (files : ℕ) (units : List LibraryUnit) (main : List ℕ) (p : Program) (o : Object) (h : AreUnitsOf files units main p) (text : IsOfText units p)
-    (few : sum_by unit_nodes units ≤ 4096) (compiled : IsCompiled units p o) where
+    (copies : HasFewCopies p) (few : files ≤ 64) (counted : sum_by unit_nodes units ≤ files * most_nodes_of_file) (compiled : IsCompiled units p o) where
   able : IsCompilable p
-  able = compilable_law units p text few
+  able = compilable_law files units p text copies few counted
 
   made : IsMadeOf p o
-  made = made_of files units main p o h text compiled
+  made = made_of files units main p o h text copies compiled
 
   pub passes_law : HasObject o × (is_plain o ≡ true)
-  passes_law = let law = made_law p o able made in (law.0, law.1 text.instances)
+  passes_law = made_law p o able made
 
   pub behaves_law : Behaves p o
   behaves_law = image_behaves p o able made passes_law.0.sound

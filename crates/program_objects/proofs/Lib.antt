@@ -17,10 +17,11 @@ pub mod MarksOf
 pub mod Core
 pub mod Refusals
 pub mod Placeable
-pub mod FewNodes
-mod ExpandedNodes
+pub mod Entries
+pub mod Weighed
+pub mod Copies
+pub mod InstanceEntries
 pub mod Numbers
-pub mod PlainUnits
 pub mod Texts
 pub mod UnitLaws
 mod Kernels

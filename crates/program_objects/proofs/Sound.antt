@@ -7,8 +7,8 @@ use Rattle.std.proofs.lemmas.List.{length-map}
 use Rattle.std.proofs.lemmas.List.Elements.{All-from_recursion}
 use Rattle.std.proofs.lemmas.Str.{IsUtf8-from_ascii, is_utf8-from_IsUtf8}
 use Rattle.ada_meaning.specs.Collected.{labels_of, decisions_of}
-use Rattle.ada_meaning.specs.Obligations.{predefined_names, no_instance, ordered_labels, statement_entry, decision_entry, instance_entry}
-use Rattle.ada_meaning.specs.Program.{Instance, Program}
+use Rattle.ada_meaning.specs.Obligations.{predefined_names, ordered_labels, statement_entry, decision_entry, instance_entry}
+use Rattle.ada_meaning.specs.Program.{Program}
 use Rattle.program_objects.proofs.Conditions.{conditions_held}
 use Rattle.program_objects.proofs.DecisionEntries.{are_expressions}
 use Rattle.program_objects.proofs.Found.{HaveConditions, starts_differ, starts_known, found_law}
@@ -59,7 +59,7 @@ names_are_exceptions names named few =
     both_hold (nat_le (length names) 4294967290) (list_all is_utf8 names) (grind (arith, nat_tests)) (names_are_utf8 names named)
 
 abbrev plain_parts : Obligations → Bool
-plain_parts ob = (length ob.instances == 1) && (length ob.regions == 0)
+plain_parts ob = length ob.regions == 0
 
 few_files : (files : List FileEntry) → are_files files ≡ true → length files ≤ 64
 few_files files are =
@@ -174,9 +174,5 @@ counted_law p o able made =
       roles = omega (arith, roles_few o (role_law p o able made), text_few p o made);
     }
 
--- without instances it is plain
-plain_law : (p : Program) (o : Object) → IsMadeOf p o → p.instances ≡ [] → is_plain o ≡ true
-plain_law p o made none = ap plain_parts made.obligations ∙ ap (λ (is : List Instance). (length (no_instance ∷ map instance_entry is) == 1) && true) none
-
-pub made_law : (p : Program) (o : Object) → IsCompilable p → IsMadeOf p o → HasObject o × (p.instances ≡ [] → is_plain o ≡ true)
-made_law p o able made = (record { sound = sound_law p o able made; counted = counted_law p o able made }, plain_law p o made)
+pub made_law : (p : Program) (o : Object) → IsCompilable p → IsMadeOf p o → HasObject o × (is_plain o ≡ true)
+made_law p o able made = (record { sound = sound_law p o able made; counted = counted_law p o able made }, ap plain_parts made.obligations)

@@ -9,7 +9,7 @@ use Rattle.parsed_texts.specs.legal_counts.specs.ConditionPlaces.{units_conditio
 use Rattle.legal_programs.specs.DecisionPlaces.{units_decisions}
 use Rattle.legal_programs.specs.TextPlaces.{units_places}
 use Rattle.program_objects.specs.Held.{HoldsImage}
-use Rattle.parsed_texts.specs.Places.{AreInFiles}
+use Rattle.parsed_texts.specs.Places.{AreInFiles, IsInFiles}
 use Rattle.program_objects.specs.Kernels.{IsKernelOf}
 use Rattle.kernel_ir.specs.declared.kernel.Kernel.{Kernel}
 use Rattle.object_format.specs.Counts.{FileFits}
@@ -17,7 +17,7 @@ use Rattle.object_format.specs.Fields.{are_files}
 use Rattle.object_format.specs.declared.object.Object.{Object}
 
 -- an object that is compiled from units, whose typed program is p, without exempt regions: it holds the image of a kernel of the program and
--- the program's obligations, and the statements, decisions and conditions of the units stand in its files
+-- the program's obligations, and the units, with their statements, decisions and conditions, stand in its files
 pub record IsCompiled (units : List LibraryUnit) (p : Program) (o : Object) : Type 0 where
   pub kernel : Kernel
   pub nodes : ℕ
@@ -26,6 +26,7 @@ pub record IsCompiled (units : List LibraryUnit) (p : Program) (o : Object) : Ty
   pub obligations : o.obligations ≡ obligations_of p []
   pub files : are_files o.files ≡ true
   pub names : All FileFits o.files
+  pub items : Everywhere (λ u. IsInFiles (length o.files) u.item_pos) units
   pub places : AreInFiles (length o.files) (units_places units)
   pub decisions : AreInFiles (length o.files) (units_decisions units)
   pub conditions : Everywhere (AreInFiles (length o.files)) (units_conditions units)

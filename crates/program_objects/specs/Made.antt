@@ -1,5 +1,5 @@
 -- The object of a program: what it has beside the image of the kernel.
-use Rattle.std.specs.Prelude.{◌≡◌, ◌≤◌, ℕ, true, List, [], length, map, sum_by, IsAscii}
+use Rattle.std.specs.Prelude.{◌≡◌, ◌≤◌, ℕ, true, List, [], length, map, IsAscii}
 use Rattle.std.specs.List.{All}
 use Rattle.ada_meaning.specs.Collected.{labels_of, decisions_of}
 use Rattle.ada_meaning.specs.Obligations.{IsNumbered, ordered_labels, ordered_decisions, ordered_exceptions, obligations_of}
@@ -10,7 +10,6 @@ use Rattle.program_objects.specs.Held.{HoldsImage}
 use Rattle.cov_base.specs.Lists.{Everywhere}
 use Rattle.program_objects.specs.Kernels.{IsKernelOf}
 use Rattle.kernel_ir.specs.declared.kernel.Kernel.{Kernel}
-use Rattle.statement_code.specs.Sizes.{subprogram_nodes}
 use Rattle.object_format.specs.Counts.{FileFits, InstanceFits, IsCountable, AreCountable}
 use Rattle.object_format.specs.Fields.{are_files, are_instances, are_statements, are_decisions}
 use Rattle.object_format.specs.declared.object.Object.{Object}
@@ -24,17 +23,17 @@ pub record IsExceptionName (name : List ℕ) : Type 0 where
   pub ascii : IsAscii name
   pub short : IsCountable name
 
--- a program that can be compiled: it is within the limit on nodes; its statements and its decisions are numbered in the order in which they
--- stand, and are few; each decision has at most 32 conditions, and no `not` stands directly in another; its exceptions have names, and are few
+-- a program that can be compiled: its statements and its decisions are numbered in the order in which they stand, and four bytes can count
+-- them; each decision has at most 32 conditions, and no `not` stands directly in another; its exceptions have names, and are no more than the
+-- limit on nodes
 pub record IsCompilable (p : Program) : Type 0 where
   pub numbered : IsNumbered p
   pub in_order : ordered_labels p ≡ labels_of p.subprograms
   pub decisions_in_order : ordered_decisions p ≡ decisions_of p.subprograms
   pub few_conditions : Everywhere (λ h. conditions_of h.test ≤ 32) (decisions_of p.subprograms)
   pub once : Everywhere (λ h. negates_once (shape_of h.test) ≡ true) (decisions_of p.subprograms)
-  pub few : sum_by subprogram_nodes p.subprograms ≤ 4096
-  pub few_statements : length (labels_of p.subprograms) ≤ 4096
-  pub few_decisions : length (decisions_of p.subprograms) ≤ 4096
+  pub few_statements : IsCountable (labels_of p.subprograms)
+  pub few_decisions : IsCountable (decisions_of p.subprograms)
   pub exceptions : Everywhere IsExceptionName (exceptions_in p)
   pub few_exceptions : length (exceptions_in p) ≤ 4096
 

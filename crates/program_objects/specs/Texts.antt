@@ -1,5 +1,5 @@
--- What the grammar and the rules ensure of programs of today's language, by the text of their units.
-use Rattle.std.specs.Prelude.{◌≡◌, ◌<◌, ◌≤◌, ℕ, true, List, [], length, map, sum_by, slice_get, Some}
+-- What the grammar and the rules ensure of programs, by the text of their units.
+use Rattle.std.specs.Prelude.{◌≡◌, ◌<◌, ◌≤◌, ℕ, true, List, length, map, sum_by, slice_get, Some}
 use Rattle.ada_meaning.specs.Bodies.{StandsIn}
 use Rattle.ada_meaning.specs.Collected.{condition_places, labels_of, decisions_of}
 use Rattle.ada_meaning.specs.Obligations.{IsNumbered, ordered_labels, ordered_decisions}
@@ -20,7 +20,7 @@ use Rattle.legal_programs.specs.DecisionPlaces.{units_decisions}
 use Rattle.legal_programs.specs.TextPlaces.{units_places}
 use Rattle.lower.specs.Standing.{IsSized, most_declared_words}
 use Rattle.parsed_texts.specs.Parsed.{AreOfFiles}
-use Rattle.statement_code.specs.Kernels.{AreOutside}
+use Rattle.parsed_texts.specs.legal_names.specs.Named.{IsOfUnits}
 use Rattle.statement_code.specs.Sizes.{subprogram_nodes}
 use Rattle.program_objects.specs.Legal.{AreProgram}
 use Rattle.program_objects.specs.Made.{IsExceptionName, exceptions_in}
@@ -32,8 +32,8 @@ pub record AreUnitsOf (files : ℕ) (units : List LibraryUnit) (main : List ℕ)
 
 -- The program stands in the text of its units. Its statements and its decisions stand at the places of the text, in its order, and are
 -- numbered so; each decision has the conditions of its text, of which there are at most 32, no `not` stands directly in another, and one of the
--- statements holds it; each node has a token that counts, and so has each exception that is declared, which has a name; and so far there is no
--- instance.
+-- statements holds it; each node has a token that counts; each instance has a name, and stands where the item of a unit does; and each exception
+-- has a name.
 pub record IsOfText (units : List LibraryUnit) (p : Program) : Type 0 where
   pub numbered : IsNumbered p
   pub statements : map (λ l. l.place) (labels_of p.subprograms) ≡ units_places units
@@ -45,15 +45,20 @@ pub record IsOfText (units : List LibraryUnit) (p : Program) : Type 0 where
   pub once : Everywhere (λ h. negates_once (shape_of h.test) ≡ true) (decisions_of p.subprograms)
   pub held : Everywhere (λ h. h.statement < length (labels_of p.subprograms)) (decisions_of p.subprograms)
   pub nodes : sum_by subprogram_nodes p.subprograms ≤ sum_by unit_nodes units
-  pub instances : p.instances ≡ []
+  pub instances : Everywhere (IsOfUnits units) p.instances
   pub exceptions : Everywhere IsExceptionName (exceptions_in p)
-  pub few_exceptions : length (exceptions_in p) ≤ sum_by unit_nodes units
 
--- The program is well-formed; so far nothing stands in a generic; the objects of each subprogram have sizes, in each instance in which it
--- stands, and take few words; and the library level has a size.
-pub record IsPlain (p : Program) : Type 0 where
+-- The limits on instances and on nodes hold of the program's copies: it has at most 64 instances; a body has at most 4,096 nodes, if there is a
+-- copy of it; and there are no more exceptions than that, those of a generic counted in each of its instances.
+pub record HasFewCopies (p : Program) : Type 0 where
+  pub instances : length p.instances ≤ 64
+  pub bodies : (m inst : ℕ) (s : Subprogram) → slice_get p.subprograms m ≡ Some s → StandsIn p s.generic inst → subprogram_nodes s ≤ 4096
+  pub exceptions : length (exceptions_in p) ≤ 4096
+
+-- The program is well-formed; the objects of each subprogram have sizes, in each instance in which it stands, and take few words; and the
+-- library level has a size.
+pub record HasSizes (p : Program) : Type 0 where
   pub well : IsWellFormed p
-  pub outside : AreOutside p.subprograms
   pub sized : (m inst : ℕ) (s : Subprogram) → slice_get p.subprograms m ≡ Some s → StandsIn p s.generic inst
       → Everywhere (λ t. IsSized (type_size (values_of p) inst t)) s.objects
   pub declared : (m inst : ℕ) (s : Subprogram) → slice_get p.subprograms m ≡ Some s → StandsIn p s.generic inst

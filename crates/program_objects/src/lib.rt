@@ -29,8 +29,8 @@ pub use expanding::{copies_of, fault_at};
 pub use fault::{SourceFault, Why};
 pub use laws::objects_behave_as_their_programs;
 pub use program_laws::{
-    legal_programs_are_light, legal_programs_are_of_their_text, legal_programs_are_plain,
-    legal_programs_can_be_laid, legal_units_are_few,
+    legal_programs_are_light, legal_programs_are_of_their_text, legal_programs_can_be_laid,
+    legal_programs_have_few_copies, legal_programs_have_sizes,
 };
 pub use soundness::{
     made_objects_pass_their_checks, obligations_stand_in_one_copy, rising_places_are_statements,

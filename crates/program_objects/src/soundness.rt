@@ -1,6 +1,6 @@
 //! What objects of programs are.
 
-ghost use Rattle.std.specs.Prelude.{◌≡◌, ◌↔◌, ◌+◌, ◌*◌, ◌<◌, ◌≤◌, ℕ, List, [], true, length, map};
+ghost use Rattle.std.specs.Prelude.{◌≡◌, ◌↔◌, ◌+◌, ◌*◌, ◌<◌, ◌≤◌, ℕ, List, true, length, map};
 ghost use Rattle.ada_meaning.specs.Collected.{labels_of, decisions_of};
 ghost use Rattle.ada_meaning.specs.Obligations.{decision_entry};
 ghost use Rattle.ada_meaning.specs.Program.{Program};
@@ -25,11 +25,10 @@ pub fn roles_are_of_checks_structure_and_conditions()
     ensures { (p : Program) (o : Object) → IsCompilable p → IsMadeOf p o → PassesRole o }
 {}
 
-/// The object that is made of a program passes the checks of objects, and has a file; where the program has
-/// no instances, it is one of the language of the moment.
+/// The object that is made of a program passes the checks of objects, and has a file; it is one of the
+/// language of the moment.
 pub fn made_objects_pass_their_checks()
-    ensures { (p : Program) (o : Object) → IsCompilable p → IsMadeOf p o
-        → HasObject o × (p.instances ≡ [] → is_plain o ≡ true) }
+    ensures { (p : Program) (o : Object) → IsCompilable p → IsMadeOf p o → HasObject o × (is_plain o ≡ true) }
 {}
 
 /// Places that rise, within files, are places of statements as an object has them.

@@ -1,9 +1,12 @@
-use Rattle.legal_counts.proofs.WordsOfInstances.{library_words_counted, few_library_words, library_has_size}
+use Rattle.legal_counts.proofs.WordsOfInstances.{bare_words_counted, library_words_counted, few_library_words, library_has_size}
 use Rattle.legal_counts.proofs.WordsOfLibrary.{few_unit_words}
 use Rattle.legal_counts.proofs.library_words_are_within_limits.Goals as goal
 
 pub returns-clause-units : goal.returns-clause-units
 returns-clause-units c = λ l main p is. few_unit_words l main p is
+
+pub returns-clause-bare : goal.returns-clause-bare
+returns-clause-bare c = bare_words_counted
 
 pub returns-clause-counted : goal.returns-clause-counted
 returns-clause-counted c = λ standard units main p is rise.

@@ -16,7 +16,8 @@ object_of-object-requires-clause-laid c =
 pub object_of-object-requires-clause-able : goal.object_of-object-requires-clause-able
 object_of-object-requires-clause-able c =
     let legal = c.in_ok-legal.ensures.typed.legal in
-    c.legal_units_are_compilable.ensures (length c.args.files.now) legal.units (str_to_ascii_lowercase c.args.main.now) (program_of c.in_ok-legal.legal.program) legal.program
+    c.legal_units_are_compilable.ensures (length c.args.files.now) legal.units (str_to_ascii_lowercase c.args.main.now) (program_of c.in_ok-legal.legal.program)
+    c.requires.many.1 legal.program
 
 pub closed-requires : goal.closed-requires
 closed-requires c =

@@ -4,5 +4,6 @@ use Rattle.program_objects.proofs.program_laws.legal_programs_can_be_laid.Goals 
 
 pub returns : goal.returns
 returns c = λ files units main t h types named.
-    laid_law files units main t h (c.legal_units_are_few.ensures files units main (program_of t) h)
-    (c.legal_programs_are_of_their_text.ensures files units main (program_of t) h) (c.legal_programs_are_plain.ensures files units main (program_of t) h) named (c.legal_programs_are_light.ensures files units main t h types)
+    let p = program_of t in
+    laid_law files units main t h (c.legal_programs_have_few_copies.ensures files units main p h) (c.legal_programs_have_sizes.ensures files units main p h) named
+    (c.legal_programs_are_light.ensures files units main t h types)

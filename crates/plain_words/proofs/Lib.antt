@@ -1,5 +1,0 @@
-mod NotedDeclarations
-mod NotedStatements
-mod NotedItems
-mod NotedUnits
-mod WordsOfPackages
