@@ -18,7 +18,7 @@ use Rattle.annotated_report.specs.Order.{in_order}
 use Rattle.annotated_report.specs.Report.{judged_totals, totals_text, violations_text, head_text, report_text}
 use Rattle.annotated_report.specs.Shown.{line_of_condition, asked_pairs, pair_lines}
 use Rattle.annotated_report.specs.Verdicts.{starts, is_started, vector_in, vectors_of, gives, is_covered, lacks, lacks_outcome}
-use Rattle.annotated_report.proofs.LeastPairs.{least_pair_is, same_shown, same_line, same_finding, option_text}
+use Rattle.annotated_report.proofs.LeastPairs.{least_pair_is, same_shown_texts, one_text, same_line, same_finding, option_texts, option_text}
 use Rattle.annotated_report.proofs.Numbering.{same_found, same_sum}
 
 one_way : (a b : Bool) → (a ≡ true → b ≡ true) → (b ≡ true → a ≡ true) → a ≡ b
@@ -79,7 +79,7 @@ split_front : (o : Option Vector) (v : Vector) (rest : List Vector) → Has (con
 split_front None v rest h = inr h
 split_front (Some w) v rest h = elim h [ inl e ↦ inl (ap Some e) | inr there ↦ inr there ]
 
-vectors_within : (d : ℕ) (xs ys : List Event) → AreWithin xs ys → AreWithin (vectors_of xs d) (vectors_of ys d)
+pub vectors_within : (d : ℕ) (xs ys : List Event) → AreWithin xs ys → AreWithin (vectors_of xs d) (vectors_of ys d)
 vectors_within d [] ys w v h = absurd h
 vectors_within d (x ∷ xs) ys w v h =
     elim (split_front (vector_in d x) v (vectors_of xs d) h) [
@@ -87,12 +87,12 @@ vectors_within d (x ∷ xs) ys w v h =
       | inr there ↦ vectors_within d xs ys (λ y k. w y (inr k)) v there
     ]
 
-vectors_alike : (d : ℕ) (xs ys : List Event) → AreAlike xs ys → AreAlike (vectors_of xs d) (vectors_of ys d)
+pub vectors_alike : (d : ℕ) (xs ys : List Event) → AreAlike xs ys → AreAlike (vectors_of xs d) (vectors_of ys d)
 vectors_alike d xs ys h = (vectors_within d xs ys h.0, vectors_within d ys xs h.1)
 
 -- ---- what alike vectors show
 
-same_gives : (e : Expr) (value : Bool) (vs ws : List Vector) → AreAlike vs ws → gives e value vs ≡ gives e value ws
+pub same_gives : (e : Expr) (value : Bool) (vs ws : List Vector) → AreAlike vs ws → gives e value vs ≡ gives e value ws
 same_gives e value vs ws h = any_same (λ v. same (outcome e (marks v)) value) vs ws h
 
 pub same_covered : (e : Expr) (vs ws : List Vector) → AreAlike vs ws → is_covered e vs ≡ is_covered e ws
@@ -124,12 +124,19 @@ moved n test vs ws (Some p) h l = (
   both_within (λ v w. (test (marks v) (marks w) && pair_precedes n (marks v) (marks w) (marks p.first) (marks p.second)) ≡ false) vs ws h.1 l.1,
 )
 
-same_pairs : (level : Level) (e : Expr) (vs ws : List Vector) (c : ℕ) → AreAlike vs ws →
+-- a least pair of vectors tells what the least pair of the same vectors tells that come otherwise
+pub shown_texts : (level : Level) (e : Expr) (vs ws : List Vector) (c : ℕ) (a : Option Pair) → AreAlike vs ws →
+    IsLeastPair (size e) (kind_of level e c) vs a → option_texts (size e) a ≡ option_texts (size e) (shown_pair level e ws c)
+shown_texts level e vs ws c a h l =
+    same_shown_texts (size e) (kind_of level e c) ws a (shown_pair level e ws c)
+    (moved (size e) (kind_of level e c) vs ws a h l)
+    (least_pair_is (size e) (kind_of level e c) ws)
+
+pub same_pairs : (level : Level) (e : Expr) (vs ws : List Vector) (c : ℕ) → AreAlike vs ws →
     option_text (size e) (shown_pair level e vs c) ≡ option_text (size e) (shown_pair level e ws c)
 same_pairs level e vs ws c h =
-    same_shown (size e) (kind_of level e c) ws (shown_pair level e vs c) (shown_pair level e ws c)
-    (moved (size e) (kind_of level e c) vs ws (shown_pair level e vs c) h (least_pair_is (size e) (kind_of level e c) vs))
-    (least_pair_is (size e) (kind_of level e c) ws)
+    one_text (size e) (shown_pair level e vs c) (shown_pair level e ws c)
+    (shown_texts level e vs ws c (shown_pair level e vs c) h (least_pair_is (size e) (kind_of level e c) vs))
 
 pub same_unpaired : (level : Level) (vs ws : List Vector) (d : ℕ) (entry : DecEntry) → AreAlike vs ws → unpaired level vs d entry ≡ unpaired level ws d entry
 same_unpaired level vs ws d entry h =
@@ -153,7 +160,7 @@ same_findings level executed vs ws d entry h =
 
 -- ---- and what alike events show
 
-same_started : (xs ys : List Event) → AreAlike xs ys → is_started xs ≡ is_started ys
+pub same_started : (xs ys : List Event) → AreAlike xs ys → is_started xs ≡ is_started ys
 same_started xs ys h = λ i n. any_same (starts n) xs ys h i
 
 same_unsatisfied : (level : Level) (xs ys : List Event) (decisions : List DecEntry) → AreAlike xs ys →
@@ -164,7 +171,7 @@ same_unsatisfied level xs ys decisions h =
     (λ d entry. findings_of level (is_started ys entry.statement.0) (vectors_of ys d) d entry) 0 decisions
     (λ i m entry eq at. same_findings level (is_started ys entry.statement.0) (vectors_of xs m) (vectors_of ys m) m entry (vectors_alike m xs ys h))
 
-same_all : (level : Level) (obligations : Obligations) (xs ys : List Event) → AreAlike xs ys → findings level obligations xs ≡ findings level obligations ys
+pub same_all : (level : Level) (obligations : Obligations) (xs ys : List Event) → AreAlike xs ys → findings level obligations xs ≡ findings level obligations ys
 same_all level obligations xs ys h =
     ap (λ s. in_order (λ f. f.key) (unstarted s obligations.statements
     ++ (if asks_outcomes level then unsatisfied level (is_started xs) (vectors_of xs) obligations.decisions else []))) (same_started xs ys h)

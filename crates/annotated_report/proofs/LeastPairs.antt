@@ -160,12 +160,16 @@ neither_before true b c d h l = cc
 neither_before false true c d h l = cc
 neither_before false false c d h l = (refl, refl, h, l)
 
-same_pair_text : (n : ℕ) (p q : Pair) → sooner n p q ≡ false → sooner n q p ≡ false → pair_text n p ≡ pair_text n q
-same_pair_text n p q h l =
+-- the texts of the two vectors of a pair
+abbrev pub pair_texts : ℕ → Pair → List ℕ × List ℕ
+pair_texts n p = (vector_text n p.first, vector_text n p.second)
+
+same_pair_texts : (n : ℕ) (p q : Pair) → sooner n p q ≡ false → sooner n q p ≡ false → pair_texts n p ≡ pair_texts n q
+same_pair_texts n p q h l =
     let k = neither_before (precedes n (marks p.first) (marks q.first)) (precedes n (marks q.first) (marks p.first))
     (precedes n (marks p.second) (marks q.second)) (precedes n (marks q.second) (marks p.second)) h l in
-    ap (λ v. v ++ 32 ∷ vector_text n p.second) (same_text n 0 (marks p.first) (marks q.first) k.0 k.1)
-    ∙ ap (λ w. vector_text n q.first ++ 32 ∷ w) (same_text n 0 (marks p.second) (marks q.second) k.2 k.3)
+    ap (λ v. (v, vector_text n p.second)) (same_text n 0 (marks p.first) (marks q.first) k.0 k.1)
+    ∙ ap (λ w. (vector_text n q.first, w)) (same_text n 0 (marks p.second) (marks q.second) k.2 k.3)
 
 at_pair : (P : Vector → Vector → Type 0) (vectors : List Vector) (v w : Vector) → Everywhere (λ v. Everywhere (λ w. P v w) vectors) vectors
     → Somewhere (λ x. x ≡ v) vectors → Somewhere (λ x. x ≡ w) vectors → P v w
@@ -176,26 +180,46 @@ after : (a b : Bool) → a ≡ true → (a && b) ≡ false → b ≡ false
 after true b e h = h
 after false b e h = cc
 
-abbrev pub option_text : ℕ → Option Pair → Option (List ℕ)
-option_text n None = None
-option_text n (Some p) = Some (pair_text n p)
+abbrev pub option_texts : ℕ → Option Pair → Option (List ℕ × List ℕ)
+option_texts n None = None
+option_texts n (Some p) = Some (pair_texts n p)
 
--- two least pairs of one list have one text
-pub same_shown : (n : ℕ) (test : Marks → Marks → Bool) (vectors : List Vector) (a b : Option Pair) →
-    IsLeastPair n test vectors a → IsLeastPair n test vectors b → option_text n a ≡ option_text n b
-same_shown n test vectors None None h l = refl
-same_shown n test vectors None (Some q) h l =
+-- two least pairs of one list tell the same two vectors
+pub same_shown_texts : (n : ℕ) (test : Marks → Marks → Bool) (vectors : List Vector) (a b : Option Pair) →
+    IsLeastPair n test vectors a → IsLeastPair n test vectors b → option_texts n a ≡ option_texts n b
+same_shown_texts n test vectors None None h l = refl
+same_shown_texts n test vectors None (Some q) h l =
     absurd (clash (test (marks q.first) (marks q.second)) l.0.passes
     (at_pair (λ v w. test (marks v) (marks w) ≡ false) vectors q.first q.second h l.0.has_first l.0.has_second))
-same_shown n test vectors (Some p) None h l =
+same_shown_texts n test vectors (Some p) None h l =
     absurd (clash (test (marks p.first) (marks p.second)) h.0.passes
     (at_pair (λ v w. test (marks v) (marks w) ≡ false) vectors p.first p.second l h.0.has_first h.0.has_second))
-same_shown n test vectors (Some p) (Some q) h l =
+same_shown_texts n test vectors (Some p) (Some q) h l =
     let p_first = after (test (marks p.first) (marks p.second)) (sooner n p q) h.0.passes
     (at_pair (λ v w. (test (marks v) (marks w) && pair_precedes n (marks v) (marks w) (marks q.first) (marks q.second)) ≡ false) vectors p.first p.second l.1 h.0.has_first h.0.has_second) in
     let q_first = after (test (marks q.first) (marks q.second)) (sooner n q p) l.0.passes
     (at_pair (λ v w. (test (marks v) (marks w) && pair_precedes n (marks v) (marks w) (marks p.first) (marks p.second)) ≡ false) vectors q.first q.second h.1 l.0.has_first l.0.has_second) in
-    ap Some (same_pair_text n p q p_first q_first)
+    ap Some (same_pair_texts n p q p_first q_first)
+
+abbrev joined_text : Option (List ℕ × List ℕ) → Option (List ℕ)
+joined_text None = None
+joined_text (Some texts) = Some (texts.0 ++ 32 ∷ texts.1)
+
+abbrev pub option_text : ℕ → Option Pair → Option (List ℕ)
+option_text n None = None
+option_text n (Some p) = Some (pair_text n p)
+
+joined : (n : ℕ) (a : Option Pair) → joined_text (option_texts n a) ≡ option_text n a
+joined n None = refl
+joined n (Some p) = refl
+
+-- so they have one text
+pub one_text : (n : ℕ) (a b : Option Pair) → option_texts n a ≡ option_texts n b → option_text n a ≡ option_text n b
+one_text n a b same = sym (joined n a) ∙ ap joined_text same ∙ joined n b
+
+pub same_shown : (n : ℕ) (test : Marks → Marks → Bool) (vectors : List Vector) (a b : Option Pair) →
+    IsLeastPair n test vectors a → IsLeastPair n test vectors b → option_text n a ≡ option_text n b
+same_shown n test vectors a b h l = one_text n a b (same_shown_texts n test vectors a b h l)
 
 -- pairs with one text have one line, and are there both or neither
 pub same_line : (n : ℕ) (key : Key) (a b : Option Pair) → option_text n a ≡ option_text n b → pair_line n key a ≡ pair_line n key b

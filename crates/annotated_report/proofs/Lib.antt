@@ -15,3 +15,4 @@ pub mod Alike
 pub mod Sorted
 pub mod Listed
 pub mod PairedEvents
+pub mod Halving

@@ -8,6 +8,7 @@ pub mod Findings
 pub mod Shown
 pub mod Caller
 pub mod Lines
+pub mod Rising
 pub mod Report
 pub mod Paired
 pub mod Members

@@ -17,9 +17,9 @@ use cov_base::{CondIx, DecEntry, Level, Place, Pos, Vector};
 use std::alloc::{AllocError, Global};
 
 /// What was found so far: what is left to show, and the pairs that are shown.
-pub(crate) struct Found {
-    pub(crate) findings: Vec<Finding>,
-    pub(crate) pairs: Vec<PairLine>,
+pub struct Found {
+    pub findings: Vec<Finding>,
+    pub pairs: Vec<PairLine>,
 }
 
 // Written out: a derived drop is proved anew in each crate above.

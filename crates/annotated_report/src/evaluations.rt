@@ -10,7 +10,7 @@ use std::alloc::{AllocError, Global};
 use std::marker::Model;
 
 /// The vectors of a decision, in the order of their events. Contracts see them as a list.
-pub(crate) struct Evaluations {
+pub struct Evaluations {
     vectors: Vec<Vector>,
 }
 
@@ -46,7 +46,7 @@ impl Evaluations {
     }
 
     /// The vectors as a slice.
-    pub(crate) fn as_slice(&self) -> &[Vector]
+    pub fn as_slice(&self) -> &[Vector]
         ensures { result.now ≡ self.now }
     {
         self.vectors.as_slice()
@@ -87,7 +87,7 @@ fn take(all: &mut [Evaluations], event: &Event) -> Result<(), AllocError>
 }
 
 /// The vectors of each of so many decisions, in all instances.
-pub(crate) fn collect(
+pub fn collect(
     alloc: Global,
     count: usize,
     events: &[Event],

@@ -8,7 +8,7 @@ use std::alloc::AllocError;
 
 /// An obligation by its numbers: a condition by that of its decision, and its place in it.
 #[derive(Clone, Copy, PartialEq, Eq, PartialOrd, Ord)]
-pub(crate) enum Subject {
+pub enum Subject {
     /// A statement.
     Statement(usize),
     /// A decision.
@@ -19,14 +19,14 @@ pub(crate) enum Subject {
 
 /// Where an obligation stands, and which it is. Lines of a report are in this order.
 #[derive(Clone, Copy, PartialEq, Eq, PartialOrd, Ord)]
-pub(crate) struct Key {
-    pub(crate) pos: Pos,
-    pub(crate) subject: Subject,
+pub struct Key {
+    pub pos: Pos,
+    pub subject: Subject,
 }
 
 /// What is missing of an obligation that is not covered.
 #[derive(Clone, Copy, PartialEq, Eq)]
-pub(crate) enum Missing {
+pub enum Missing {
     /// The statement was not executed.
     Execution,
     /// The decision was never evaluated.
@@ -39,16 +39,16 @@ pub(crate) enum Missing {
 
 /// An obligation that is not covered, and what is missing.
 #[derive(Clone, Copy, PartialEq, Eq)]
-pub(crate) struct Finding {
-    pub(crate) key: Key,
-    pub(crate) missing: Missing,
+pub struct Finding {
+    pub key: Key,
+    pub missing: Missing,
 }
 
 /// A pair of vectors that shows a condition to matter: where the condition stands, and the vectors as
 /// text.
-pub(crate) struct PairLine {
-    pub(crate) key: Key,
-    pub(crate) text: Bytes,
+pub struct PairLine {
+    pub key: Key,
+    pub text: Bytes,
 }
 
 // Written out: a derived drop is proved anew in each crate above.

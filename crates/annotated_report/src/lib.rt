@@ -7,27 +7,43 @@
 //! are those of the definitions ([`verdicts_are_those_of_the_definitions`]), and it ends in the least
 //! pairs of vectors of these events, one for each condition that has a pair
 //! ([`the_report_ends_in_all_least_pairs`]).
+//!
+//! A layer that prints the same verdicts in another form uses the parts. [`started`] and [`collect`]
+//! sort events by statement and by decision; [`outcomes`], [`shown_pair`] and [`in_order_once`] say
+//! what the vectors of a decision show; [`judge`] finds what is left to show at a level, which
+//! [`violations`] and [`exempted`] divide by regions; [`level_word`] and [`vector_text`] are the words.
 #![tactic(auto)]
 
 mod conditions;
 mod decisions;
 mod evaluations;
 mod finding;
-mod judge;
+mod judgement;
 mod laws;
 mod lines;
+mod marking;
 mod ordered;
 mod printing;
+mod regions;
 mod selection;
 mod shown;
-mod started;
 mod statements;
 mod verdict;
 mod words;
 
+pub use conditions::Found;
+pub use evaluations::{Evaluations, collect};
+pub use finding::{Finding, Key, Missing, PairLine, Subject};
+pub use judgement::{Judged, judge};
 pub use laws::{
     pairs_are_of_events, the_report_ends_in_all_least_pairs, the_text_depends_on_the_set_of_events,
     verdicts_are_those_of_the_definitions,
 };
+pub use marking::started;
+pub use ordered::in_order_once;
 pub use printing::report;
-pub use words::level_word;
+pub use regions::Regions;
+pub use selection::{exempted, violations};
+pub use shown::vector_text;
+pub use verdict::{outcomes, shown_pair};
+pub use words::{asks_outcomes, asks_pairs, level_word};

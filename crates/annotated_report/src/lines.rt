@@ -1,16 +1,15 @@
 //! The lines of a report.
 
-ghost use Rattle.std.specs.Prelude.{◌≡◌, ◌++◌, List, ℕ, map, not, codes, slice_get, Some, option_map, IfOk, OnOk, if◌then◌else◌};
+ghost use Rattle.std.specs.Prelude.{◌≡◌, ◌++◌, List, ℕ, map, not, codes, slice_get, option_map, IfOk, OnOk, if◌then◌else◌};
 ghost use Rattle.std.specs.Fmt.{decimal};
 ghost use Rattle.std.specs.List.{filter, flat_map};
-ghost use Rattle.exemptions.specs.Regions.{is_inside, is_exempt};
 ghost use Rattle.annotated_report.specs.Lines as lines;
 ghost use Rattle.annotated_report.specs.Report.{section_text, total_text, head_text};
 
 use crate::finding::{Finding, PairLine};
+use crate::regions::Regions;
 use crate::words::{level_word, missing_text};
 use cov_base::{Level, Pos, Region, SourceFile};
-use exemptions::exempt;
 use std::alloc::{AllocError, Global};
 
 /// Appends the first lines of a report.
@@ -78,18 +77,6 @@ fn put_violation(
     text.extend_from_slice(b"\n")
 }
 
-/// The first region that holds a place.
-fn region_round(regions: &[Region], pos: Pos) -> Option<&Region>
-    ensures { option_map (λ region. region.now) result ≡ lines.region_round pos regions.now }
-{
-    for region in regions {
-        if exempt(std::slice::from_ref(region), pos) {
-            return Some(region);
-        }
-    }
-    None
-}
-
 /// Appends where a region begins, before what its pragma says.
 fn put_region(alloc: Global, text: &mut Vec<u8>, region: &Region) -> Result<(), AllocError>
     ensures { OnOk result (text.new.items ≡ text.old.items ++ lines.region_text region.now) }
@@ -122,13 +109,13 @@ fn put_exempted(
     alloc: Global,
     text: &mut Vec<u8>,
     files: &[SourceFile],
-    regions: &[Region],
+    regions: &Regions<'_>,
     finding: Finding,
 ) -> Result<(), AllocError>
     ensures { OnOk result (text.new.items ≡ text.old.items ++ lines.exempted_line (map (λ file. file.name) files.now) regions.now finding) }
 {
     put_finding(alloc, text, files, finding)?;
-    put_exemption(alloc, text, region_round(regions, finding.key.pos))?;
+    put_exemption(alloc, text, regions.round(finding.key.pos))?;
     text.extend_from_slice(b"\n")
 }
 
@@ -190,7 +177,7 @@ pub(crate) fn put_all_exempted(
     alloc: Global,
     text: &mut Vec<u8>,
     files: &[SourceFile],
-    regions: &[Region],
+    regions: &Regions<'_>,
     findings: &[Finding],
 ) -> Result<(), AllocError>
     ensures { OnOk result (text.new.items ≡ text.old.items

@@ -9,7 +9,7 @@ use std::alloc::{AllocError, Global};
 
 /// The same vectors in their order, each once: so the least pairs of them are found soon, also where
 /// there are many evaluations, and copies of a generic give the same vectors.
-pub(crate) fn in_order_once(alloc: Global, vectors: &[Vector]) -> Result<Vec<Vector>, AllocError>
+pub fn in_order_once(alloc: Global, vectors: &[Vector]) -> Result<Vec<Vector>, AllocError>
     ensures { IfOk result (λ ordered. AreAlike ordered.items vectors.now) }
 {
     let mut ordered = Vec::from_slice(alloc, vectors)?;

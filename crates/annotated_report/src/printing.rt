@@ -6,11 +6,12 @@ ghost use Rattle.annotated_report.specs.Findings.{asks_outcomes, asks_pairs};
 ghost use Rattle.annotated_report.specs.Report.{head_text, violations_text, total_text, pairs_text, judged_totals, report_text};
 
 use crate::finding::{Finding, PairLine};
-use crate::judge::{Judged, condition_count, judge};
+use crate::judgement::{Judged, condition_count, judge};
 use crate::lines::{put_all_exempted, put_head, put_pairs, put_total, put_violations};
+use crate::regions::Regions;
 use crate::selection::{exempted, violations};
 use crate::words::{asks_outcomes, asks_pairs};
-use cov_base::{Event, Level, Obligations, Region, SourceFile};
+use cov_base::{Event, Level, Obligations, SourceFile};
 use std::alloc::{AllocError, Global};
 
 /// Appends what is left to show: the findings that no region holds, and those that one does.
@@ -18,7 +19,7 @@ fn put_findings(
     alloc: Global,
     text: &mut Vec<u8>,
     files: &[SourceFile],
-    regions: &[Region],
+    regions: &Regions<'_>,
     findings: &[Finding],
 ) -> Result<(), AllocError>
     ensures { OnOk result (text.new.items ≡ text.old.items ++ violations_text (map (λ file. file.name) files.now) regions.now findings.now) }
@@ -162,7 +163,7 @@ fn put_report(
         alloc,
         text,
         files,
-        regions,
+        &Regions::of(regions),
         judged.found.findings.as_slice(),
     )?;
     put_totals(alloc, text, level, files, obligations, judged)

@@ -5,8 +5,7 @@ ghost use Rattle.std.specs.List.{filter};
 ghost use Rattle.exemptions.specs.Regions.{is_exempt};
 
 use crate::finding::Finding;
-use cov_base::Region;
-use exemptions::exempt;
+use crate::regions::Regions;
 use std::alloc::{AllocError, Global};
 
 /// Appends a finding, if it is wanted.
@@ -21,32 +20,32 @@ fn push_if(selected: &mut Vec<Finding>, is_wanted: bool, finding: Finding) -> Re
 
 /// The findings that no region holds, in their order.
 #[tactic(auto, using(crate::proofs::Appending::select_more))]
-pub(crate) fn violations(
+pub fn violations(
     alloc: Global,
     findings: &[Finding],
-    regions: &[Region],
+    regions: &Regions<'_>,
 ) -> Result<Vec<Finding>, AllocError>
     ensures { IfOk result (λ selected. selected.items ≡ filter (λ f. not (is_exempt regions.now f.key.pos)) findings.now) }
 {
     let mut selected = Vec::new(alloc);
     for finding in findings {
-        push_if(&mut selected, !exempt(regions, finding.key.pos), *finding)?;
+        push_if(&mut selected, !regions.hold(finding.key.pos), *finding)?;
     }
     Ok(selected)
 }
 
 /// The findings that a region holds, in their order.
 #[tactic(auto, using(crate::proofs::Appending::select_more))]
-pub(crate) fn exempted(
+pub fn exempted(
     alloc: Global,
     findings: &[Finding],
-    regions: &[Region],
+    regions: &Regions<'_>,
 ) -> Result<Vec<Finding>, AllocError>
     ensures { IfOk result (λ selected. selected.items ≡ filter (λ f. is_exempt regions.now f.key.pos) findings.now) }
 {
     let mut selected = Vec::new(alloc);
     for finding in findings {
-        push_if(&mut selected, exempt(regions, finding.key.pos), *finding)?;
+        push_if(&mut selected, regions.hold(finding.key.pos), *finding)?;
     }
     Ok(selected)
 }

@@ -51,6 +51,17 @@ fn put_pair(text: &mut Vec<u8>, conditions: usize, pair: (Vector, Vector)) -> Re
     put_vector(text, conditions, second)
 }
 
+/// The text of a vector of so many conditions: for each of them F, T, or a dash where it was not
+/// evaluated.
+pub fn vector_text(alloc: Global, conditions: usize, v: Vector) -> Result<Bytes, AllocError>
+    requires { conditions ≤ 32 }
+    ensures { IfOk result (λ text. text ≡ vector_text conditions v) }
+{
+    let mut text = Vec::new(alloc);
+    put_vector(&mut text, conditions, v)?;
+    Ok(Bytes::from(text))
+}
+
 /// The text of a pair of vectors of so many conditions.
 pub(crate) fn pair_text(
     alloc: Global,

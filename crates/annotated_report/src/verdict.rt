@@ -16,7 +16,7 @@ use cov_base::{CondIx, Level, Vector};
 use mcdc_verdicts::{Outcomes, decision, masking, unique_cause};
 
 /// Which outcomes the vectors of a decision give.
-pub(crate) fn outcomes(dec: &Graph, vectors: &[Vector]) -> Outcomes
+pub fn outcomes(dec: &Graph, vectors: &[Vector]) -> Outcomes
     ensures given_true { (e : Expr) → dec.now ≡ graph e → result.given_true ≡ gives e true vectors.now }
     ensures given_false { (e : Expr) → dec.now ≡ graph e → result.given_false ≡ gives e false vectors.now }
 {
@@ -49,7 +49,7 @@ pub(crate) fn missing(vectors: &[Vector], given: Outcomes) -> Option<Missing>
 }
 
 /// The least pair of the level's kind that shows a condition to matter.
-pub(crate) fn shown_pair(
+pub fn shown_pair(
     level: Level,
     dec: &Graph,
     vectors: &[Vector],

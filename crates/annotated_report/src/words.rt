@@ -33,14 +33,14 @@ pub(crate) fn missing_text(missing: Missing) -> &'static str
 }
 
 /// Whether a level asks for the outcomes of decisions.
-pub(crate) fn asks_outcomes(level: Level) -> bool
+pub fn asks_outcomes(level: Level) -> bool
     ensures { result ≡ asks_outcomes level }
 {
     !matches!(level, Level::Stmt)
 }
 
 /// Whether a level asks for the pairs of conditions.
-pub(crate) fn asks_pairs(level: Level) -> bool
+pub fn asks_pairs(level: Level) -> bool
     ensures { result ≡ asks_pairs level }
 {
     matches!(level, Level::Mcdc | Level::UcMcdc)

@@ -5,11 +5,13 @@ ghost use Rattle.object_format.specs.Checked.{IsSound};
 
 use crate::blobs::Blobs;
 use crate::decisions::Question;
+use crate::listed::Form;
 use crate::reply::Reply;
 use crate::sources::Reading;
 use crate::words::split_word;
 use crate::{
-    consolidated, decisions, generics, images, instructions, lists, objects, pieces, runs, sources,
+    consolidated, decisions, generics, images, instructions, listed, lists, objects, pieces, runs,
+    sources,
 };
 use decision_map::{DecisionMap, checked_objects_have_maps};
 use generated_images::Draft;
@@ -72,6 +74,8 @@ fn of_latest(alloc: Global, out: &mut Reply, command: &str, words: &str, blob: &
         "pieces" => pieces::pieces(alloc, out, words, blob),
         "portion" => pieces::portion(alloc, out, words, blob),
         "consolidated" => consolidated::consolidated(alloc, out, blob),
+        "listed" => listed::listed(alloc, out, Form::Listing, words, blob),
+        "told" => listed::listed(alloc, out, Form::Json, words, blob),
         _ => out.refuse("no such command"),
     }
 }

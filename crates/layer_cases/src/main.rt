@@ -28,6 +28,7 @@ mod generics;
 mod images;
 mod instructions;
 mod laws;
+mod listed;
 mod lists;
 mod objects;
 mod pieces;

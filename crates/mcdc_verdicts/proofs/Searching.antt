@@ -140,7 +140,7 @@ best_is_least test vectors =
     (all_beat test vectors vectors None)
 
 -- over vectors with no mark from n on, the order of all bits is that of n conditions
-same_order : (n : ℕ) (v w : Vector) → IsUnseenFrom n v → IsUnseenFrom n w → IsWord v → IsWord w →
+pub same_order : (n : ℕ) (v w : Vector) → IsUnseenFrom n v → IsUnseenFrom n w → IsWord v → IsWord w →
     precedes widest (marks v) (marks w) ≡ precedes n (marks v) (marks w)
 unfolding widest
 same_order n v w off_v off_w word_v word_w =

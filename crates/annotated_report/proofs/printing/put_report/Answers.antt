@@ -11,7 +11,7 @@ returns c =
     on_ok_weaker c.put_totals.result
     (λ last. in_three c.args.text.now.items one c.put_findings.new.text.items c.put_totals.new.text.items _ _ _
     c.in_ok-put_head.ensures
-    (c.in_ok-put_findings.ensures ∙ ap (λ regions. one ++ violations_text names regions c.as_slice.result.now) c.as_slice-regions.ensures
+    (c.in_ok-put_findings.ensures ∙ ap (λ regions. one ++ violations_text names regions c.as_slice.result.now) (c.of.ensures ∙ c.as_slice-regions.ensures)
     ∙ ap (λ found. one ++ violations_text names c.args.obligations.now.regions found) c.as_slice.ensures.value)
     last)
     c.put_totals.ensures

@@ -1,0 +1,9 @@
+pub mod Letters
+pub mod Floatless
+pub mod Added
+pub mod Shown
+pub mod Agreeing
+pub mod Distinctness
+pub mod AlikeEvents
+pub mod GivenPairs
+pub mod Examples

@@ -1,0 +1,4 @@
+pub mod Distinct
+pub mod Objects
+pub mod Caller
+pub mod Text

@@ -1,0 +1,6 @@
+pub mod Feeds
+pub mod Same
+pub mod Telling
+pub mod Rounds
+pub mod Alike
+mod Examples

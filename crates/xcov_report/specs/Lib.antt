@@ -1,0 +1,5 @@
+pub mod Told
+pub mod Text
+pub mod Table
+pub mod Obliged
+pub mod Listing
