@@ -1,5 +1,5 @@
 -- The tokens of a source.
-use Rattle.std.specs.Prelude.{◌≡◌, ℕ, zero, suc, ◌+◌, ◌-◌, ◌<◌, ◌≤◌, List, [], ◌∷◌, ◌==◌, Option, Some, None, Result, Ok, Err, if◌then◌else◌, length, take, ◌⊎◌, IsAscii}
+use Rattle.std.specs.Prelude.{◌≡◌, ℕ, zero, suc, ◌+◌, ◌-◌, ◌<◌, ◌≤◌, List, [], ◌∷◌, ◌==◌, Option, Some, None, Result, Ok, Err, if◌then◌else◌, length, take, ◌⊎◌, All, AllPairs, IsAscii}
 use Rattle.std.specs.List.{slice_range}
 use Rattle.cov_base.specs.declared.failure.Failure.{Failure}
 use Rattle.cov_base.specs.declared.failure.Failure.TheVariants.{Fault, WantOfMemory}
@@ -77,6 +77,11 @@ StandBetween from (token ∷ tokens) to = (from ≤ token.from) × (token.from <
 -- a place stands before another
 abbrev pub IsBefore : Pos → Pos → Type 0
 IsBefore place later = (place.line < later.line) ⊎ ((place.line ≡ later.line) × (place.col < later.col))
+
+-- tokens of a source, in the order of its text
+pub record AreTokensOf (file : ℕ) (source : List ℕ) (tokens : List Token) : Type 0 where
+  pub each : All (IsTokenOf file source) tokens
+  pub places : AllPairs (λ a b. IsBefore a.pos b.pos) tokens
 
 -- a failed call met this fault, where memory wasn't refused
 abbrev pub Fails : Failure LexFault → Tokens → Type 0

@@ -1,7 +1,7 @@
--- How much of the language is open today.
+-- How much of the grammar sources are read by.
 use Rattle.expression_parser.specs.declared.extent.Extent.{Extent}
-use Rattle.expression_parser.specs.declared.extent.Extent.TheVariants.{Generics}
+use Rattle.expression_parser.specs.declared.extent.Extent.TheVariants.{Whole}
 
--- the extent whose productions are the language of today
+-- all of it
 abbrev pub open_extent : Extent
-open_extent = Generics
+open_extent = Whole

@@ -3,8 +3,8 @@
 //!
 //! The grammar stands in `specs/` as what token lists derive, a case for each production; it knows
 //! nothing of the parser. Productions open with an [`Extent`](expression_parser::Extent): [`parse`] is for
-//! the language that is open today, and [`parse_within`] for any extent. The tokens are read with one of
-//! them in view; that this reading is the derivation is proved in `proofs/`, for every extent.
+//! the whole language, and [`parse_within`] for any extent. The tokens are read with one of them in
+//! view; that this reading is the derivation is proved in `proofs/`, for every extent.
 //!
 //! The contract that the layers above use: [`parse`] answers the units that the tokens derive, or
 //! else, where they derive none, the place at which they are refused. [`count_nodes`] answers how many

@@ -16,8 +16,8 @@ use expression_parser::{Extent, Fault, Parser};
 use std::alloc::Global;
 use thiserror::Error;
 
-/// How much of the language is open today.
-const OPEN_EXTENT: Extent = Extent::Generics;
+/// How much of the grammar sources are read by: all of it.
+const OPEN_EXTENT: Extent = Extent::Whole;
 
 /// The tokens derive no file. The place is that of the first token with which the tokens so far
 /// begin none, or, where there is no such token, that of the last one. Without tokens it is line 1
@@ -74,7 +74,7 @@ pub fn parse_within(
     }
 }
 
-/// The library units of a file of the language as it is open today, from its tokens.
+/// The library units of a file of the whole language, from its tokens.
 pub fn parse(alloc: Global, tokens: &[Token]) -> Result<Vec<Unit>, Failure<SyntaxFault>>
     ensures tree { IfOk result (λ units. IsFile open_extent units.items tokens.now) }
     ensures only_tree { IfOk result (λ units. refusal.IsOnlyFile open_extent tokens.now units.items) }

@@ -149,7 +149,7 @@ least_pair_is n test vectors =
 none_before : (a b : ℕ) (p q : Bool) → (nat_lt a b || nat_eq a b && p) ≡ false → (nat_lt b a || nat_eq b a && q) ≡ false → (a ≡ b) × (p ≡ false) × (q ≡ false)
 none_before a b p q h l = grind (arith, nat_tests)
 
-same_text : (n c : ℕ) (v w : Marks) → precedes_from c n v w ≡ false → precedes_from c n w v ≡ false → vector_from c n v ≡ vector_from c n w
+pub same_text : (n c : ℕ) (v w : Marks) → precedes_from c n v w ≡ false → precedes_from c n w v ≡ false → vector_from c n v ≡ vector_from c n w
 same_text zero c v w h l = refl
 same_text (suc n) c v w h l =
     let k = none_before (rank v c) (rank w c) (precedes_from (suc c) n v w) (precedes_from (suc c) n w v) h l in

@@ -16,3 +16,4 @@ pub mod Sorted
 pub mod Listed
 pub mod PairedEvents
 pub mod Halving
+pub mod Holding

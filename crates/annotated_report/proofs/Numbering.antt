@@ -34,3 +34,10 @@ same_sum f g n [] h = refl
 same_sum f g n (x ∷ xs) h =
     ap (λ k. k + sum_numbered f (n + 1) xs) (h 0 n x (omega arith) refl)
     ∙ ap (λ k. g n x + k) (same_sum f g (n + 1) xs (rest_agree f g n x xs h))
+
+-- items that are numbered from the next number on
+pub numbered_later : {X Y : Type 0} (f : ℕ → X → List Y) (n : ℕ) (xs : List X) → each_numbered f (n + 1) xs ≡ each_numbered (λ k x. f (suc k) x) n xs
+numbered_later f n [] = refl
+numbered_later f n (x ∷ xs) =
+    let next : n + 1 ≡ suc n = omega arith in
+    ap (λ k. f k x ++ each_numbered f (n + 1 + 1) xs) next ∙ ap (λ l. f (suc n) x ++ l) (numbered_later f (n + 1) xs)

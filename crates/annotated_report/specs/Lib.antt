@@ -9,6 +9,7 @@ pub mod Shown
 pub mod Caller
 pub mod Lines
 pub mod Rising
+pub mod Held
 pub mod Report
 pub mod Paired
 pub mod Members

@@ -11,13 +11,15 @@
 //! A layer that prints the same verdicts in another form uses the parts. [`started`] and [`collect`]
 //! sort events by statement and by decision; [`outcomes`], [`shown_pair`] and [`in_order_once`] say
 //! what the vectors of a decision show; [`judge`] finds what is left to show at a level, which
-//! [`violations`] and [`exempted`] divide by regions; [`level_word`] and [`vector_text`] are the words.
+//! [`violations`] and [`exempted`] divide by regions and [`held_counts`] counts by them; [`level_word`]
+//! and [`vector_text`] are the words.
 #![tactic(auto)]
 
 mod conditions;
 mod decisions;
 mod evaluations;
 mod finding;
+mod held;
 mod judgement;
 mod laws;
 mod lines;
@@ -34,6 +36,7 @@ mod words;
 pub use conditions::Found;
 pub use evaluations::{Evaluations, collect};
 pub use finding::{Finding, Key, Missing, PairLine, Subject};
+pub use held::held_counts;
 pub use judgement::{Judged, judge};
 pub use laws::{
     pairs_are_of_events, the_report_ends_in_all_least_pairs, the_text_depends_on_the_set_of_events,

@@ -1,8 +1,9 @@
-//! The regions of a report, and which of them holds a place.
+//! Regions of a report: which of them holds a place.
 
-ghost use Rattle.std.specs.Prelude.{◌≡◌, ◌<◌, ◌≤◌, length, option_map};
+ghost use Rattle.std.specs.Prelude.{◌≡◌, ◌<◌, ◌≤◌, ◌+◌, ℕ, length, option_map, IfSome};
 ghost use Rattle.std.specs.Bool.{IsTrue};
 ghost use Rattle.exemptions.specs.Regions.{start_of, end_of, is_exempt};
+ghost use Rattle.annotated_report.specs.Held.{number_round};
 ghost use Rattle.annotated_report.specs.Lines as lines;
 ghost use Rattle.annotated_report.specs.Rising.{is_behind, rise, begins_before};
 
@@ -49,14 +50,32 @@ impl<'a> Regions<'a> {
         }
     }
 
+    /// How many there are.
+    pub fn len(&self) -> usize
+        ensures { result ≡ length self.now }
+    {
+        self.list.len()
+    }
+
+    /// The number of the first region that holds a place.
+    pub fn number(&self, pos: Pos) -> Option<usize>
+        ensures number { result ≡ number_round pos 0 self.now }
+        ensures within { IfSome result (λ n. n < length self.now) }
+    {
+        if self.is_rising {
+            return rising_number(self.list, pos);
+        }
+        number_round(self.list, pos)
+    }
+
     /// The first region that holds a place.
     pub fn round(&self, pos: Pos) -> Option<&Region>
         ensures { option_map (λ region. region.now) result ≡ lines.region_round pos self.now }
     {
-        if self.is_rising {
-            return region_round(last_begun(self.list, pos), pos);
+        match self.number(pos) {
+            Some(number) => Some(&self.list[number]),
+            None => None,
         }
-        region_round(self.list, pos)
     }
 
     /// Whether a region holds a place.
@@ -67,43 +86,65 @@ impl<'a> Regions<'a> {
     }
 }
 
-/// The first region that holds a place, by going through the list.
-fn region_round(regions: &[Region], pos: Pos) -> Option<&Region>
-    ensures { option_map (λ region. region.now) result ≡ lines.region_round pos regions.now }
+/// The number of the first region that holds a place, by going through the list.
+fn number_round(regions: &[Region], pos: Pos) -> Option<usize>
+    ensures number { result ≡ number_round pos 0 regions.now }
+    ensures within { IfSome result (λ n. n < length regions.now) }
 {
-    for region in regions {
+    for (number, region) in regions.iter().enumerate() {
         if exempt(std::slice::from_ref(region), pos) {
-            return Some(region);
+            return Some(number);
         }
     }
     None
 }
 
-/// Of regions at most one. Where they rise, it is the only one that may hold the place.
-fn last_begun(regions: &[Region], pos: Pos) -> &[Region]
-    ensures few { length result.now ≤ 1 }
-    ensures same { IsTrue (rise regions.now) → lines.region_round pos result.now ≡ lines.region_round pos regions.now }
+/// The same by halves, where the regions rise.
+fn rising_number(regions: &[Region], pos: Pos) -> Option<usize>
+    ensures number { IsTrue (rise regions.now) → result ≡ number_round pos 0 regions.now }
+    ensures within { IfSome result (λ n. n < length regions.now) }
 {
-    let mut rest = regions;
-    while rest.len() > 1 {
-        rest = half_round(rest, pos);
+    let (before, rest) = last_begun(regions, pos);
+    match number_round(rest, pos) {
+        Some(at) => Some(before + at),
+        None => None,
     }
-    rest
 }
 
-/// Half of the regions: the later ones, if the first of them begins before the place. Where the
-/// regions rise, none of the others holds it.
-fn half_round(regions: &[Region], pos: Pos) -> &[Region]
-    requires { 1 < length regions.now }
-    ensures fewer { length result.now < length regions.now }
-    ensures risen { IsTrue (rise regions.now) → IsTrue (rise result.now) }
-    ensures same { IsTrue (rise regions.now) → lines.region_round pos result.now ≡ lines.region_round pos regions.now }
+/// Of regions at most one, and how many stand before it. Where they rise, it is the only one that may
+/// hold the place.
+fn last_begun(regions: &[Region], pos: Pos) -> (usize, &[Region])
+    ensures few { length result.1.now ≤ 1 }
+    ensures within { result.0 + length result.1.now ≤ length regions.now }
+    ensures same { IsTrue (rise regions.now)
+        → number_round pos result.0 result.1.now ≡ number_round pos 0 regions.now }
 {
-    let (earlier, later) = regions.split_at(regions.len() / 2);
-    if begins_before(later, pos) {
-        return later;
+    let mut before = 0;
+    let mut rest = regions;
+    while rest.len() > 1 {
+        let (passed, half) = half_round(rest, pos);
+        before += passed;
+        rest = half;
     }
-    earlier
+    (before, rest)
+}
+
+/// Half of the regions, and how many stand before it: the later ones, if the first of them begins before
+/// the place. Where the regions rise, none of the others holds it.
+fn half_round(regions: &[Region], pos: Pos) -> (usize, &[Region])
+    requires { 1 < length regions.now }
+    ensures fewer { length result.1.now < length regions.now }
+    ensures within { result.0 + length result.1.now ≤ length regions.now }
+    ensures risen { IsTrue (rise regions.now) → IsTrue (rise result.1.now) }
+    ensures same { (before : ℕ) → IsTrue (rise regions.now)
+        → number_round pos (before + result.0) result.1.now ≡ number_round pos before regions.now }
+{
+    let half = regions.len() / 2;
+    let (earlier, later) = regions.split_at(half);
+    if begins_before(later, pos) {
+        return (half, later);
+    }
+    (0, earlier)
 }
 
 /// Whether each region is behind the one before it.

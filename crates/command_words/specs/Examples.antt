@@ -1,7 +1,9 @@
 -- Worked examples: command lines, and what they ask for.
 use Rattle.std.specs.Prelude.{◌≡◌, ℕ, List, [], ◌∷◌, replicate, Option, Some, None, codes}
+use Rattle.cov_base.specs.declared.level.Level.{Level}
 use Rattle.cov_base.specs.declared.level.Level.TheVariants.{Stmt, Decision, Mcdc, UcMcdc}
-use Rattle.cov_base.specs.declared.level.Annotation.TheVariants.{Report}
+use Rattle.cov_base.specs.declared.level.Annotation.{Annotation}
+use Rattle.cov_base.specs.declared.level.Annotation.TheVariants.{Report, Xcov, Json}
 use Rattle.command_words.specs.Task.{Task, Compile, Run, Coverage, Consolidate, task_of}
 
 -- the words of `gnatcov compile` and of each other command, with more words after them
@@ -19,6 +21,10 @@ consolidate words = codes "gnatcov" ∷ codes "consolidate" ∷ words
 
 abbrev pub ran : ℕ → Option Task
 ran budget = Some (Run (codes "I") budget (codes "T") (codes "O"))
+
+-- the command that shows coverage so, from these traces
+abbrev pub covered : Level → Annotation → List (List ℕ) → Option Task
+covered level annotation traces = Some (Coverage level annotation (codes "O") traces)
 
 -- the command that compiles these sources
 abbrev pub made : List (List ℕ) → Option Task
@@ -56,13 +62,28 @@ Runs =
 -- no trace, and two, at each level
 abbrev pub Covers : Type 0
 Covers =
-    (task_of (coverage (codes "--level=stmt" ∷ codes "--annotate=report" ∷ codes "--object=O" ∷ [])) ≡ Some (Coverage Stmt Report (codes "O") []))
+    (task_of (coverage (codes "--level=stmt" ∷ codes "--annotate=report" ∷ codes "--object=O" ∷ []))
+    ≡ covered Stmt Report [])
     × (task_of (coverage (codes "T" ∷ codes "--level" ∷ codes "stmt" ∷ codes "--annotate=report" ∷ codes "--object=O" ∷ codes "U" ∷ []))
-    ≡ Some (Coverage Stmt Report (codes "O") (codes "T" ∷ codes "U" ∷ [])))
+    ≡ covered Stmt Report (codes "T" ∷ codes "U" ∷ []))
     × (task_of (coverage (codes "--level=stmt+decision" ∷ codes "--annotate=report" ∷ codes "--object=O" ∷ codes "T" ∷ []))
-    ≡ Some (Coverage Decision Report (codes "O") (codes "T" ∷ [])))
-    × (task_of (coverage (codes "--level=stmt+mcdc" ∷ codes "--annotate=report" ∷ codes "--object=O" ∷ [])) ≡ Some (Coverage Mcdc Report (codes "O") []))
-    × (task_of (coverage (codes "--level=stmt+uc_mcdc" ∷ codes "--annotate=report" ∷ codes "--object=O" ∷ [])) ≡ Some (Coverage UcMcdc Report (codes "O") []))
+    ≡ covered Decision Report (codes "T" ∷ []))
+    × (task_of (coverage (codes "--level=stmt+mcdc" ∷ codes "--annotate=report" ∷ codes "--object=O" ∷ []))
+    ≡ covered Mcdc Report [])
+    × (task_of (coverage (codes "--level=stmt+uc_mcdc" ∷ codes "--annotate=report" ∷ codes "--object=O" ∷ []))
+    ≡ covered UcMcdc Report [])
+
+-- annotated sources and JSON, without a trace and with two, at different levels
+abbrev pub CoversInEachForm : Type 0
+CoversInEachForm =
+    (task_of (coverage (codes "--level=stmt" ∷ codes "--annotate=xcov" ∷ codes "--object=O" ∷ []))
+    ≡ covered Stmt Xcov [])
+    × (task_of (coverage (codes "T" ∷ codes "--annotate" ∷ codes "xcov" ∷ codes "--level=stmt+uc_mcdc" ∷ codes "--object=O" ∷ codes "U" ∷ []))
+    ≡ covered UcMcdc Xcov (codes "T" ∷ codes "U" ∷ []))
+    × (task_of (coverage (codes "--level=stmt+decision" ∷ codes "--annotate=json" ∷ codes "--object=O" ∷ []))
+    ≡ covered Decision Json [])
+    × (task_of (coverage (codes "--level=stmt+mcdc" ∷ codes "--annotate=json" ∷ codes "--object=O" ∷ codes "T" ∷ codes "U" ∷ []))
+    ≡ covered Mcdc Json (codes "T" ∷ codes "U" ∷ []))
 
 -- no trace, and two, one of them twice
 abbrev pub Consolidates : Type 0
@@ -92,8 +113,8 @@ Lacks =
     × (task_of (consolidate (codes "--object=O" ∷ codes "T" ∷ [])) ≡ None)
     × (task_of (consolidate (codes "-o" ∷ codes "F" ∷ codes "T" ∷ [])) ≡ None)
 
--- 65 sources, a name of 4097 bytes, a budget out of its range, a level that there is not, and a form that there is not
--- yet
+-- 65 sources, a name of 4097 bytes, a budget out of its range, a level that there is not, and forms that there are not:
+-- of another name, in capitals, without a name
 abbrev pub Exceeds : Type 0
 Exceeds =
     (task_of (compile (codes "--main=M" ∷ codes "-oO" ∷ replicate 65 (codes "S"))) ≡ None)
@@ -101,4 +122,6 @@ Exceeds =
     × (task_of (run (codes "--input=I" ∷ codes "--budget=0" ∷ codes "-o" ∷ codes "T" ∷ codes "O" ∷ [])) ≡ None)
     × (task_of (run (codes "--input=I" ∷ codes "--budget=4294967296" ∷ codes "-o" ∷ codes "T" ∷ codes "O" ∷ [])) ≡ None)
     × (task_of (coverage (codes "--level=mcdc" ∷ codes "--annotate=report" ∷ codes "--object=O" ∷ [])) ≡ None)
-    × (task_of (coverage (codes "--level=stmt" ∷ codes "--annotate=xcov" ∷ codes "--object=O" ∷ [])) ≡ None)
+    × (task_of (coverage (codes "--level=stmt" ∷ codes "--annotate=html" ∷ codes "--object=O" ∷ [])) ≡ None)
+    × (task_of (coverage (codes "--level=stmt" ∷ codes "--annotate=JSON" ∷ codes "--object=O" ∷ [])) ≡ None)
+    × (task_of (coverage (codes "--level=stmt" ∷ codes "--annotate=" ∷ codes "--object=O" ∷ [])) ≡ None)

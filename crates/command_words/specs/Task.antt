@@ -6,7 +6,7 @@ use Rattle.clap.specs.Words.{Row, Text, all_of, first_of, one_of}
 use Rattle.cov_base.specs.declared.level.Level.{Level}
 use Rattle.cov_base.specs.declared.level.Level.TheVariants.{Stmt, Decision, Mcdc, UcMcdc}
 use Rattle.cov_base.specs.declared.level.Annotation.{Annotation}
-use Rattle.cov_base.specs.declared.level.Annotation.TheVariants.{Report}
+use Rattle.cov_base.specs.declared.level.Annotation.TheVariants.{Report, Xcov, Json}
 use Rattle.command_words.specs.Lines.{compile_app, consolidate_app, coverage_app, given, number_of, run_app}
 
 -- what the words ask for, each name as its bytes; the budget is a number of instructions
@@ -31,9 +31,13 @@ level_named name =
     else if bytes_eq name (codes "stmt+uc_mcdc") then Some UcMcdc
     else None
 
--- the forms of a report that there are so far
+-- the forms in which coverage is shown
 abbrev pub annotation_named : Text → Option Annotation
-annotation_named name = if bytes_eq name (codes "report") then Some Report else None
+annotation_named name =
+    if bytes_eq name (codes "report") then Some Report
+    else if bytes_eq name (codes "xcov") then Some Xcov
+    else if bytes_eq name (codes "json") then Some Json
+    else None
 
 -- ---- compile
 

@@ -1,7 +1,7 @@
 //! Worked examples of command lines, as clauses. They are shown by computing what the definitions of
 //! `specs/Task.antt` make of the words.
 
-ghost use Rattle.command_words.specs.Examples.{Compiles, CompilesSeveral, Runs, Covers, Consolidates, Asks, Lacks, Exceeds};
+ghost use Rattle.command_words.specs.Examples.{Compiles, CompilesSeveral, Runs, Covers, CoversInEachForm, Consolidates, Asks, Lacks, Exceeds};
 
 /// Words that are commands.
 pub fn accepted()
@@ -9,6 +9,7 @@ pub fn accepted()
     ensures several { CompilesSeveral }
     ensures run { Runs }
     ensures coverage { Covers }
+    ensures forms { CoversInEachForm }
     ensures consolidate { Consolidates }
 {}
 

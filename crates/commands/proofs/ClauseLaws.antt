@@ -1,17 +1,23 @@
 -- What a reader may use of a call, out of why its status comes.
-use Rattle.std.proofs.Common.{◌≡◌, ◌≢◌, ◌⊎◌, ℕ, ◌+◌, List, [], ◌∷◌, Option, None, Some, IsSome, IfSome, MatchOption, Result, Ok, Err, inl, inr, refl, sym, ◌∙◌, ap, subst}
+use Rattle.std.proofs.Common.{◌≡◌, ◌≢◌, ◌⊎◌, ℕ, ◌+◌, List, [], ◌∷◌, ◌++◌, Option, None, Some, IsSome, IfSome, MatchOption, Result, Ok, Err, inl, inr, refl, sym, ◌∙◌, ap, subst}
 use Rattle.std.specs.FinMap as finmap
 use Rattle.std.specs.List.{AllByRecursion}
 use Rattle.command_words.specs.Task.{Task, Compile, Run, Coverage, Consolidate}
+use Rattle.cov_base.specs.declared.level.Annotation.{Annotation}
+use Rattle.cov_base.specs.declared.level.Level.{Level}
 use Rattle.cov_base.specs.declared.obligations.SourceFile.{SourceFile}
 use Rattle.cov_io.specs.Outside.{Held, WhereTold, Replaces, SameBut}
 use Rattle.commands.specs.declared.status.Status.{Status}
-use Rattle.commands.specs.declared.status.Status.TheVariants.{Done, Usage, SourceRefused, ObjectRefused, TraceRefused, InputRefused, OverBudget, Trap, ReadFault, WriteFault, WantOfMemory}
-use Rattle.commands.specs.Clauses.{UsageIsExact, AreThere, DoneIsWhole, RefusalsLeaveFiles, OthersStay, RefusalsPutOneLine, RisenReadsAreTold, ReadFaultHasCause, WriteFaultHasCause}
-use Rattle.commands.specs.Outcome.{Call, Answers, Because, HasFile, HasSpoilt, IsNamed, Delivered}
-use Rattle.commands.specs.TaskFiles.{output_of}
-use Rattle.commands.specs.Verdict.{NewFile, Output, AfterSources, AfterTraces, Compiles, Covers, Consolidates, ComesTo}
+use Rattle.commands.specs.declared.status.Status.TheVariants.{Done, Usage, SourceRefused, ObjectRefused, TraceRefused, InputRefused, OverBudget, Trap, SourceChanged, ReadFault, WriteFault, WantOfMemory}
+use Rattle.commands.specs.Clauses.{UsageIsExact, AreThere, DoneIsWhole, RefusalsLeaveFiles, OthersStay, IsToldName, RefusalsPutOneLine, RisenReadsAreTold, ReadFaultHasCause, WriteFaultHasCause}
+use Rattle.commands.specs.Lines.{line_of}
+use Rattle.commands.specs.Outcome.{Call, Answers, Because, HasFile, HasSpoilt, IsNamed, Delivered, PutsRefusal, PutsText}
+use Rattle.commands.specs.TaskFiles.{entry_names, names_read, output_of, read_for}
+use Rattle.commands.specs.Verdict.{NewFile, Output, AfterSources, AfterTraces, Compiles, Covers, Prints, Consolidates, ComesTo}
+use Rattle.commands.proofs.KeptLaws.{kept_follow, names_are}
+use Rattle.object_format.proofs.FileLaws.{structured_only}
 use Rattle.object_format.specs.declared.object.Object.{Object}
+use Rattle.object_format.specs.File.{structured}
 
 -- an output, as a verdict
 abbrev succeeds : Output → Result Output Status
@@ -33,19 +39,32 @@ some_there : (held : Option (List ℕ)) (P : List ℕ → Type 0) (A : Type 0) �
 some_there None P A there h f = absurd (cc)
 some_there (Some bytes) P A there h f = f bytes h
 
--- each trace is there where reading them came to an output
+-- each of these names is there
+abbrev AreIn : Held → List (List ℕ) → Type 0
+AreIn held names = AllByRecursion (λ name. IsSome (finmap.get held name)) names
+
+both_in : (held : Held) (names others : List (List ℕ)) → AreIn held names → AreIn held others → AreIn held (names ++ others)
+both_in held [] others first second = second
+both_in held (name ∷ names) others first second = (first.0, both_in held names others first.1 second)
+
+-- each trace is there where reading them came to an output, and what follows holds of it
+record AreThereWith (held : Held) (names : List (List ℕ)) (Then : List (List ℕ) → Result Output Status → Type 0) (output : Output) : Type 0 where
+  there : AreIn held names
+  traces : List (List ℕ)
+  says : Then traces (Ok output)
+
 traces_there : (held : Held) (o : Object) (number : ℕ) (names : List (List ℕ)) (Then : List (List ℕ) → Result Output Status → Type 0) (output : Output)
-    → AfterTraces held o number names Then (Ok output) → AllByRecursion (λ name. IsSome (finmap.get held name)) names
-traces_there held o number [] Then output h = tt
+    → AfterTraces held o number names Then (Ok output) → AreThereWith held names Then output
+traces_there held o number [] Then output h = record { there = tt; traces = []; says = h }
 traces_there held o number (name ∷ names) Then output h =
     let first = read_there (finmap.get held name) _ output _ h in
-    let others = some_there (finmap.get held name) _ _ first.0 (passed (finmap.get held name) (λ _. ⊥) _ first.1)
-    (λ trace next. traces_there held o (number + 1) names (λ traces. Then (trace ∷ traces)) output next.1) in
-    (first.0, others)
+    some_there (finmap.get held name) _ (AreThereWith held (name ∷ names) Then output) first.0 (passed (finmap.get held name) (λ _. ⊥) _ first.1)
+    (λ trace next. let rest = traces_there held o (number + 1) names (λ traces. Then (trace ∷ traces)) output next.1 in
+    record { there = (first.0, rest.there); traces = trace ∷ rest.traces; says = rest.says })
 
 -- each source is there where reading them came to an output
 sources_there : (held : Held) (place : ℕ) (names : List (List ℕ)) (Then : List SourceFile → Result Output Status → Type 0) (output : Output)
-    → AfterSources held place names Then (Ok output) → AllByRecursion (λ name. IsSome (finmap.get held name)) names
+    → AfterSources held place names Then (Ok output) → AreIn held names
 sources_there held place [] Then output h = tt
 sources_there held place (name ∷ names) Then output h =
     let first = read_there (finmap.get held name) _ output _ h in
@@ -53,21 +72,40 @@ sources_there held place (name ∷ names) Then output h =
     (λ bytes next. sources_there held (place + 1) names (λ others. Then (record { name = name; bytes = bytes } ∷ others)) output next) in
     (first.0, others)
 
+-- what is told of a file that is there
+bytes_of : (held : Option (List ℕ)) (P : List ℕ → Type 0) → IsSome held → IfSome held P → (bytes : List ℕ) × (held ≡ Some bytes) × P bytes
+bytes_of None P there says = absurd (cc)
+bytes_of (Some bytes) P there says = (bytes, refl, says)
+
+-- each file of a coverage is there where it came to an output
+covered_there : (held : Held) (level : Level) (annotation : Annotation) (object : List ℕ) (traces : List (List ℕ)) (output : Output)
+    → ComesTo held (Coverage level annotation object traces) (Ok output) → AreThere (Some held) (Coverage level annotation object traces)
+covered_there held level annotation object traces output h =
+    let first = read_there (finmap.get held object) _ output _ h in
+    let read = bytes_of (finmap.get held object) _ first.0 (passed (finmap.get held object) (λ _. ⊥) _ first.1) in
+    let o = read.2.0 in
+    let spelled : structured read.0 ≡ Ok o = ap structured read.2.1.spelled ∙ structured_only o read.2.1.checked.closed in
+    let named = names_are annotation (finmap.get held object) read.0 o read.1 spelled in
+    let traced = traces_there held o 1 traces (Covers held level annotation o) output read.2.2 in
+    let kept = kept_follow held 0 (read_for annotation o.files) (Prints held level annotation o traced.traces) output traced.says in (
+      first.0,
+      both_in held traces (names_read annotation (finmap.get held object)) traced.there
+          (subst (λ (names : List (List ℕ)). AreIn held names) (sym named) kept.there),
+    )
+
 -- each file is there where the task came to an output
 there : (held : Held) (task : Task) (output : Output) → ComesTo held task (Ok output) → AreThere (Some held) task
-there held (Compile main object sources) output h = sources_there held 0 sources (Compiles main object) output h
+there held (Compile main object sources) output h = both_in held sources [] (sources_there held 0 sources (Compiles main object) output h) tt
 there held (Run input budget trace object) output h =
     let first = read_there (finmap.get held object) _ output _ h in
     let second = some_there (finmap.get held object) _ _ first.0 (passed (finmap.get held object) (λ _. ⊥) _ first.1) (λ bytes next. (read_there (finmap.get held input) _ output _ next.2).0) in
     (first.0, (second, tt))
-there held (Coverage level annotation object traces) output h =
-    let first = read_there (finmap.get held object) _ output _ h in
-    let others = some_there (finmap.get held object) _ _ first.0 (passed (finmap.get held object) (λ _. ⊥) _ first.1) (λ bytes next. traces_there held next.0 1 traces (Covers level annotation next.0) output next.2) in
-    (first.0, others)
+there held (Coverage level annotation object traces) output h = covered_there held level annotation object traces output h
 there held (Consolidate object name traces) output h =
     let first = read_there (finmap.get held object) _ output _ h in
-    let others = some_there (finmap.get held object) _ _ first.0 (passed (finmap.get held object) (λ _. ⊥) _ first.1) (λ bytes next. traces_there held next.0 1 traces (Consolidates name next.0) output next.2) in
-    (first.0, others)
+    let others = some_there (finmap.get held object) _ _ first.0 (passed (finmap.get held object) (λ _. ⊥) _ first.1)
+    (λ bytes next. (traces_there held next.0 1 traces (Consolidates name next.0) output next.2).there) in
+    (first.0, both_in held traces [] others tt)
 
 -- the same where the files may not tell
 all_there : (held : Option Held) (task : Task) (output : Output) → IfSome held (λ told. ComesTo told task (Ok output)) → AreThere held task
@@ -94,33 +132,40 @@ leaves task call Done a = λ d w. absurd (d refl)
 leaves task call Usage a = absurd a
 leaves task call WriteFault a = λ d w. absurd (w refl)
 leaves task call WantOfMemory a = λ d w. (a.files, a.writes)
-leaves task call (ReadFault file) a = λ d w. (a.1.files, a.1.writes)
-leaves task call (SourceRefused file line col why) a = λ d w. (a.1.files, a.1.writes)
-leaves task call (ObjectRefused why) a = λ d w. (a.1.files, a.1.writes)
-leaves task call (TraceRefused index why) a = λ d w. (a.1.files, a.1.writes)
-leaves task call (InputRefused line) a = λ d w. (a.1.files, a.1.writes)
-leaves task call (OverBudget count) a = λ d w. (a.1.files, a.1.writes)
-leaves task call (Trap pc why) a = λ d w. (a.1.files, a.1.writes)
+leaves task call (SourceChanged file) a = λ d w. (a.1.ends.files, a.1.ends.writes)
+leaves task call (ReadFault file) a = λ d w. (a.1.ends.files, a.1.ends.writes)
+leaves task call (SourceRefused file line col why) a = λ d w. (a.1.ends.files, a.1.ends.writes)
+leaves task call (ObjectRefused why) a = λ d w. (a.1.ends.files, a.1.ends.writes)
+leaves task call (TraceRefused index why) a = λ d w. (a.1.ends.files, a.1.ends.writes)
+leaves task call (InputRefused line) a = λ d w. (a.1.ends.files, a.1.ends.writes)
+leaves task call (OverBudget count) a = λ d w. (a.1.ends.files, a.1.ends.writes)
+leaves task call (Trap pc why) a = λ d w. (a.1.ends.files, a.1.ends.writes)
 
 pub files_law : (task : Option Task) (call : Call) (status : Status) → Answers task call status → RefusalsLeaveFiles call status
 files_law None call status a = λ d w. (a.2.files, a.2.writes)
 files_law (Some task) call status a = leaves task call status a
 
+-- what was put of a refusal
+put_of : (task : Task) (call : Call) (status : Status) → PutsRefusal task call status
+    → (name : List ℕ) × IsToldName call.held (Some task) status name × PutsText (line_of name status) call.written call.written_after call.failures call.failures_after
+put_of task call status a = (a.name, a.named, a.ends.puts)
+
 puts_line : (task : Task) (call : Call) (status : Status) → Because task call status → RefusalsPutOneLine (Some task) call status
 puts_line task call Done a = λ d w. absurd (d refl)
 puts_line task call Usage a = absurd a
 puts_line task call WriteFault a = λ d w. absurd (w refl)
-puts_line task call WantOfMemory a = λ d w. a.puts
-puts_line task call (ReadFault file) a = λ d w. a.1.puts
-puts_line task call (SourceRefused file line col why) a = λ d w. a.1.puts
-puts_line task call (ObjectRefused why) a = λ d w. a.1.puts
-puts_line task call (TraceRefused index why) a = λ d w. a.1.puts
-puts_line task call (InputRefused line) a = λ d w. a.1.puts
-puts_line task call (OverBudget count) a = λ d w. a.1.puts
-puts_line task call (Trap pc why) a = λ d w. a.1.puts
+puts_line task call WantOfMemory a = λ d w. ([], refl, a.puts)
+puts_line task call (SourceChanged file) a = λ d w. put_of task call (SourceChanged file) a.1
+puts_line task call (ReadFault file) a = λ d w. put_of task call (ReadFault file) a.1
+puts_line task call (SourceRefused file line col why) a = λ d w. put_of task call (SourceRefused file line col why) a.1
+puts_line task call (ObjectRefused why) a = λ d w. put_of task call (ObjectRefused why) a.1
+puts_line task call (TraceRefused index why) a = λ d w. put_of task call (TraceRefused index why) a.1
+puts_line task call (InputRefused line) a = λ d w. put_of task call (InputRefused line) a.1
+puts_line task call (OverBudget count) a = λ d w. put_of task call (OverBudget count) a.1
+puts_line task call (Trap pc why) a = λ d w. put_of task call (Trap pc why) a.1
 
 pub line_law : (task : Option Task) (call : Call) (status : Status) → Answers task call status → RefusalsPutOneLine task call status
-line_law None call status a = λ d w. elim a.0 [ inl usage ↦ rw usage (rw usage at a.2.puts) | inr memory ↦ rw memory (rw memory at a.2.puts) ]
+line_law None call status a = λ d w. ([], refl, a.2.puts)
 line_law (Some task) call status a = puts_line task call status a
 
 rises : (task : Task) (call : Call) (status : Status) → Because task call status → RisenReadsAreTold call status
@@ -128,6 +173,7 @@ rises task call Done a = λ rose. absurd (rose a.reads)
 rises task call Usage a = absurd a
 rises task call WriteFault a = λ rose. absurd (rose a.reads)
 rises task call WantOfMemory a = λ rose. inr refl
+rises task call (SourceChanged file) a = λ rose. absurd (rose a.0.1.0)
 rises task call (ReadFault file) a = λ rose. inl (file, refl)
 rises task call (SourceRefused file line col why) a = λ rose. absurd (rose a.0.0)
 rises task call (ObjectRefused why) a = λ rose. absurd (rose a.0.0)
@@ -201,13 +247,14 @@ others_stay task call WriteFault a name other =
       | inr failed ↦ with_file task call a.output name a.output.file refl a.named failed.file other
     ]
 others_stay task call WantOfMemory a name other = unchanged name call.held call.held_after a.files
-others_stay task call (ReadFault file) a name other = unchanged name call.held call.held_after a.1.files
-others_stay task call (SourceRefused file line col why) a name other = unchanged name call.held call.held_after a.1.files
-others_stay task call (ObjectRefused why) a name other = unchanged name call.held call.held_after a.1.files
-others_stay task call (TraceRefused index why) a name other = unchanged name call.held call.held_after a.1.files
-others_stay task call (InputRefused line) a name other = unchanged name call.held call.held_after a.1.files
-others_stay task call (OverBudget count) a name other = unchanged name call.held call.held_after a.1.files
-others_stay task call (Trap pc why) a name other = unchanged name call.held call.held_after a.1.files
+others_stay task call (SourceChanged file) a name other = unchanged name call.held call.held_after a.1.ends.files
+others_stay task call (ReadFault file) a name other = unchanged name call.held call.held_after a.1.ends.files
+others_stay task call (SourceRefused file line col why) a name other = unchanged name call.held call.held_after a.1.ends.files
+others_stay task call (ObjectRefused why) a name other = unchanged name call.held call.held_after a.1.ends.files
+others_stay task call (TraceRefused index why) a name other = unchanged name call.held call.held_after a.1.ends.files
+others_stay task call (InputRefused line) a name other = unchanged name call.held call.held_after a.1.ends.files
+others_stay task call (OverBudget count) a name other = unchanged name call.held call.held_after a.1.ends.files
+others_stay task call (Trap pc why) a name other = unchanged name call.held call.held_after a.1.ends.files
 
 pub others_law : (task : Option Task) (call : Call) (status : Status) → Answers task call status → OthersStay task call
 others_law None call status a = λ name other. unchanged name call.held call.held_after a.2.files

@@ -1,11 +1,13 @@
 -- When commands do their work.
-use Rattle.std.proofs.Common.{◌≡◌, inl, inr, ⊎_elim, ℕ, ◌+◌, ◌&&◌, Bool, true, false, ℤ, List, [], ◌∷◌, map, IfSome, MatchOption, Option, Some, None, Result, Ok, Err, refl, sym, subst, ◌∙◌}
+use Rattle.std.proofs.Common.{◌≡◌, inl, inr, ⊎_elim, ℕ, ◌+◌, Bool, true, false, ℤ, List, [], ◌∷◌, map, IfSome, MatchOption, Option, Some, None, Result, Ok, Err, refl, sym, subst, ◌∙◌}
 use Rattle.std.specs.FinMap as finmap
 use Rattle.ada_meaning.specs.Program.{Program}
 use Rattle.command_words.specs.Task.{Task, Compile, Run, Coverage, Consolidate}
 use Rattle.program_objects.proofs.Refusals.{not_refused}
 use Rattle.program_objects.specs.Behaves.{number_of}
-use Rattle.program_objects.specs.Source.{IsObjectOf}
+use Rattle.program_objects.specs.Source.{entry_of_file, IsObjectOf}
+use Rattle.cov_base.specs.declared.level.Annotation.{Annotation}
+use Rattle.cov_base.specs.declared.level.Annotation.TheVariants.{Report, Xcov, Json}
 use Rattle.cov_base.specs.declared.obligations.SourceFile.{SourceFile}
 use Rattle.cov_io.specs.Outside.{Held}
 use Rattle.cov_base.specs.declared.event.Event.{Event}
@@ -16,19 +18,21 @@ use Rattle.coverage_set.proofs.RunLaw as transcripts
 use Rattle.coverage_set.specs.Consolidated.{events_in, IsPossibleEvent}
 use Rattle.decision_map.specs.Fits.{fault_of}
 use Rattle.cov_base.specs.Lists.{Everywhere, Somewhere}
-use Rattle.commands.specs.Complete.{NothingFails, IsDone, LegalSourcesCompile, ProgramsRun, ProgramsDoNotTrap, TracesAreCovered, TracesAreConsolidated}
+use Rattle.commands.specs.Complete.{NothingFails, IsDone, LegalSourcesCompile, ProgramsRun, ProgramsDoNotTrap, SourcesAreThere, TracesAreCovered, TracesAreConsolidated}
 use Rattle.commands.specs.Content.{IsFileOf, is_consolidated, IsConsolidatedFor, IsRunTraceFor, IsTraceFor, IsInputOf, RefusesSources, RefusesConsolidated, RefusesRunTrace, RefusesTrace, StopsRun, trace_file, Follows}
 use Rattle.commands.specs.declared.status.FileRef.TheVariants.{Word}
 use Rattle.commands.specs.declared.status.Status.{Status}
-use Rattle.commands.specs.declared.status.Status.TheVariants.{Done, Usage, SourceRefused, ObjectRefused, TraceRefused, InputRefused, OverBudget, Trap, ReadFault, WriteFault, WantOfMemory}
+use Rattle.commands.specs.declared.status.Status.TheVariants.{Done, Usage, SourceRefused, ObjectRefused, TraceRefused, InputRefused, OverBudget, Trap, SourceChanged, ReadFault, WriteFault, WantOfMemory}
 use Rattle.commands.specs.Outcome.{Call, Because, Answers}
 use Rattle.commands.specs.RunsCovered.{ARun, transcript_of, IsTraceOf, IsFileOfRuns, IsWrittenOf, AreTracesOf, digest_of_run}
-use Rattle.commands.specs.TaskFiles.{AreHeld}
-use Rattle.commands.specs.Verdict.{Output, AfterRead, AfterObject, AfterInput, AfterSources, AfterTrace, AfterTraces, Compiles, RunsOn, Covers, Consolidates, ComesTo}
+use Rattle.commands.specs.Reading.{AreKept}
+use Rattle.commands.specs.TaskFiles.{AreHeld, read_for}
+use Rattle.commands.specs.Verdict.{Output, AfterRead, AfterObject, AfterInput, AfterSources, AfterTrace, AfterTraces, Compiles, RunsOn, Covers, Prints, Consolidates, ComesTo}
 use Rattle.commands.proofs.CoveringLaws.{as_consolidated, as_trace}
 use Rattle.commands.proofs.FileLaws.{file_fits, file_kind}
 use Rattle.commands.proofs.HeadlineLaws.{is_file, all_fair}
 use Rattle.commands.proofs.InputLaws.{numbers_fit}
+use Rattle.commands.proofs.KeptLaws.{none_stops}
 use Rattle.commands.proofs.RunsLaw.{parted, trace_kind}
 use Rattle.kernel_code.specs.Whole.{IsInput}
 use Rattle.object_facts.specs.Object.{facts_of}
@@ -36,10 +40,11 @@ use Rattle.object_format.proofs.FileLaws.{one_object, structured_only}
 use Rattle.object_format.specs.Checked.{IsSound, FailsFirst}
 use Rattle.object_format.specs.declared.fault.ObjectFault.{ObjectFault}
 use Rattle.object_format.specs.declared.fault.ObjectFault.TheVariants.{Short, Magic, Version, Long, Damaged, Field, Decision, Row, Role}
+use Rattle.object_format.specs.declared.object.FileEntry.{FileEntry}
 use Rattle.object_format.specs.declared.object.Object.{Object}
 use Rattle.object_format.specs.Fields.{passes_field}
 use Rattle.object_format.specs.File.{object_bytes, structured}
-use Rattle.object_format.specs.Read.{is_plain, passes_plain_field, IsRefusedFor}
+use Rattle.object_format.specs.Read.{IsRefusedFor}
 use Rattle.rv_machine.specs.Objects.{object_run}
 use Rattle.rv_semantics.specs.declared.stepped.TrapWhy.{TrapWhy}
 use Rattle.rv_semantics.specs.Run.Outcome.{Ended, Trapped}
@@ -68,6 +73,7 @@ done_unless held task call WriteFault holds fine never b = absurd (⊎_elim (λ 
 done_unless held task call WantOfMemory holds fine never b = inr refl
 done_unless held task call (ReadFault file) holds fine never b =
     absurd (⊎_elim (λ rose. fine.reads rose) (λ absent. never (ReadFault file) (rw holds at absent.1)) b.0.1)
+done_unless held task call (SourceChanged file) holds fine never b = absurd (never (SourceChanged file) (told_of held call.held _ holds b.0.1.1))
 done_unless held task call (SourceRefused file line col why) holds fine never b = absurd (never (SourceRefused file line col why) (told_of held call.held _ holds b.0.1))
 done_unless held task call (ObjectRefused why) holds fine never b = absurd (never (ObjectRefused why) (told_of held call.held _ holds b.0.1))
 done_unless held task call (TraceRefused index why) holds fine never b = absurd (never (TraceRefused index why) (told_of held call.held _ holds b.0.1))
@@ -95,10 +101,7 @@ sound_passes o field Damaged s holds h = h
 abbrev fine_object : Object → Result Object ObjectFault
 fine_object o = Ok o
 
-both_true : (a b : Bool) → a ≡ true → b ≡ true → (a && b) ≡ true
-both_true a b p q = rw (p, q) refl
-
-unrefused : (o : Object) (bytes : List ℕ) (why : ObjectFault) → IsFileOf o bytes → IsRefusedFor passes_plain_field bytes why → ⊥
+unrefused : (o : Object) (bytes : List ℕ) (why : ObjectFault) → IsFileOf o bytes → IsRefusedFor bytes why → ⊥
 unrefused o bytes why is refuses =
     let read : structured bytes ≡ fine_object o = subst (λ (b : List ℕ). structured b ≡ fine_object o) (sym is.spelled) (structured_only o is.checked.closed) in
     ⊎_elim
@@ -106,8 +109,7 @@ unrefused o bytes why is refuses =
     (λ other. let same : fine_object o ≡ fine_object other.0 = sym read ∙ other.1 in
     let one : o ≡ other.0 = cc same in
     let sound = subst (λ (x : Object). IsSound x) one is.checked.sound in
-    let plain = subst (λ (x : Object). is_plain x ≡ true) one is.plain in
-    sound_passes other.0 (passes_plain_field other.0) why sound (both_true (passes_field other.0) (is_plain other.0) sound.field plain) other.2)
+    sound_passes other.0 (passes_field other.0) why sound sound.field other.2)
     refuses
 
 -- what follows of an object, where its file was read
@@ -163,6 +165,7 @@ unstopped o budget number input (SourceRefused file line col why) ended stops = 
 unstopped o budget number input (ObjectRefused why) ended stops = stops
 unstopped o budget number input (TraceRefused index why) ended stops = stops
 unstopped o budget number input (InputRefused line) ended stops = stops
+unstopped o budget number input (SourceChanged file) ended stops = stops
 unstopped o budget number input (ReadFault file) ended stops = stops
 unstopped o budget number input WriteFault ended stops = stops
 unstopped o budget number input WantOfMemory ended stops = stops
@@ -314,11 +317,19 @@ unstopped_traces held object names Then s files main p o of there runs are input
     (of_object o (object_bytes o) (λ o. AfterTraces held o 1 names (Then o)) s (is_file files main p o of)
     (of_read held 0 object (object_bytes o) (λ bytes. AfterObject bytes (λ o. AfterTraces held o 1 names (Then o))) s there comes))
 
+-- the sources that coverage reads are those of the program
+sources_kept : (annotation : Annotation) (held : Held) (files : List SourceFile) (entries : List FileEntry) → entries ≡ map entry_of_file files
+    → SourcesAreThere annotation held files → AreKept held (read_for annotation entries)
+sources_kept Report held files entries are there = tt
+sources_kept Xcov held files entries are there = subst (λ (es : List FileEntry). AreKept held es) (sym are) (there refl)
+sources_kept Json held files entries are there = tt
+
 pub coverage_law : (task : Option Task) (call : Call) (status : Status) → Answers task call status → TracesAreCovered task call status
 unfolding TracesAreCovered
-coverage_law task call status answers = λ held level annotation object names holds is fine files main p o of there runs are inputs.
+coverage_law task call status answers = λ held level annotation object names holds is fine files main p o of there sources runs are inputs.
     done_unless held (Coverage level annotation object names) call status holds fine
-    (λ s comes. (unstopped_traces held object names (Covers level annotation) s files main p o of there runs are inputs comes).1)
+    (λ s comes. let read = unstopped_traces held object names (Covers held level annotation) s files main p o of there runs are inputs comes in
+    none_stops held 0 (read_for annotation o.files) (Prints held level annotation o read.0) (refused s) (sources_kept annotation held files o.files of.sources sources) read.1)
     (asked (Coverage level annotation object names) task call status is answers)
 
 pub consolidate_law : (task : Option Task) (call : Call) (status : Status) → Answers task call status → TracesAreConsolidated task call status

@@ -1,12 +1,13 @@
 -- What adding traces makes of a coverage, and what is made of it.
 use Rattle.std.proofs.Common.{◌≡◌, ◌↔◌, ◌⊎◌, inl, inr, ⊎_elim, ℕ, true, false, List, [], ◌∷◌, ◌++◌, length, map, Result, Ok, Err, refl, sym, ap, subst, ◌∙◌}
 use Rattle.std.specs.Prelude.{OnOk}
-use Rattle.annotated_report.specs.Report.{report_text}
 use Rattle.cov_base.specs.declared.event.Event.{Event}
 use Rattle.cov_base.specs.declared.failure.Failure.{Failure}
 use Rattle.cov_base.specs.declared.failure.Failure.TheVariants.{Fault}
 use Rattle.cov_base.specs.declared.failure.Failure.TheVariants as failures
+use Rattle.cov_base.specs.declared.level.Annotation.{Annotation}
 use Rattle.cov_base.specs.declared.level.Level.{Level}
+use Rattle.cov_base.specs.declared.obligations.SourceFile.{SourceFile}
 use Rattle.coverage_set.specs.Consolidated.{events_in, IsReadOf, IsRefused}
 use Rattle.coverage_set.specs.Covered.{Covered, Has, HasRun, IsCountOfRuns, IsUnion}
 use Rattle.cov_base.specs.Lists.{Somewhere}
@@ -14,6 +15,8 @@ use Rattle.commands.specs.Content.{ByMagic, is_consolidated, RefusesConsolidated
 use Rattle.commands.specs.Covering.{Adds, AddsListed, AddsRun}
 use Rattle.commands.specs.Failures.{consolidated_status}
 use Rattle.commands.specs.Reading.{UnlessMemory}
+use Rattle.commands.specs.Texts.{coverage_text, ShowSame}
+use Rattle.commands.proofs.TextLaws.{same_shown}
 use Rattle.commands.specs.declared.status.Status.{Status}
 use Rattle.object_facts.specs.Object.{facts_of}
 use Rattle.object_format.specs.declared.object.Object.{Object}
@@ -159,10 +162,11 @@ through : {A B C : Type 0} → A ↔ B → B ↔ C → A ↔ C
 through first second = (λ a. second.0 (first.0 a), λ c. first.1 (second.1 c))
 
 -- the report of a coverage is that of the traces that were added to an empty one
-pub reports_added : (level : Level) (o : Object) (old new : Covered) (traces : List (List ℕ)) (text : List ℕ)
-    → ((e : Event) → Has old e → ⊥) → ((d : List ℕ) → HasRun old d → ⊥) → Adds o old new traces → IsReport level o (Has new) (HasRun new) text
-    → IsReport level o (λ e. Somewhere (λ trace. Shows o trace e) traces) (λ digest. Somewhere (Counts digest) traces) text
-reports_added level o old new traces text no_event no_run adds report = record {
+pub reports_added : (level : Level) (annotation : Annotation) (o : Object) (sources : List SourceFile) (old new : Covered) (traces : List (List ℕ)) (text : List ℕ)
+    → ((e : Event) → Has old e → ⊥) → ((d : List ℕ) → HasRun old d → ⊥) → Adds o old new traces
+    → IsReport level annotation o sources (Has new) (HasRun new) text
+    → IsReport level annotation o sources (λ e. Somewhere (λ trace. Shows o trace e) traces) (λ digest. Somewhere (Counts digest) traces) text
+reports_added level annotation o sources old new traces text no_event no_run adds report = record {
   events = report.events;
   digests = report.digests;
   all_events = λ e. through (report.all_events e) (of_nothing (no_event e) (adds.events e));
@@ -182,16 +186,29 @@ stands_added o old new traces own no_event no_run adds = record {
 }
 
 -- the report is made of the events and of the count of runs
-pub report_made : (level : Level) (o : Object) (c : Covered) (count : ℕ) (events : List Event) (names : List (List ℕ)) (text : List ℕ)
-    → ((e : Event) → Somewhere (λ x. x ≡ e) events ↔ Has c e) → IsCountOfRuns c count → names ≡ map (λ file. file.name) o.files
-    → text ≡ report_text level o.obligations count events names → IsReport level o (Has c) (HasRun c) text
-report_made level o c count events names text all counted are told = record {
+pub report_made : (level : Level) (annotation : Annotation) (o : Object) (sources : List SourceFile) (c : Covered) (count : ℕ) (events : List Event) (text : List ℕ)
+    → ((e : Event) → Somewhere (λ x. x ≡ e) events ↔ Has c e) → IsCountOfRuns c count
+    → text ≡ coverage_text annotation level o.obligations count events sources → IsReport level annotation o sources (Has c) (HasRun c) text
+report_made level annotation o sources c count events text all counted told = record {
   events = events;
   digests = counted.digests;
   all_events = all;
   all_digests = counted.all;
   each_once = counted.each_once;
-  told = told ∙ ap (λ (n : ℕ). report_text level o.obligations n events names) counted.long ∙ ap (λ (ns : List (List ℕ)). report_text level o.obligations (length counted.digests) events ns) are;
+  told = told ∙ ap (λ (n : ℕ). coverage_text annotation level o.obligations n events sources) counted.long;
+}
+
+-- over files that show the same in that form it is the same
+pub report_over : (level : Level) (annotation : Annotation) (o : Object) (sources others : List SourceFile) (c : Covered) (text : List ℕ)
+    → ShowSame annotation sources others → IsReport level annotation o sources (Has c) (HasRun c) text
+    → IsReport level annotation o others (Has c) (HasRun c) text
+report_over level annotation o sources others c text same report = record {
+  events = report.events;
+  digests = report.digests;
+  all_events = report.all_events;
+  all_digests = report.all_digests;
+  each_once = report.each_once;
+  told = report.told ∙ same_shown annotation level o.obligations (length report.digests) report.events sources others same;
 }
 
 -- ---- refusals

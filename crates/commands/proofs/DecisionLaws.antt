@@ -1,6 +1,8 @@
 -- What a report asks of the decisions of an object that was checked, and of the events of its traces.
-use Rattle.std.proofs.Common.{◌≡◌, inl, inr, ℕ, zero, suc, ◌<◌, Bool, true, false, cond, ◌==◌, List, [], ◌∷◌, length, Option, Some, None, refl, sym, ap, subst, ◌∙◌, slice_get, eqb-true}
-use Rattle.std.proofs.lemmas.Bool.{and_parts, ltb-true}
+use Rattle.std.proofs.Common.{◌≡◌, inl, inr, ℕ, zero, suc, ◌<◌, ◌≤◌, Bool, true, false, cond, ◌==◌, IsUtf8, List, [], ◌∷◌, length, drop, Option, Some, None, refl, sym, ap, subst, ◌∙◌, slice_get, slice_index_or, eqb-true}
+use Rattle.std.proofs.lemmas.Bool.{and_parts, leb-true, ltb-true}
+use Rattle.std.proofs.lemmas.Str.{IsUtf8-from_is_utf8}
+use Rattle.std.specs.Str.{is_utf8}
 use Rattle.std.specs.List.{list_all, filter_map, cons_option, AllByRecursion}
 use Rattle.annotated_report.specs.Caller.{AreEvaluated, AreOfStatements}
 use Rattle.annotated_report.specs.Verdicts.{vector_in, vectors_of}
@@ -19,7 +21,12 @@ use Rattle.commands.specs.Covering.{HasPaths}
 use Rattle.object_format.specs.Checked.{IsSound}
 use Rattle.object_format.specs.declared.object.Object.{Object}
 use Rattle.object_format.specs.Decisions.{AreExpression}
-use Rattle.object_format.specs.Fields.{is_decision, passes_field}
+use Rattle.object_format.specs.declared.object.FileEntry.{FileEntry}
+use Rattle.object_format.specs.Fields.{are_files, is_decision, is_region, passes_field}
+use Rattle.commands.specs.TaskFiles.{entry_names}
+use Rattle.commands.specs.Texts.{names_of}
+use Rattle.cov_base.specs.declared.obligations.SourceFile.{SourceFile}
+use Rattle.json_report.specs.Caller.{AreExplainedInUtf8, AreNamedInUtf8}
 
 -- ---- what holds of all holds of the one in a place
 
@@ -95,3 +102,50 @@ evaluations_known o c events sound paths all = λ d entry there.
       paths = subst (λ (g : List Edges). Everywhere (IsPathVector g) (vectors_of events d)) (graph_of_spelled o d entry is.0 there is.1)
           (all_given (IsPathVector (graph_at o d)) d events (λ e v there given. of_event o c d e v paths (all e there) given));
     }
+
+-- ---- texts
+
+-- the names of sources are UTF-8, where those of an object's files are
+named_alike : (files : List FileEntry) (sources : List SourceFile) → names_of sources ≡ entry_names files → list_all (λ f. is_utf8 f.name) files ≡ true
+    → AreNamedInUtf8 sources
+named_alike files [] named utf8 = λ n file there. absurd (cc there)
+named_alike [] (source ∷ sources) named utf8 = absurd (cc named)
+named_alike (f ∷ files) (source ∷ sources) named utf8 = by_place (named_alike files sources later (and_parts _ _ utf8).1)
+  where
+    first : source.name ≡ f.name
+    first = ap (λ (names : List (List ℕ)). slice_index_or names 0 []) named
+
+    later : names_of sources ≡ entry_names files
+    later = ap (λ (names : List (List ℕ)). drop 1 names) named
+
+    by_place : AreNamedInUtf8 sources → AreNamedInUtf8 (source ∷ sources)
+    by_place rest zero file there =
+        let same : source ≡ file = cc there in
+        subst IsUtf8 (sym first ∙ ap (λ (s : SourceFile). s.name) same) (IsUtf8-from_is_utf8 f.name (and_parts _ _ utf8).0)
+    by_place rest (suc n) file there = rest n file there
+
+-- the part of the check `field` on files
+files_passed : (o : Object) → passes_field o ≡ true → are_files o.files ≡ true
+files_passed o field = (and_parts _ _ (and_parts _ _ (and_parts _ _ (and_parts _ _ field).0).0).0).1
+
+pub named_in_utf8 : (o : Object) (sources : List SourceFile) → IsSound o → names_of sources ≡ entry_names o.files → AreNamedInUtf8 sources
+named_in_utf8 o sources sound named = named_alike o.files sources named (and_parts _ _ (files_passed o sound.field)).1
+
+all_named : (files : List FileEntry) → list_all (λ f. is_utf8 f.name) files ≡ true → AllByRecursion (λ f. IsUtf8 f.name) files
+all_named [] utf8 = tt
+all_named (f ∷ files) utf8 = (IsUtf8-from_is_utf8 f.name (and_parts _ _ utf8).0, all_named files (and_parts _ _ utf8).1)
+
+-- a checked object lists at most 64 files, by names in UTF-8
+pub listed_in_utf8 : (o : Object) → IsSound o → AllByRecursion (λ f. IsUtf8 f.name) o.files
+listed_in_utf8 o sound = all_named o.files (and_parts _ _ (files_passed o sound.field)).1
+
+pub few_listed : (o : Object) → IsSound o → length o.files ≤ 64
+few_listed o sound = leb-true (length o.files) 64 (and_parts _ _ (and_parts _ _ (files_passed o sound.field)).0).1
+
+-- the justifications of its regions are UTF-8
+pub explained_in_utf8 : (o : Object) → IsSound o → AreExplainedInUtf8 o.obligations.regions
+explained_in_utf8 o sound = λ n region there.
+    let obliged = (and_parts _ _ (and_parts _ _ (and_parts _ _ sound.field).0).0).1 in
+    let regions = (and_parts _ _ (and_parts _ _ obliged).1).0 in
+    IsUtf8-from_is_utf8 region.why
+    (and_parts _ _ (passes_at (is_region (length o.files)) o.obligations.regions n region regions there)).1

@@ -1,15 +1,16 @@
 -- Files that tell the same give the same output, and a consolidated file tells what the files do of which it was made.
-use Rattle.std.proofs.Common.{◌≡◌, ◌↔◌, inl, ⊎_elim, ℕ, List, [], ◌∷◌, length, map, sym, ap, ◌∙◌}
-use Rattle.annotated_report.proofs.Alike.{same_text}
-use Rattle.annotated_report.specs.Report.{report_text}
+use Rattle.std.proofs.Common.{◌≡◌, ◌↔◌, inl, ⊎_elim, ℕ, List, [], ◌∷◌, length, sym, ap, ◌∙◌}
 use Rattle.cov_base.specs.declared.event.Event.{Event}
 use Rattle.cov_base.specs.declared.level.Annotation.{Annotation}
 use Rattle.cov_base.specs.declared.level.Level.{Level}
+use Rattle.cov_base.specs.declared.obligations.SourceFile.{SourceFile}
 use Rattle.cov_base.specs.Lists.{Somewhere}
 use Rattle.coverage_set.proofs.OneFile.{one}
 use Rattle.coverage_set.specs.Covered.{AreSame}
 use Rattle.commands.specs.Content.{Made, IsTraceFor, Shows, Counts, Reports, ConsolidatesTo, file_lines}
 use Rattle.commands.specs.Grouping.{TellSame}
+use Rattle.commands.specs.Texts.{coverage_text}
+use Rattle.commands.proofs.TextLaws.{same_events}
 use Rattle.commands.proofs.CoveringLaws.{as_consolidated}
 use Rattle.commands.proofs.FileLaws.{file_fits, file_kind, file_lists, file_shows, shown_possible}
 use Rattle.commands.proofs.RunsLaw.{back, same_count, through}
@@ -39,9 +40,9 @@ one_consolidation o xs ys a b same f g =
     f.tells.told ∙ ap (λ (n : ℕ). file_lines n a.file) count ∙ ap (λ (bytes : List ℕ). file_lines g.tells.count bytes) file ∙ sym g.tells.told in
     λ k. record { file = file k; text = text k }
 
-pub one_report : (level : Level) (annotation : Annotation) (o : Object) (xs ys : List (List ℕ)) (a b : List ℕ) → TellSame o xs ys
-    → Reports level annotation o xs a → Reports level annotation o ys b → a ≡ b
-one_report level annotation o xs ys a b same f g =
+pub one_report : (level : Level) (annotation : Annotation) (o : Object) (xs ys : List (List ℕ)) (sources : List SourceFile) (a b : List ℕ) → TellSame o xs ys
+    → Reports level annotation o sources xs a → Reports level annotation o sources ys b → a ≡ b
+one_report level annotation o xs ys sources a b same f g =
     let p = f.report in
     let q = g.report in
     let shown : (e : Event) → Somewhere (λ x. x ≡ e) p.events ↔ Somewhere (λ x. x ≡ e) q.events =
@@ -49,8 +50,8 @@ one_report level annotation o xs ys a b same f g =
     let counted : (d : List ℕ) → Somewhere (λ x. x ≡ d) p.digests ↔ Somewhere (λ x. x ≡ d) q.digests =
     λ d. through (p.all_digests d) (through (same.runs d) (back (q.all_digests d))) in
     p.told
-    ∙ same_text level o.obligations (length p.digests) p.events q.events (map (λ file. file.name) o.files) (λ e there. (shown e).0 there, λ e there. (shown e).1 there)
-    ∙ ap (λ (n : ℕ). report_text level o.obligations n q.events (map (λ file. file.name) o.files)) (same_count p.digests q.digests p.each_once q.each_once counted)
+    ∙ same_events annotation level o.obligations (length p.digests) p.events q.events sources (λ e there. (shown e).0 there, λ e there. (shown e).1 there)
+    ∙ ap (λ (n : ℕ). coverage_text annotation level o.obligations n q.events sources) (same_count p.digests q.digests p.each_once q.each_once counted)
     ∙ sym q.told
 
 -- one of a list of one

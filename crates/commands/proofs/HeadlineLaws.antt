@@ -1,14 +1,13 @@
 -- What coverage prints of a program's own executions.
 use Rattle.std.proofs.Common.{◌≡◌, ◌↔◌, inl, inr, ⊎_elim, ℕ, List, [], ◌∷◌, ◌++◌, length, map, Option, refl, sym, ap, subst, ◌∙◌}
 use Rattle.ada_meaning.specs.Execution.{Execution, Ends}
-use Rattle.ada_meaning.specs.Obligations.{obligations_of}
 use Rattle.ada_meaning.specs.Program.{Program}
 use Rattle.ada_meaning.proofs.FuelExecution.{one_ending_law}
-use Rattle.annotated_report.specs.Report.{report_text}
 use Rattle.command_words.specs.Task.{Task}
 use Rattle.program_objects.specs.Behaves.{Behaves, ShowsExecution}
 use Rattle.program_objects.specs.Source.{entry_of_file, IsObjectOf}
 use Rattle.cov_base.specs.declared.event.Event.{Event}
+use Rattle.cov_base.specs.declared.level.Annotation.{Annotation}
 use Rattle.cov_base.specs.declared.level.Level.{Level}
 use Rattle.cov_base.specs.declared.obligations.Obligations.{Obligations}
 use Rattle.cov_base.specs.declared.obligations.SourceFile.{SourceFile}
@@ -16,9 +15,11 @@ use Rattle.cov_io.specs.Outside.{Held, WhereTold, Appends}
 use Rattle.cov_base.specs.Lists.{Everywhere, Somewhere}
 use Rattle.commands.specs.Content.{IsFileOf}
 use Rattle.commands.specs.declared.status.Status.{Status}
-use Rattle.commands.specs.Headline.{Occurs, CoverageTellsTheSource}
+use Rattle.commands.specs.Headline.{Occurs, text_of, CoverageTellsTheSource}
 use Rattle.commands.specs.Outcome.{Call, Answers}
 use Rattle.commands.specs.RunsCovered.{ARun, transcript_of, IsWrittenOf, AreTracesOf, RunsAreCovered}
+use Rattle.commands.specs.TaskFiles.{entry_names, held_under}
+use Rattle.commands.specs.Texts.{coverage_text, names_of}
 use Rattle.commands.proofs.RunsLaw.{runs_law}
 use Rattle.kernel_code.specs.Whole.{IsInput}
 use Rattle.object_facts.proofs.Fair.{fair}
@@ -88,21 +89,23 @@ pub all_fair : (p : Program) (o : Object) → Behaves p o → (held : Held) (nam
 all_fair p o behaves held names runs inputs are = all_disciplined p o behaves runs inputs (traced_ended held o names runs are)
 
 -- an object of sources has their names
-names_kept : (files : List SourceFile) → map (λ file. file.name) (map entry_of_file files) ≡ map (λ (file : SourceFile). file.name) files
+names_kept : (files : List SourceFile) → entry_names (map entry_of_file files) ≡ names_of files
 names_kept [] = refl
 names_kept (f ∷ fs) = ap (λ (names : List (List ℕ)). f.name ∷ names) (names_kept fs)
 
-pub is_file : (files : List SourceFile) (main : List ℕ) (p : Program) (o : Object) → IsObjectOf files main p o → IsFileOf o (object_bytes o)
-is_file files main p o of = record { checked = of.checked; plain = of.plain; spelled = refl }
+pub sources_named : (files : List SourceFile) (main : List ℕ) (p : Program) (o : Object) → IsObjectOf files main p o → entry_names o.files ≡ names_of files
+sources_named files main p o of = ap entry_names of.sources ∙ names_kept files
 
--- the text of a report over an object of sources
-pub text_kept : (level : Level) (n : ℕ) (events : List Event) (files : List SourceFile) (main : List ℕ) (p : Program) (o : Object) → IsObjectOf files main p o
-    → report_text level o.obligations n events (map (λ file. file.name) o.files) ≡ report_text level (obligations_of p []) n events (map (λ file. file.name) files)
-text_kept level n events files main p o of =
-    let named : map (λ file. file.name) o.files ≡ map (λ (file : SourceFile). file.name) files =
-    ap (λ entries. map (λ file. file.name) entries) of.sources ∙ names_kept files in
-    ap (λ (names : List (List ℕ)). report_text level o.obligations n events names) named
-    ∙ ap (λ (obligations : Obligations). report_text level obligations n events (map (λ file. file.name) files)) of.obligations
+pub is_file : (files : List SourceFile) (main : List ℕ) (p : Program) (o : Object) → IsObjectOf files main p o → IsFileOf o (object_bytes o)
+is_file files main p o of = record { checked = of.checked; spelled = refl }
+
+-- what coverage prints over an object of sources
+pub text_kept : (annotation : Annotation) (level : Level) (held : Held) (n : ℕ) (events : List Event) (files : List SourceFile) (main : List ℕ) (p : Program) (o : Object)
+    → IsObjectOf files main p o
+    → coverage_text annotation level o.obligations n events (held_under held (entry_names o.files)) ≡ text_of annotation level files p held n events
+text_kept annotation level held n events files main p o of =
+    ap (λ (names : List (List ℕ)). coverage_text annotation level o.obligations n events (held_under held names)) (sources_named files main p o of)
+    ∙ ap (λ (obligations : Obligations). coverage_text annotation level obligations n events (held_under held (names_of files))) of.obligations
 
 pub through : {A B C : Type 0} → A ↔ B → B ↔ C → A ↔ C
 through first second = (λ a. second.0 (first.0 a), λ c. first.1 (second.1 c))
@@ -117,4 +120,4 @@ headline_law task call status answers = λ held level annotation object names ho
     let told = runs_law task call status answers held level annotation object names holds asked is (object_bytes o) o there (is_file files main p o of) runs are
     (all_disciplined p o of.behaves runs inputs ended) events
     (λ e. through (of_events e) (back (tells_somewhere p o of.checked.sound of.behaves e runs inputs ended))) digests of_digests once in
-    subst (λ (text : List ℕ). WhereTold (Appends text) call.written call.written_after) (text_kept level (length digests) events files main p o of) told
+    subst (λ (text : List ℕ). WhereTold (Appends text) call.written call.written_after) (text_kept annotation level held (length digests) events files main p o of) told

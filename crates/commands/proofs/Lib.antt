@@ -1,11 +1,16 @@
 pub mod ClauseLaws
 pub mod CoveringLaws
+pub mod TextLaws
+pub mod KeptLaws
+pub mod NameLaws
 pub mod DecisionLaws
 pub mod ObjectLaws
 pub mod RefusalLaws
 pub mod RunLaws
 pub mod SourceLaws
 pub mod StopLaws
+pub mod MadeLaws
+pub mod ReportLaws
 pub mod RunsLaw
 pub mod HeadlineLaws
 pub mod PairLaws

@@ -1,12 +1,11 @@
 -- What coverage prints of an object's own runs.
-use Rattle.std.proofs.Common.{◌≡◌, ◌≢◌, ◌↔◌, inl, inr, ⊎_elim, ℕ, suc, ◌+◌, ◌<◌, ◌≤◌, arith, false, List, [], ◌∷◌, ◌++◌, length, map, slice_index_or, AllPairs, IfSome, Option, Some, Result, Ok, refl, sym, ap, subst, ◌∙◌}
+use Rattle.std.proofs.Common.{◌≡◌, ◌≢◌, ◌↔◌, inl, inr, ⊎_elim, ℕ, suc, ◌+◌, ◌<◌, ◌≤◌, arith, false, List, [], ◌∷◌, ◌++◌, length, slice_index_or, AllPairs, IfSome, Option, Some, Result, Ok, refl, sym, ap, subst, ◌∙◌}
 use Rattle.std.specs.FinMap as finmap
-use Rattle.annotated_report.specs.Report.{report_text}
-use Rattle.annotated_report.proofs.Alike.{same_text}
 use Rattle.command_words.specs.Task.{Task, Coverage}
 use Rattle.cov_base.specs.declared.event.Event.{Event}
 use Rattle.cov_base.specs.declared.level.Annotation.{Annotation}
 use Rattle.cov_base.specs.declared.level.Level.{Level}
+use Rattle.cov_base.specs.declared.obligations.SourceFile.{SourceFile}
 use Rattle.cov_io.specs.Outside.{Held, WhereTold, Appends}
 use Rattle.coverage_set.proofs.RunLaw.{run_law}
 use Rattle.cov_base.specs.Lists.{Everywhere, Somewhere}
@@ -15,7 +14,11 @@ use Rattle.commands.specs.declared.status.Status.{Status}
 use Rattle.commands.specs.declared.status.Status.TheVariants.{Done}
 use Rattle.commands.specs.Outcome.{Call, Delivered, Because, Answers}
 use Rattle.commands.specs.RunsCovered.{ARun, transcript_of, IsTraceOf, IsFileOfRuns, IsWrittenOf, AreTracesOf, digest_of_run, RunsAreCovered}
-use Rattle.commands.specs.Verdict.{Output, AfterRead, AfterObject, AfterTrace, AfterTraces, Covers, ComesTo}
+use Rattle.commands.specs.TaskFiles.{entry_names, held_under, read_for}
+use Rattle.commands.specs.Texts.{coverage_text}
+use Rattle.commands.specs.Verdict.{Output, AfterRead, AfterObject, AfterTrace, AfterTraces, Covers, Prints, ComesTo}
+use Rattle.commands.proofs.KeptLaws.{kept_follow}
+use Rattle.commands.proofs.TextLaws.{same_events}
 use Rattle.commands.proofs.CoveringLaws.{as_trace}
 use Rattle.commands.proofs.FileLaws.{file_shows, file_lists}
 use Rattle.object_facts.specs.Object.{facts_of}
@@ -217,20 +220,20 @@ read_are held o number (name ∷ names) runs Then output are fair says =
     (λ rest. read_are held o (number + 1) names are.1 (λ traces. Then (are.3 ∷ traces)) output are.6 parts.1 rest) in
     (read.0, subst (λ (rs : List ARun). AreOf o rs read.0) (sym are.2) read.1, read.2)
 
--- The text is the report of an object's runs: of the events that their transcripts tell, and of the digests that close
--- their traces.
-pub record IsReportOfRuns (level : Level) (o : Object) (runs : List ARun) (text : List ℕ) : Type 0 where
+-- The text is the report of an object's runs, in a form over sources: of the events that their transcripts tell, and of the
+-- digests that close their traces.
+pub record IsReportOfRuns (level : Level) (annotation : Annotation) (o : Object) (sources : List SourceFile) (runs : List ARun) (text : List ℕ) : Type 0 where
   pub events : List Event
   pub digests : List (List ℕ)
   pub all_events : (e : Event) → Somewhere (λ x. x ≡ e) events ↔ Somewhere (λ r. Tells (facts_of o) (transcript_of o r) e) runs
   pub all_digests : (d : List ℕ) → Somewhere (λ x. x ≡ d) digests ↔ Somewhere (λ r. digest_of_run o r ≡ d) runs
   pub each_once : AllPairs (λ x y. x ≢ y) digests
-  pub told : text ≡ report_text level o.obligations (length digests) events (map (λ file. file.name) o.files)
+  pub told : text ≡ coverage_text annotation level o.obligations (length digests) events sources
 
 -- a report of traces is that of their runs
-report_of_runs : (level : Level) (annotation : Annotation) (o : Object) → IsSound o → (runs : List ARun) (traces : List (List ℕ)) (text : List ℕ) → AreOf o runs traces
-    → Reports level annotation o traces text → IsReportOfRuns level o runs text
-report_of_runs level annotation o sound runs traces text are reports = record {
+report_of_runs : (level : Level) (annotation : Annotation) (o : Object) → IsSound o → (sources : List SourceFile) (runs : List ARun) (traces : List (List ℕ)) (text : List ℕ)
+    → AreOf o runs traces → Reports level annotation o sources traces text → IsReportOfRuns level annotation o sources runs text
+report_of_runs level annotation o sound sources runs traces text are reports = record {
   events = reports.report.events;
   digests = reports.report.digests;
   all_events = λ e.
@@ -241,17 +244,18 @@ report_of_runs level annotation o sound runs traces text are reports = record {
 }
 
 -- its text is that of any list of the events
-runs_told : (level : Level) (o : Object) (runs : List ARun) (text : List ℕ) → IsReportOfRuns level o runs text
+runs_told : (level : Level) (annotation : Annotation) (o : Object) (sources : List SourceFile) (runs : List ARun) (text : List ℕ)
+    → IsReportOfRuns level annotation o sources runs text
     → (events : List Event) → ((e : Event) → Somewhere (λ x. x ≡ e) events ↔ Somewhere (λ r. Tells (facts_of o) (transcript_of o r) e) runs)
     → (digests : List (List ℕ)) → ((d : List ℕ) → Somewhere (λ x. x ≡ d) digests ↔ Somewhere (λ r. digest_of_run o r ≡ d) runs)
     → AllPairs (λ x y. x ≢ y) digests
-    → text ≡ report_text level o.obligations (length digests) events (map (λ file. file.name) o.files)
-runs_told level o runs text report events of_events digests of_digests once =
+    → text ≡ coverage_text annotation level o.obligations (length digests) events sources
+runs_told level annotation o sources runs text report events of_events digests of_digests once =
     let shown : (e : Event) → Somewhere (λ x. x ≡ e) report.events ↔ Somewhere (λ x. x ≡ e) events = λ e. through (report.all_events e) (back (of_events e)) in
     let counted : (d : List ℕ) → Somewhere (λ x. x ≡ d) report.digests ↔ Somewhere (λ x. x ≡ d) digests = λ d. through (report.all_digests d) (back (of_digests d)) in
     report.told
-    ∙ same_text level o.obligations (length report.digests) report.events events (map (λ file. file.name) o.files) (λ e there. (shown e).0 there, λ e there. (shown e).1 there)
-    ∙ ap (λ (n : ℕ). report_text level o.obligations n events (map (λ file. file.name) o.files)) (same_count report.digests digests report.each_once once counted)
+    ∙ same_events annotation level o.obligations (length report.digests) report.events events sources (λ e there. (shown e).0 there, λ e there. (shown e).1 there)
+    ∙ ap (λ (n : ℕ). coverage_text annotation level o.obligations n events sources) (same_count report.digests digests report.each_once once counted)
 
 -- what a command came to, of an object
 pub came_to : (Next : Object → Result Output Status → Type 0) (o : Object) (output : Output) (bytes : List ℕ) → IsFileOf o bytes
@@ -265,13 +269,15 @@ came_to Next o output bytes is (inr other) =
 pub report_done : (held : Held) (level : Level) (annotation : Annotation) (object : List ℕ) (names : List (List ℕ)) (call : Call) → call.held ≡ Some held
     → (done : Delivered (Coverage level annotation object names) Done call)
     → (bytes : List ℕ) (o : Object) → finmap.get held object ≡ Some bytes → IsFileOf o bytes → (runs : List ARun) → AreTracesOf held o names runs
-    → Everywhere (λ r. IsDisciplined (facts_of o) (transcript_of o r)) runs → IsReportOfRuns level o runs done.output.text
+    → Everywhere (λ r. IsDisciplined (facts_of o) (transcript_of o r)) runs
+    → IsReportOfRuns level annotation o (held_under held (entry_names o.files)) runs done.output.text
 report_done held level annotation object names call holds done bytes o there is runs are fair =
-    let comes : AfterRead held 0 object (λ bytes. AfterObject bytes (λ o. AfterTraces held o 1 names (Covers level annotation o))) (Ok done.output) =
+    let comes : AfterRead held 0 object (λ bytes. AfterObject bytes (λ o. AfterTraces held o 1 names (Covers held level annotation o))) (Ok done.output) =
     subst (λ (h : Option Held). IfSome h (λ told. ComesTo told (Coverage level annotation object names) (Ok done.output))) holds done.comes in
-    let after = came_to (λ o. AfterTraces held o 1 names (Covers level annotation o)) o done.output bytes is (rw there at comes) in
-    let read = read_are held o 1 names runs (Covers level annotation o) done.output are fair after in
-    report_of_runs level annotation o is.checked.sound runs read.0 done.output.text read.1 read.2.1
+    let after = came_to (λ o. AfterTraces held o 1 names (Covers held level annotation o)) o done.output bytes is (rw there at comes) in
+    let read = read_are held o 1 names runs (Covers held level annotation o) done.output are fair after in
+    let kept = kept_follow held 0 (read_for annotation o.files) (Prints held level annotation o read.0) done.output read.2 in
+    report_of_runs level annotation o is.checked.sound (held_under held (entry_names o.files)) runs read.0 done.output.text read.1 kept.says.1
 
 pub runs_law : (task : Option Task) (call : Call) (status : Status) → Answers task call status → RunsAreCovered task call status
 unfolding RunsAreCovered
@@ -280,5 +286,5 @@ runs_law task call status answers = λ held level annotation object names holds 
     subst (λ (s : Status). Because (Coverage level annotation object names) call s) is (subst (λ (t : Option Task). Answers t call status) asked answers) in
     λ bytes o there file runs are fair events of_events digests of_digests once.
     let report = report_done held level annotation object names call holds done bytes o there file runs are fair in
-    let text = runs_told level o runs done.output.text report events of_events digests of_digests once in
+    let text = runs_told level annotation o (held_under held (entry_names o.files)) runs done.output.text report events of_events digests of_digests once in
     subst (λ (text : List ℕ). WhereTold (Appends text) call.written call.written_after) text done.delivers.text

@@ -78,7 +78,7 @@ cannot_get None reads reads' main object earlier name later were (inr absent) = 
 cannot_get (Some told) reads reads' main object earlier name later were (inr absent) = (
   placed earlier name later,
   inr (
-    rw (name_there earlier name later) absent,
+    (name, sym (name_there earlier name later), absent),
     stops_at told 0 (length earlier) earlier name later (Compiles main object) (omega arith) were absent,
   ),
 )

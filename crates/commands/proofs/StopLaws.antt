@@ -16,7 +16,8 @@ use Rattle.commands.specs.declared.status.Status.TheVariants.{ObjectRefused, Tra
 use Rattle.commands.specs.Outcome.{IsNamed, Prepares, Stops, CannotGet}
 use Rattle.commands.specs.Prepared.{PreparesFrom, StopsOnInput}
 use Rattle.commands.specs.Reading.{IsUnread, IsNoTrace, UnlessMemory, AreRead, WereRead, WereAdded, StopsAt, StopsAmong}
-use Rattle.commands.specs.Covering.{Adds, IsMadeOf, Yields, task_for}
+use Rattle.commands.specs.Covering.{Yields, task_for}
+use Rattle.commands.specs.TaskFiles.{name_in_place}
 use Rattle.commands.specs.Verdict.{NewFile, Output, AfterRead, AfterObject, AfterInput, AfterTrace, AfterTraces, RunsOn, ComesTo}
 use Rattle.object_format.specs.declared.object.Object.{Object}
 use Rattle.commands.proofs.CoveringLaws.{reports_added, stands_added, more_added, nothing_added}
@@ -146,8 +147,8 @@ stops_among now o names i d held held' reads reads' reads'' status a b lt same c
 -- ---- coverage and consolidate
 
 -- what follows of the object and the traces is what the task comes to
-comes_to : (held : Option Held) (product : Product) (object : List ℕ) (names : List (List ℕ)) (verdict : Result Output Status)
-    → IfSome held (λ told. AfterRead told 0 object (λ bytes. AfterObject bytes (λ o. AfterTraces told o 1 names (Yields product o))) verdict)
+pub comes_to : (held : Option Held) (product : Product) (object : List ℕ) (names : List (List ℕ)) (verdict : Result Output Status)
+    → IfSome held (λ told. AfterRead told 0 object (λ bytes. AfterObject bytes (λ o. AfterTraces told o 1 names (Yields product told o))) verdict)
     → IfSome held (λ told. ComesTo told (task_for product object names) verdict)
 comes_to held (products.Report level annotation) object names verdict says = says
 comes_to held (products.File name) object names verdict says = says
@@ -158,8 +159,12 @@ cannot_get : (held : Option Held) (reads reads' : ℕ) (product : Product) (obje
     → Rose reads reads' ⊎ (IsAbsent held (unwrap_or (slice_get (object ∷ names) place) [])
     × IsSomeAnd held (λ told. ComesTo told (task_for product object names) (Err (ReadFault (Word place)))))
     → CannotGet (task_for product object names) (Word place) held reads reads'
-cannot_get held reads reads' (products.Report level annotation) object names place within cause = (within, cause)
-cannot_get held reads reads' (products.File name) object names place within cause = (within, cause)
+cannot_get held reads reads' (products.Report level annotation) object names place within (inl rose) = (within, inl rose)
+cannot_get held reads reads' (products.Report level annotation) object names place within (inr absent) =
+    (within, inr ((name_in_place (object ∷ names) place, refl, absent.0), absent.1))
+cannot_get held reads reads' (products.File name) object names place within (inl rose) = (within, inl rose)
+cannot_get held reads reads' (products.File name) object names place within (inr absent) =
+    (within, inr ((name_in_place (object ∷ names) place, refl, absent.0), absent.1))
 
 pub coverage_no_object : (held : Option Held) (reads reads' : ℕ) (product : Product) (object bytes : List ℕ) (traces : List (List ℕ)) (status : Status)
     → reads' ≡ reads → IfSome held (Holds object bytes) → UnlessMemory (RefusesObject bytes) status
@@ -169,7 +174,7 @@ coverage_no_object held reads reads' product object bytes traces status same hol
     rw r.2 (
       same,
       comes_to held product object traces (Err (ObjectRefused r.0))
-          (no_object held object bytes (λ told o. AfterTraces told o 1 traces (Yields product o)) (ObjectRefused r.0) holds (r.0, r.1, refl)),
+          (no_object held object bytes (λ told o. AfterTraces told o 1 traces (Yields product told o)) (ObjectRefused r.0) holds (r.0, r.1, refl)),
     )
 
 -- what follows from the trace at which reading stops, where the files tell
@@ -181,8 +186,8 @@ told_stop : (held : Option Held) (product : Product) (object bytes : List ℕ) (
 told_stop None product object bytes o earlier name later status holds is read says = tt
 told_stop (Some told) product object bytes o earlier name later status holds is read says =
     comes_to (Some told) product object (earlier ++ (name ∷ later)) (Err status)
-    (after_object (Some told) object bytes o (λ told o. AfterTraces told o 1 (earlier ++ (name ∷ later)) (Yields product o)) (Err status) holds is
-    (reads_up_to told o 1 (length earlier + 1) earlier name later read.0 (Yields product o) (Err status) refl read.1 (says told refl)))
+    (after_object (Some told) object bytes o (λ told o. AfterTraces told o 1 (earlier ++ (name ∷ later)) (Yields product told o)) (Err status) holds is
+    (reads_up_to told o 1 (length earlier + 1) earlier name later read.0 (Yields product told o) (Err status) refl read.1 (says told refl)))
 
 -- a place among the names
 placed : (earlier later : List (List ℕ)) (object name : List ℕ) → length earlier + 1 < length (object ∷ (earlier ++ (name ∷ later)))
@@ -260,57 +265,12 @@ coverage_stops held held' reads reads' reads'' product object bytes names o stat
     let then_so = subst (λ (n : ℕ). StopsAmong o names held n reads'' status) count here in
     stops_told held reads reads'' product object bytes names o status holds is then_so
 
--- nothing was made for want of memory alone
-for_memory : (product : Product) (o : Object) (c : Covered) (status : Status) → IsMadeOf product o c (Err status) → status ≡ WantOfMemory
-for_memory (products.Report level annotation) o c status memory = memory
-for_memory (products.File name) o c status memory = memory
-
--- what was made has the task's name
-made_named : (product : Product) (object : List ℕ) (names : List (List ℕ)) (o : Object) (c : Covered) (output : Output) → IsMadeOf product o c (Ok output)
-    → IsNamed (task_for product object names) output
-made_named (products.Report level annotation) object names o c output made = ap (option_map (λ (f : NewFile). f.name)) made.0
-made_named (products.File name) object names o c output made = ap (option_map (λ (f : NewFile). f.name)) made.1
-
--- what was made of a coverage to which the traces were added, of nothing before
-yields : (product : Product) (traces : List (List ℕ)) (o : Object) (old new : Covered) (output : Output)
-    → AllByRecursion (IsTraceFor o) traces → old.object ≡ o → ((e : Event) → Has old e → ⊥) → ((d : List ℕ) → HasRun old d → ⊥) → Adds o old new traces
-    → IsMadeOf product o new (Ok output) → Yields product o traces (Ok output)
-yields (products.Report level annotation) traces o old new output fit own no_event no_run adds made =
-    (made.0, record { fit = fit; report = reports_added level o old new traces output.text no_event no_run adds made.1 })
-yields (products.File name) traces o old new output fit own no_event no_run adds made = (
-  made.0,
-  made.1,
-  record { fit = fit; covered = new; stands = stands_added o old new traces own no_event no_run adds; tells = made.2 },
-)
-
 -- each of the files that were read is a trace
-all_fit : (told : Held) (o : Object) (names traces : List (List ℕ)) → AreRead told o names traces → AllByRecursion (IsTraceFor o) traces
+pub all_fit : (told : Held) (o : Object) (names traces : List (List ℕ)) → AreRead told o names traces → AllByRecursion (IsTraceFor o) traces
 all_fit told o [] [] read = tt
 all_fit told o [] (t ∷ traces) read = absurd read
 all_fit told o (n ∷ names) [] read = absurd read
 all_fit told o (n ∷ names) (t ∷ traces) read = (read.1, all_fit told o names traces read.2)
-
--- the traces were read and added to a coverage of nothing, and this was made of it
-pub coverage_made : (held held' : Option Held) (reads reads' : ℕ) (product : Product) (object bytes : List ℕ) (names : List (List ℕ)) (o : Object) (old new : Covered) (verdict : Result Output Status)
-    → held' ≡ held → reads' ≡ reads → IfSome held (Holds object bytes) → IsFileOf o bytes → WereAdded held' o names old new
-    → old.object ≡ o → ((e : Event) → Has old e → ⊥) → ((d : List ℕ) → HasRun old d → ⊥) → IsMadeOf product o new verdict
-    → Prepares (task_for product object names) held reads reads' verdict
-coverage_made held held' reads reads' product object bytes names o old new (Err status) same count holds is added own no_event no_run made =
-    rw (for_memory product o new status made) tt
-coverage_made held held' reads reads' product object bytes names o old new (Ok output) same count holds is added own no_event no_run made = (
-  count,
-  made_named product object names o new output made,
-  told held holds (subst (λ (h : Option Held). WereAdded h o names old new) same added),
-)
-  where
-    told : (held : Option Held) → IfSome held (Holds object bytes) → WereAdded held o names old new
-        → IfSome held (λ told. ComesTo told (task_for product object names) (Ok output))
-    told None holds added = tt
-    told (Some h) holds added =
-        comes_to (Some h) product object names (Ok output)
-        (after_object (Some h) object bytes o (λ told o. AfterTraces told o 1 names (Yields product o)) (Ok output) holds is
-        (all_read h o 1 names added.0 (Yields product o) (Ok output) added.1
-        (yields product added.0 o old new output (all_fit h o names added.0 added.1) own no_event no_run added.2 made)))
 
 -- ---- run
 
@@ -336,7 +296,7 @@ run_unread held held' reads reads' reads'' input budget trace object bytes o sta
     rw e (
       lit< tt,
       inr (
-        gone,
+        (input, refl, gone),
         unread_after_object held object bytes o (runs_next trace budget input) (Err (ReadFault (Word 1))) holds is
             (unread held 1 input (λ told bytes. AfterInput bytes (RunsOn trace budget o)) gone),
       ),

@@ -5,8 +5,9 @@ use Rattle.ada_meaning.specs.Execution.{Execution, Ends}
 use Rattle.ada_meaning.specs.Program.{Program}
 use Rattle.command_words.specs.Task.{Task, Compile, Run, Coverage, Consolidate}
 use Rattle.program_objects.specs.Legal.{IsLegal}
-use Rattle.program_objects.specs.Source.{IsObjectOf, IsCheap}
+use Rattle.program_objects.specs.Source.{entry_of_file, IsObjectOf, IsCheap}
 use Rattle.cov_base.specs.declared.level.Annotation.{Annotation}
+use Rattle.cov_base.specs.declared.level.Annotation.TheVariants.{Xcov}
 use Rattle.cov_base.specs.declared.level.Level.{Level}
 use Rattle.cov_base.specs.declared.obligations.SourceFile.{SourceFile}
 use Rattle.cov_io.specs.Outside.{Held, Rose}
@@ -15,6 +16,7 @@ use Rattle.commands.specs.Content.{IsInputOf}
 use Rattle.commands.specs.declared.status.Status.{Status}
 use Rattle.commands.specs.declared.status.Status.TheVariants.{Done, Trap, WantOfMemory}
 use Rattle.commands.specs.Outcome.{Call}
+use Rattle.commands.specs.Reading.{AreKept}
 use Rattle.commands.specs.RunsCovered.{ARun, AreTracesOf}
 use Rattle.commands.specs.TaskFiles.{AreHeld}
 use Rattle.kernel_code.specs.Whole.{IsInput}
@@ -56,13 +58,17 @@ ProgramsDoNotTrap task call status =
     → (files : List SourceFile) (main : List ℕ) (p : Program) (o : Object) → IsObjectOf files main p o → finmap.get held object ≡ Some (object_bytes o)
     → (pc : ℕ) (why : TrapWhy) → status ≡ Trap pc why → ⊥
 
+-- where sources are to be annotated, each is there with the digest that the object keeps
+abbrev pub SourcesAreThere : Annotation → Held → List SourceFile → Type 0
+SourcesAreThere annotation held files = annotation ≡ Xcov → AreKept held (map entry_of_file files)
+
 -- traces of runs of a program's object are covered
 unfoldable pub TracesAreCovered : Option Task → Call → Status → Type 0
 TracesAreCovered task call status =
     (held : Held) (level : Level) (annotation : Annotation) (object : List ℕ) (names : List (List ℕ))
     → call.held ≡ Some held → task ≡ Some (Coverage level annotation object names) → NothingFails call
     → (files : List SourceFile) (main : List ℕ) (p : Program) (o : Object) → IsObjectOf files main p o
-    → finmap.get held object ≡ Some (object_bytes o)
+    → finmap.get held object ≡ Some (object_bytes o) → SourcesAreThere annotation held files
     → (runs : List ARun) → AreTracesOf held o names runs → Everywhere (λ r. IsInput r.input) runs → IsDone status
 
 -- such traces are consolidated

@@ -1,9 +1,8 @@
 -- What a command's answer says of the bytes that it read. This is the one place for it: what is written here is a
 -- clause of the program's public call, since `ComesTo` is made of these words and of nothing else.
-use Rattle.std.specs.Prelude.{◌≡◌, ◌≢◌, ◌↔◌, ◌⊎◌, ℕ, ℤ, ◌++◌, Bool, true, false, nat_eq, List, [], length, map, sum_by, codes, AllPairs, Some, None, Ok, Err}
+use Rattle.std.specs.Prelude.{◌≡◌, ◌≢◌, ◌↔◌, ◌⊎◌, ℕ, ℤ, ◌++◌, Bool, true, false, nat_eq, List, [], length, sum_by, codes, AllPairs, Some, None, Ok, Err}
 use Rattle.std.specs.Fmt.{decimal}
 use Rattle.std.specs.List.{AllByRecursion, starts_with}
-use Rattle.annotated_report.specs.Report.{report_text}
 use Rattle.ada_meaning.specs.Program.{Program}
 use Rattle.program_objects.specs.Legal.{AreRefused}
 use Rattle.program_objects.specs.Source.{IsObjectOf, IsCheap}
@@ -23,12 +22,13 @@ use Rattle.commands.specs.declared.status.Status.{Status}
 use Rattle.commands.specs.declared.status.Status.TheVariants.{SourceRefused, ObjectRefused, TraceRefused, InputRefused, OverBudget, Trap}
 use Rattle.commands.specs.declared.status.TraceWhy.TheVariants.{File, Fit, Broken, Consolidated}
 use Rattle.commands.specs.RunLines.{closing_of, run_lines}
+use Rattle.commands.specs.Texts.{coverage_text}
 use Rattle.hex.specs.Hex.{encode_lower}
 use Rattle.object_facts.specs.Object.{facts_of}
 use Rattle.object_format.specs.declared.fault.ObjectFault.{ObjectFault}
 use Rattle.object_format.specs.declared.object.Object.{Object}
 use Rattle.object_format.specs.File.{object_bytes}
-use Rattle.object_format.specs.Read.{IsObject, is_plain, passes_plain_field, IsRefusedFor}
+use Rattle.object_format.specs.Read.{IsObject, IsRefusedFor}
 use Rattle.rv32_emulator.specs.InputFile.{numbers_of}
 use Rattle.rv_machine.specs.Objects.{object_run}
 use Rattle.rv_semantics.specs.declared.stepped.Seen.{Seen}
@@ -56,10 +56,9 @@ pub record Made : Type 0 where
 
 -- ---- objects, traces and consolidated files that were read
 
--- the bytes are the file of this object, in the language of the moment
+-- the bytes are the file of this object
 pub record IsFileOf (o : Object) (bytes : List ℕ) : Type 0 where
   pub checked : IsObject o
-  pub plain : is_plain o ≡ true
   pub spelled : bytes ≡ object_bytes o
 
 -- each branch of a trace's history that is not the root of its decision's graph follows one that leads to it
@@ -143,7 +142,7 @@ pub record CompilesTo (main : List ℕ) (sources : List SourceFile) (made : Made
 
 -- all commands but compile: the bytes are no object, and this is the first check that they fail
 abbrev pub RefusesObject : (object : List ℕ) → Status → Type 0
-RefusesObject object status = (why : ObjectFault) × IsRefusedFor passes_plain_field object why × (status ≡ ObjectRefused why)
+RefusesObject object status = (why : ObjectFault) × IsRefusedFor object why × (status ≡ ObjectRefused why)
 
 -- the bytes are an input of these numbers
 abbrev pub IsInputOf : List ℤ → (input : List ℕ) → Type 0
@@ -219,20 +218,22 @@ ListsRun digest bytes =
 abbrev pub Counts : (digest bytes : List ℕ) → Type 0
 Counts digest bytes = ByMagic bytes (ListsRun digest bytes) (ClosesWith digest bytes)
 
--- the text is the report at a level on an object, over events and over runs with digests: each of the events is there, and each run is
--- counted once
-pub record IsReport (level : Level) (o : Object) (IsThere : Event → Type 0) (IsCounted : List ℕ → Type 0) (text : List ℕ) : Type 0 where
+-- the text is the report in a form at a level on an object, over these sources, over events and over runs with digests: each
+-- of the events is there, and each run is counted once
+pub record IsReport (level : Level) (annotation : Annotation) (o : Object) (sources : List SourceFile)
+    (IsThere : Event → Type 0) (IsCounted : List ℕ → Type 0) (text : List ℕ) : Type 0 where
   pub events : List Event
   pub digests : List (List ℕ)
   pub all_events : (e : Event) → Somewhere (λ x. x ≡ e) events ↔ IsThere e
   pub all_digests : (digest : List ℕ) → Somewhere (λ x. x ≡ digest) digests ↔ IsCounted digest
   pub each_once : AllPairs (λ x y. x ≢ y) digests
-  pub told : text ≡ report_text level o.obligations (length digests) events (map (λ file. file.name) o.files)
+  pub told : text ≡ coverage_text annotation level o.obligations (length digests) events sources
 
--- each of the files is a trace of the object; the text is the report at the level of what they show
-pub record Reports (level : Level) (annotation : Annotation) (o : Object) (traces : List (List ℕ)) (text : List ℕ) : Type 0 where
+-- each of the files is a trace of the object; the text is the report in the form, at the level, of what they show
+pub record Reports (level : Level) (annotation : Annotation) (o : Object) (sources : List SourceFile)
+    (traces : List (List ℕ)) (text : List ℕ) : Type 0 where
   pub fit : AllByRecursion (IsTraceFor o) traces
-  pub report : IsReport level o (λ e. Somewhere (λ trace. Shows o trace e) traces)
+  pub report : IsReport level annotation o sources (λ e. Somewhere (λ trace. Shows o trace e) traces)
       (λ digest. Somewhere (Counts digest) traces) text
 
 -- the coverage is of the object, and stands for these events and runs with digests

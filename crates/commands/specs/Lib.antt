@@ -9,12 +9,14 @@ pub mod ShownPairs
 pub mod Lines
 pub mod Outcome
 pub mod Prepared
+pub mod Products
 pub mod Reading
 pub mod Ready
 pub mod RunLines
 pub mod RunsConsolidated
 pub mod RunsCovered
 pub mod TaskFiles
+pub mod Texts
 pub mod TraceWords
 pub mod Verdict
 pub use Rattle.program_objects.specs.Built

@@ -4,7 +4,7 @@ use Rattle.std.specs.Fmt.{decimal}
 use Rattle.object_format.specs.declared.fault.ObjectFault.{ObjectFault}
 use Rattle.object_format.specs.declared.fault.ObjectFault.TheVariants.{Short, Magic, Version, Long, Damaged, Field, Decision, Row, Role}
 use Rattle.commands.specs.declared.status.Status.{Status}
-use Rattle.commands.specs.declared.status.Status.TheVariants.{Done, Usage, SourceRefused, ObjectRefused, TraceRefused, InputRefused, OverBudget, Trap, ReadFault, WriteFault, WantOfMemory}
+use Rattle.commands.specs.declared.status.Status.TheVariants.{Done, Usage, SourceRefused, ObjectRefused, TraceRefused, InputRefused, OverBudget, Trap, SourceChanged, ReadFault, WriteFault, WantOfMemory}
 use Rattle.commands.specs.TraceWords.{address_text, trace_text}
 use Rattle.program_objects.specs.Why.{why_text}
 use Rattle.rv_semantics.specs.TrapWords.{trap_words}
@@ -19,6 +19,7 @@ number_of (TraceRefused index why) = 4
 number_of (InputRefused line) = 5
 number_of (OverBudget count) = 6
 number_of (Trap pc why) = 7
+number_of (SourceChanged file) = 8
 number_of (ReadFault file) = 9
 number_of WriteFault = 10
 number_of WantOfMemory = 11
@@ -45,6 +46,7 @@ line_of name (TraceRefused index why) = codes "gnatcov: trace " ++ (decimal inde
 line_of name (InputRefused line) = codes "gnatcov: input line " ++ (decimal line ++ codes " refused\n")
 line_of name (OverBudget count) = codes "gnatcov: over budget after " ++ (decimal count ++ codes " instructions\n")
 line_of name (Trap pc why) = codes "gnatcov: trap at " ++ (address_text pc ++ (codes ": " ++ (trap_words why ++ codes "\n")))
+line_of name (SourceChanged file) = codes "gnatcov: source changed: " ++ (name ++ codes "\n")
 line_of name (ReadFault file) = codes "gnatcov: cannot read " ++ (name ++ codes "\n")
 line_of name WriteFault = codes "gnatcov: cannot write\n"
 line_of name WantOfMemory = codes "gnatcov: out of memory\n"

@@ -4,10 +4,10 @@ use Rattle.command_words.specs.Task.{Task}
 use Rattle.cov_io.specs.Outside.{Held, Rose, WhereTold, IsAbsent, SameBut, Replaces, Appends, AppendsPrefix}
 use Rattle.commands.specs.declared.status.FileRef.{FileRef}
 use Rattle.commands.specs.declared.status.Status.{Status}
-use Rattle.commands.specs.declared.status.Status.TheVariants.{Done, Usage, ReadFault, WriteFault, WantOfMemory}
+use Rattle.commands.specs.declared.status.Status.TheVariants.{Done, Usage, SourceChanged, ReadFault, WriteFault, WantOfMemory}
 use Rattle.commands.specs.Lines.{line_of}
-use Rattle.commands.specs.TaskFiles.{output_of}
-use Rattle.commands.specs.Verdict.{NewFile, Output, ComesTo, IsRead, name_at, name_of}
+use Rattle.commands.specs.TaskFiles.{output_of, ShowsSources, IsRead, IsNameOf}
+use Rattle.commands.specs.Verdict.{NewFile, Output, ComesTo, TellsName}
 
 -- the files and the sink before and after a call
 pub record Call : Type 0 where
@@ -99,11 +99,15 @@ pub record Delivered (task : Task) (status : Status) (call : Call) : Type 0 wher
   pub comes : IfSome call.held (λ held. ComesTo held task (Ok output))
   pub delivers : Delivers output call status
 
+-- a file that the task reads is told not to be there
+abbrev pub IsMissing : Option Held → Task → FileRef → Type 0
+IsMissing held task file = (name : List ℕ) × IsNameOf held task file name × IsAbsent held name
+
 -- this file can't be read: reading failed, or it is told not to be there
 abbrev pub CannotGet : Task → FileRef → Option Held → ℕ → ℕ → Type 0
 CannotGet task file held reads reads' =
-    IsRead task file
-    × (Rose reads reads' ⊎ (IsAbsent held (name_at task file) × IsSomeAnd held (λ told. ComesTo told task (Err (ReadFault file)))))
+    IsRead held task file
+    × (Rose reads reads' ⊎ (IsMissing held task file × IsSomeAnd held (λ told. ComesTo told task (Err (ReadFault file)))))
 
 -- what a check says of the bytes that were read
 abbrev pub Refuses : Task → Status → Option Held → ℕ → ℕ → Type 0
@@ -116,6 +120,7 @@ Stops task held reads reads' Usage = ⊥
 Stops task held reads reads' WriteFault = ⊥
 Stops task held reads reads' WantOfMemory = Unit {0}
 Stops task held reads reads' (ReadFault file) = CannotGet task file held reads reads'
+Stops task held reads reads' (SourceChanged file) = ShowsSources task × Refuses task (SourceChanged file) held reads reads'
 Stops task held reads reads' status = Refuses task status held reads reads'
 
 -- what making the output says, before anything is written or put
@@ -124,16 +129,19 @@ Prepares task held reads reads' (Ok output) =
     (reads' ≡ reads) × IsNamed task output × IfSome held (λ told. ComesTo told task (Ok output))
 Prepares task held reads reads' (Err status) = Stops task held reads reads' status
 
+-- all files are as before, and the line of this status was put
+pub record PutsRefusal (task : Task) (call : Call) (status : Status) : Type 0 where
+  pub name : List ℕ
+  pub named : TellsName call.held task status name
+  pub ends : Ends (line_of name status) call
+
 -- why this status, and what it leaves
 abbrev pub Because : Task → Call → Status → Type 0
 Because task call Done = Delivered task Done call
 Because task call Usage = ⊥
 Because task call WriteFault = Delivered task WriteFault call
 Because task call WantOfMemory = Ends (line_of [] WantOfMemory) call
-Because task call (ReadFault file) =
-    CannotGet task file call.held call.reads call.reads_after × Ends (line_of (name_at task file) (ReadFault file)) call
-Because task call status =
-    Refuses task status call.held call.reads call.reads_after × Ends (line_of (name_of task status) status) call
+Because task call status = Stops task call.held call.reads call.reads_after status × PutsRefusal task call status
 
 -- the same of the words: where they are no command, or there was no memory to tell, nothing is read
 abbrev pub Answers : Option Task → Call → Status → Type 0

@@ -1,23 +1,33 @@
 -- What reading files says.
-use Rattle.std.specs.Prelude.{◌≡◌, ℕ, ◌+◌, List, [], ◌∷◌, ◌++◌, length, map, take, Option, IfSome, IsSomeAnd, ◌⊎◌}
+use Rattle.std.specs.Prelude.{◌≡◌, ◌≢◌, ℕ, ◌+◌, List, [], ◌∷◌, ◌++◌, length, map, take, Option, IfSome, IsSomeAnd, ◌⊎◌}
 use Rattle.std.specs.FinMap as finmap
+use Rattle.cov_base.specs.declared.level.Annotation.{Annotation}
 use Rattle.cov_base.specs.declared.obligations.SourceFile.{SourceFile}
 use Rattle.cov_io.specs.Outside.{Held, Holds, Rose, IsAbsent}
+use Rattle.cov_base.specs.Lists.{Everywhere}
 use Rattle.commands.specs.Content.{IsTraceFor, IsRunTraceFor, RefusesTrace, RefusesRunTrace}
 use Rattle.commands.specs.Covering.{Adds, AddsRun}
 use Rattle.commands.specs.declared.status.Status.{Status}
-use Rattle.commands.specs.declared.status.Status.TheVariants.{WantOfMemory, ReadFault, TraceRefused}
+use Rattle.commands.specs.declared.status.Status.TheVariants.{WantOfMemory, ReadFault, SourceChanged, TraceRefused}
 use Rattle.commands.specs.declared.status.TraceWhy.{TraceWhy}
-use Rattle.commands.specs.declared.status.FileRef.TheVariants.{Word}
-use Rattle.commands.specs.TaskFiles.{AreHeld}
+use Rattle.commands.specs.declared.status.FileRef.{FileRef}
+use Rattle.commands.specs.declared.status.FileRef.TheVariants.{Word, Source}
+use Rattle.commands.specs.TaskFiles.{AreHeld, entry_names, held_under, read_for}
+use Rattle.commands.specs.Texts.{names_of, ShowSame}
 use Rattle.coverage_set.specs.Covered.{Covered}
+use Rattle.object_format.specs.declared.object.FileEntry.{FileEntry}
 use Rattle.object_format.specs.declared.object.Object.{Object}
+use Rattle.sha2.specs.Sha256.{sha256}
 use Rattle.trace_format.specs.Stream.{AreTold}
+
+-- why this file, which has this name, was not read
+abbrev pub IsFileUnread : FileRef → List ℕ → Option Held → ℕ → ℕ → Status → Type 0
+IsFileUnread file name held reads reads' status =
+    (status ≡ WantOfMemory) ⊎ ((status ≡ ReadFault file) × (Rose reads reads' ⊎ IsAbsent held name))
 
 -- why the file in this place was not read
 abbrev pub IsUnread : ℕ → List ℕ → Option Held → ℕ → ℕ → Status → Type 0
-IsUnread place name held reads reads' status =
-    (status ≡ WantOfMemory) ⊎ ((status ≡ ReadFault (Word place)) × (Rose reads reads' ⊎ IsAbsent held name))
+IsUnread place = IsFileUnread (Word place)
 
 -- the answer of a check, unless memory was refused
 abbrev pub UnlessMemory : (Status → Type 0) → Status → Type 0
@@ -42,6 +52,46 @@ pub record StopsReading (names : List (List ℕ)) (held : Option Held) (reads re
   pub are : names ≡ map (λ source. source.name) earlier ++ (name ∷ later)
   pub read : WereHeld held earlier
   pub unread : IsUnread (length earlier) name held reads reads' status
+
+-- ---- sources that an object lists
+
+-- the file of a source that an object lists is there, with the digest that the object keeps
+abbrev pub IsKept : Held → FileEntry → Type 0
+IsKept told entry = (bytes : List ℕ) × Holds entry.name bytes told × (sha256 bytes ≡ entry.sha256)
+
+abbrev pub AreKept : Held → List FileEntry → Type 0
+AreKept told entries = Everywhere (IsKept told) entries
+
+-- these sources were read as the object lists them; where the files tell what they hold, each has its digest
+pub record WereKept (entries : List FileEntry) (held : Option Held) (sources : List SourceFile) : Type 0 where
+  pub named : names_of sources ≡ entry_names entries
+  pub read : IfSome held (λ told. AreKept told entries × (sources ≡ held_under told (entry_names entries)))
+
+-- the same of the sources that coverage in a form shows, of which it reads those that it annotates
+pub record WereShown (annotation : Annotation) (entries : List FileEntry) (held : Option Held) (sources : List SourceFile) : Type 0 where
+  pub named : names_of sources ≡ entry_names entries
+  pub read : IfSome held (λ told. AreKept told (read_for annotation entries)
+      × ShowSame annotation sources (held_under told (entry_names entries)))
+
+-- the source with this number has another digest than the object keeps
+abbrev pub IsChanged : ℕ → FileEntry → Option Held → ℕ → ℕ → Status → Type 0
+IsChanged number entry held reads reads' status =
+    (status ≡ SourceChanged number) × (reads' ≡ reads)
+    × IfSome held (λ told. (bytes : List ℕ) × Holds entry.name bytes told × (sha256 bytes ≢ entry.sha256))
+
+-- why the source with this number stops the command
+abbrev pub StopsAtSource : ℕ → FileEntry → Option Held → ℕ → ℕ → Status → Type 0
+StopsAtSource number entry held reads reads' status =
+    IsFileUnread (Source number) entry.name held reads reads' status ⊎ IsChanged number entry held reads reads' status
+
+-- one of these sources, from number 0, stops the command, and those before it were read
+pub record StopsAmongSources (entries : List FileEntry) (held : Option Held) (reads reads' : ℕ) (status : Status) : Type 0 where
+  pub earlier : List FileEntry
+  pub entry : FileEntry
+  pub later : List FileEntry
+  pub are : entries ≡ earlier ++ (entry ∷ later)
+  pub read : IfSome held (λ told. AreKept told earlier)
+  pub stops : StopsAtSource (length earlier) entry held reads reads' status
 
 -- ---- one trace after another
 

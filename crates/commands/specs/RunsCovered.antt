@@ -1,7 +1,6 @@
 -- What coverage prints of an object's own runs.
-use Rattle.std.specs.Prelude.{◌≡◌, ◌≢◌, ◌↔◌, ◌⊎◌, ℕ, ℤ, List, [], ◌∷◌, ◌++◌, length, map, AllPairs, Option, Some, Ok}
+use Rattle.std.specs.Prelude.{◌≡◌, ◌≢◌, ◌↔◌, ◌⊎◌, ℕ, ℤ, List, [], ◌∷◌, ◌++◌, length, AllPairs, Option, Some, Ok}
 use Rattle.std.specs.FinMap as finmap
-use Rattle.annotated_report.specs.Report.{report_text}
 use Rattle.command_words.specs.Task.{Task, Coverage}
 use Rattle.cov_base.specs.declared.event.Event.{Event}
 use Rattle.cov_base.specs.declared.level.Annotation.{Annotation}
@@ -14,6 +13,8 @@ use Rattle.commands.specs.Content.{IsFileOf, StandsFor, trace_file}
 use Rattle.commands.specs.declared.status.Status.{Status}
 use Rattle.commands.specs.declared.status.Status.TheVariants.{Done}
 use Rattle.commands.specs.Outcome.{Call}
+use Rattle.commands.specs.TaskFiles.{entry_names, held_under}
+use Rattle.commands.specs.Texts.{coverage_text}
 use Rattle.object_facts.specs.Object.{facts_of}
 use Rattle.object_format.specs.declared.object.Object.{Object}
 use Rattle.rv_machine.specs.Objects.{object_run}
@@ -65,8 +66,9 @@ AreTracesOf held o (name ∷ names) runs =
     (own : List ARun) × (others : List ARun) × (runs ≡ own ++ others)
     × (bytes : List ℕ) × (finmap.get held name ≡ Some bytes) × IsWrittenOf o own bytes × AreTracesOf held o names others
 
--- After Done of coverage over an object and traces of runs of it with disciplined transcripts, what was put is the report of the events that
--- these transcripts tell, whatever the list in which they are given, and of the number of their different traces.
+-- After Done of coverage over an object and traces of runs of it with disciplined transcripts, what was put is the report, in the form
+-- that was asked for, of the events that these transcripts tell, whatever the list in which they are given, and of the number of their
+-- different traces. Annotated sources show the lines that the files hold.
 unfoldable pub RunsAreCovered : Option Task → Call → Status → Type 0
 RunsAreCovered task call status =
     (held : Held) (level : Level) (annotation : Annotation) (object : List ℕ) (names : List (List ℕ))
@@ -76,4 +78,6 @@ RunsAreCovered task call status =
     → (events : List Event) → ((e : Event) → Somewhere (λ x. x ≡ e) events ↔ Somewhere (λ r. Tells (facts_of o) (transcript_of o r) e) runs)
     → (digests : List (List ℕ)) → ((d : List ℕ) → Somewhere (λ x. x ≡ d) digests ↔ Somewhere (λ r. digest_of_run o r ≡ d) runs)
     → AllPairs (λ x y. x ≢ y) digests
-    → WhereTold (Appends (report_text level o.obligations (length digests) events (map (λ file. file.name) o.files))) call.written call.written_after
+    → WhereTold
+    (Appends (coverage_text annotation level o.obligations (length digests) events (held_under held (entry_names o.files))))
+    call.written call.written_after

@@ -1,18 +1,20 @@
 -- What a task comes to on what the files hold, where nothing outside fails and memory suffices.
-use Rattle.std.specs.Prelude.{◌≡◌, ℕ, ◌+◌, ◌<◌, ℤ, List, [], ◌∷◌, length, Option, None, Some, MatchOption, unwrap_or, slice_get, Result, Err, MatchResult, IsOkAnd, IsErrAnd, ◌⊎◌}
+use Rattle.std.specs.Prelude.{◌≡◌, ◌≢◌, ◌⊎◌, ℕ, ◌+◌, ℤ, List, [], ◌∷◌, Option, None, Some, MatchOption, Result, Err, MatchResult, IsOkAnd, IsErrAnd}
 use Rattle.std.specs.FinMap as finmap
 use Rattle.cov_base.specs.declared.level.Annotation.{Annotation}
 use Rattle.cov_base.specs.declared.level.Level.{Level}
 use Rattle.cov_base.specs.declared.obligations.SourceFile.{SourceFile}
 use Rattle.command_words.specs.Task.{Task, Compile, Run, Coverage, Consolidate}
-use Rattle.cov_io.specs.Outside.{Held}
+use Rattle.cov_io.specs.Outside.{Held, Holds}
 use Rattle.commands.specs.Content.{Made, IsFileOf, RefusesSources, CompilesTo, RefusesObject, IsInputOf, RefusesInput, StopsRun, RunsTo, IsTraceFor, RefusesTrace, Reports, ConsolidatesTo}
 use Rattle.commands.specs.declared.status.FileRef.{FileRef}
-use Rattle.commands.specs.declared.status.FileRef.TheVariants.{Word}
+use Rattle.commands.specs.declared.status.FileRef.TheVariants.{Word, Source}
 use Rattle.commands.specs.declared.status.Status.{Status}
-use Rattle.commands.specs.declared.status.Status.TheVariants.{SourceRefused, ReadFault}
-use Rattle.commands.specs.TaskFiles.{files_of}
+use Rattle.commands.specs.declared.status.Status.TheVariants.{SourceRefused, SourceChanged, ReadFault}
+use Rattle.commands.specs.TaskFiles.{entry_names, files_of, held_under, name_in_place, read_for, IsNameOf}
+use Rattle.object_format.specs.declared.object.FileEntry.{FileEntry}
 use Rattle.object_format.specs.declared.object.Object.{Object}
+use Rattle.sha2.specs.Sha256.{sha256}
 
 -- a file to be written
 pub record NewFile : Type 0 where
@@ -25,9 +27,13 @@ pub record Output : Type 0 where
   pub text : List ℕ
 
 -- a file is there, and what follows holds of its bytes; or it is not, and that is the answer
+abbrev pub AfterFile : Held → FileRef → List ℕ → (List ℕ → Result Output Status → Type 0) → Result Output Status → Type 0
+AfterFile held file name Then verdict =
+    MatchOption (finmap.get held name) (verdict ≡ Err (ReadFault file)) (λ bytes. Then bytes verdict)
+
+-- the same of a file that the words name, in this place
 abbrev pub AfterRead : Held → ℕ → List ℕ → (List ℕ → Result Output Status → Type 0) → Result Output Status → Type 0
-AfterRead held place name Then verdict =
-    MatchOption (finmap.get held name) (verdict ≡ Err (ReadFault (Word place))) (λ bytes. Then bytes verdict)
+AfterRead held place = AfterFile held (Word place)
 
 -- the bytes are those of an object, and what follows holds of it; or they are none, and that is the answer
 abbrev pub AfterObject : List ℕ → (Object → Result Output Status → Type 0) → Result Output Status → Type 0
@@ -74,9 +80,29 @@ AfterTraces held o number (name ∷ names) Then verdict =
     (λ trace. AfterTrace number o trace (AfterTraces held o (number + 1) names (λ traces. Then (trace ∷ traces))))
     verdict
 
+-- the source that an object lists under this number has the digest that it keeps, and what follows holds; or it has
+-- another, and that is the answer
+abbrev pub AfterDigest : (number : ℕ) → FileEntry → (source : List ℕ) → (Result Output Status → Type 0) → Result Output Status → Type 0
+AfterDigest number entry source Then verdict =
+    ((sha256 source ≢ entry.sha256) × (verdict ≡ Err (SourceChanged number))) ⊎ ((sha256 source ≡ entry.sha256) × Then verdict)
+
+-- these sources are read and checked one after another, the first with this number, and what follows holds
+abbrev pub AfterKept : Held → (number : ℕ) → List FileEntry → (Result Output Status → Type 0) → Result Output Status → Type 0
+AfterKept held number [] Then verdict = Then verdict
+AfterKept held number (entry ∷ entries) Then verdict =
+    AfterFile held (Source number) entry.name
+    (λ source. AfterDigest number entry source (AfterKept held (number + 1) entries Then))
+    verdict
+
+-- all files were read, and this is printed of them
+abbrev pub Prints : Held → Level → Annotation → Object → List (List ℕ) → Result Output Status → Type 0
+Prints held level annotation o traces verdict =
+    IsOkAnd verdict (λ output. (output.file ≡ None)
+    × Reports level annotation o (held_under held (entry_names o.files)) traces output.text)
+
 -- the object and the traces were read
-abbrev pub Covers : Level → Annotation → Object → List (List ℕ) → Result Output Status → Type 0
-Covers level annotation o traces verdict = IsOkAnd verdict (λ output. (output.file ≡ None) × Reports level annotation o traces output.text)
+abbrev pub Covers : Held → Level → Annotation → Object → List (List ℕ) → Result Output Status → Type 0
+Covers held level annotation o traces = AfterKept held 0 (read_for annotation o.files) (Prints held level annotation o traces)
 
 -- the object and the traces were read, and the file is to have this name
 abbrev pub Consolidates : (name : List ℕ) → Object → List (List ℕ) → Result Output Status → Type 0
@@ -90,20 +116,25 @@ ComesTo held (Run input budget trace object) verdict =
     (λ bytes. AfterObject bytes (λ o. AfterRead held 1 input (λ bytes. AfterInput bytes (RunsOn trace budget o))))
     verdict
 ComesTo held (Coverage level annotation object traces) verdict =
-    AfterRead held 0 object (λ bytes. AfterObject bytes (λ o. AfterTraces held o 1 traces (Covers level annotation o))) verdict
+    AfterRead held 0 object (λ bytes. AfterObject bytes (λ o. AfterTraces held o 1 traces (Covers held level annotation o))) verdict
 ComesTo held (Consolidate object output traces) verdict =
     AfterRead held 0 object (λ bytes. AfterObject bytes (λ o. AfterTraces held o 1 traces (Consolidates output o))) verdict
 
--- the name of a file that a task reads
-abbrev pub name_at : Task → FileRef → List ℕ
-name_at task (Word place) = unwrap_or (slice_get (files_of task) place) []
+-- ---- names
 
--- the task reads this file
-abbrev pub IsRead : Task → FileRef → Type 0
-IsRead task (Word place) = place < length (files_of task)
+-- the name that the words give to a file; they give none to a source that the object names
+abbrev pub word_of : Task → FileRef → List ℕ
+word_of task (Word place) = name_in_place (files_of task) place
+word_of task (Source number) = []
 
--- the name that the line of a refusal tells
-abbrev pub name_of : Task → Status → List ℕ
-name_of task (SourceRefused file line col why) = name_at task (Word file)
-name_of task (ReadFault file) = name_at task file
-name_of task status = []
+-- and to the file that a status tells of
+abbrev pub word_for : Task → Status → List ℕ
+word_for task (SourceRefused file line col why) = word_of task (Word file)
+word_for task (ReadFault file) = word_of task file
+word_for task status = []
+
+-- this is the name in the line that tells a status
+abbrev pub TellsName : Option Held → Task → Status → (name : List ℕ) → Type 0
+TellsName held task (ReadFault file) name = IsNameOf held task file name
+TellsName held task (SourceChanged number) name = IsNameOf held task (Source number) name
+TellsName held task status name = name ≡ word_for task status

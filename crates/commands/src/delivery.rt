@@ -5,11 +5,12 @@ ghost use Rattle.command_words.specs.Command.{task_view};
 ghost use Rattle.commands.specs.declared.status.Status.TheVariants.{WantOfMemory};
 ghost use Rattle.commands.specs.Lines.{line_of};
 ghost use Rattle.commands.specs.Outcome.{call_of, PutsText, Delivers};
-ghost use Rattle.commands.specs.Ready.{output_view};
-ghost use Rattle.commands.specs.Verdict.{name_at, name_of};
+ghost use Rattle.commands.specs.Ready.{output_view, told_name};
+ghost use Rattle.commands.specs.TaskFiles.{files_of, name_in_place};
+ghost use Rattle.commands.specs.Verdict.{word_for, word_of};
 
 use crate::ready::Ready;
-use crate::status::{FileRef, OUT_OF_MEMORY_LINE, Status, WRITE_FAULT_LINE};
+use crate::status::{FileRef, OUT_OF_MEMORY_LINE, Refusal, Status, WRITE_FAULT_LINE};
 use command_words::Command;
 use cov_io::{FileFault, Files, Sink};
 use std::alloc::Global;
@@ -41,15 +42,22 @@ pub fn deliver<F: Files, S: Sink>(ready: &Ready, files: &mut F, out: &mut S) -> 
 }
 
 /// Puts the line of a refusal. Where there is no memory for the line, that is the answer.
-pub fn refuse<S: Sink>(alloc: Global, command: &Command<'_>, status: Status, out: &mut S) -> Status
-    ensures status { (result ≡ status) ⊎ (result ≡ WantOfMemory) }
-    ensures puts { PutsText (line_of (name_of (task_view command.now) result) result) (S.written out.old)
-        (S.written out.new) (S.failures out.old) (S.failures out.new) }
+pub fn refuse<S: Sink>(
+    alloc: Global,
+    command: &Command<'_>,
+    refusal: &Refusal,
+    out: &mut S,
+) -> Status
+    ensures { ((result ≡ refusal.now.status)
+        × PutsText (line_of (told_name (task_view command.now) refusal.now) result) (S.written out.old)
+        (S.written out.new) (S.failures out.old) (S.failures out.new))
+        ⊎ ((result ≡ WantOfMemory) × PutsText (line_of [] result) (S.written out.old) (S.written out.new)
+        (S.failures out.old) (S.failures out.new)) }
 {
-    match status.line(alloc, name_of(command, status)) {
+    match refusal.status.line(alloc, told_name(command, refusal)) {
         Ok(line) => {
             put_line(line.as_str(), out);
-            status
+            refusal.status
         }
         Err(_) => {
             put_line(OUT_OF_MEMORY_LINE, out);
@@ -59,21 +67,40 @@ pub fn refuse<S: Sink>(alloc: Global, command: &Command<'_>, status: Status, out
 }
 
 /// The name that the line of a refusal tells.
-fn name_of<'a>(command: &Command<'a>, status: Status) -> &'a str
-    ensures { result.now ≡ name_of (task_view command.now) status }
+fn told_name<'a>(command: &Command<'a>, refusal: &'a Refusal) -> &'a str
+    ensures { result.now ≡ told_name (task_view command.now) refusal.now }
+{
+    match &refusal.source {
+        Some(name) => name.as_str(),
+        None => word_for(command, refusal.status),
+    }
+}
+
+/// The name that the words give to the file that a status tells of.
+fn word_for<'a>(command: &Command<'a>, status: Status) -> &'a str
+    ensures { result.now ≡ word_for (task_view command.now) status }
 {
     match status {
-        Status::SourceRefused { file, .. } => name_at(command, FileRef::Word(file)),
-        Status::ReadFault { file } => name_at(command, file),
+        Status::SourceRefused { file, .. } => word_of(command, FileRef::Word(file)),
+        Status::ReadFault { file } => word_of(command, file),
         _ => "",
     }
 }
 
-/// The name of a file that the command reads.
-fn name_at<'a>(command: &Command<'a>, file: FileRef) -> &'a str
-    ensures { result.now ≡ name_at (task_view command.now) file }
+/// The name that the words give to a file. They give none to a source that the object names.
+fn word_of<'a>(command: &Command<'a>, file: FileRef) -> &'a str
+    ensures { result.now ≡ word_of (task_view command.now) file }
 {
-    let FileRef::Word(place) = file;
+    match file {
+        FileRef::Word(place) => name_in_place(command, place),
+        FileRef::Source(_) => "",
+    }
+}
+
+/// The name of the file in a place among those that the command names.
+fn name_in_place<'a>(command: &Command<'a>, place: u32) -> &'a str
+    ensures { result.now ≡ name_in_place (files_of (task_view command.now)) place }
+{
     match command {
         Command::Compile { sources, .. } => one_of(place, sources.as_slice()),
         Command::Run { input, object, .. } => among(place, object, &[*input]),

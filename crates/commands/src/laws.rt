@@ -3,6 +3,7 @@
 ghost use Rattle.std.specs.Prelude.{◌≡◌, ℕ, List, [], ◌∷◌};
 ghost use Rattle.cov_base.specs.declared.level.Annotation.{Annotation};
 ghost use Rattle.cov_base.specs.declared.level.Level.{Level};
+ghost use Rattle.cov_base.specs.declared.obligations.SourceFile.{SourceFile};
 ghost use Rattle.commands.specs.Content.{Made, IsTraceFor, Reports, ConsolidatesTo};
 ghost use Rattle.commands.specs.Grouping.{TellSame};
 ghost use Rattle.object_format.specs.Checked.{IsSound};
@@ -10,14 +11,14 @@ ghost use Rattle.object_format.specs.declared.object.Object.{Object};
 
 /// How runs are grouped into files does not matter, nor in which order these are named, nor how often.
 /// Files that show the same events and are of the same runs give the same consolidated file, the same
-/// lines and the same report. A consolidated file tells what the files do of which it was made, and is
+/// lines and the same report, in each form. A consolidated file tells what the files do of which it was made, and is
 /// taken wherever they are.
 pub fn grouping_does_not_matter()
     ensures consolidation { (o : Object) (files others : List (List ℕ)) (a b : Made) → TellSame o files others
         → ConsolidatesTo o files a → ConsolidatesTo o others b → a ≡ b }
     ensures report { (level : Level) (annotation : Annotation) (o : Object) (files others : List (List ℕ))
-        (a b : List ℕ) → TellSame o files others
-        → Reports level annotation o files a → Reports level annotation o others b → a ≡ b }
+        (sources : List SourceFile) (a b : List ℕ) → TellSame o files others
+        → Reports level annotation o sources files a → Reports level annotation o sources others b → a ≡ b }
     ensures stands { (o : Object) (files : List (List ℕ)) (made : Made) → ConsolidatesTo o files made
         → TellSame o files (made.file ∷ []) }
     ensures taken { (o : Object) (files : List (List ℕ)) (made : Made) → IsSound o → ConsolidatesTo o files made

@@ -26,6 +26,8 @@ pub use ready::coverage::{self, Product};
 pub use ready::sources::read_sources;
 pub use ready::{Ready, ReadyFile, run};
 pub use rv_machine::TrapWhy;
-pub use status::{FileRef, OUT_OF_MEMORY_LINE, Status, TraceWhy, USAGE_LINE, WRITE_FAULT_LINE};
+pub use status::{
+    FileRef, OUT_OF_MEMORY_LINE, Refusal, Status, TraceWhy, USAGE_LINE, WRITE_FAULT_LINE,
+};
 pub use trace_format::{ConsFault, TraceFault};
 pub use vector_rebuild::BrokenHistory;

@@ -15,6 +15,8 @@ use std::alloc::Global;
 pub mod compiled;
 mod consolidate;
 pub mod coverage;
+mod kept;
+mod printing;
 mod report;
 pub mod run;
 pub mod sources;

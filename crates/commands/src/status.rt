@@ -1,6 +1,6 @@
 //! What a call of the program comes to, and the line that tells it.
 
-ghost use Rattle.std.specs.Prelude.{◌≡◌, Some, IfOk, string_bytes};
+ghost use Rattle.std.specs.Prelude.{◌≡◌, None, Some, IfOk, string_bytes};
 ghost use Rattle.commands.specs.declared.status.Status.TheVariants.{WantOfMemory};
 ghost use Rattle.commands.specs.Lines.{number_of, line_of, object_word};
 ghost use Rattle.commands.specs.TraceWords.{address_text, trace_text, place_text, fit_text, foreign_text, consolidated_text};
@@ -18,6 +18,8 @@ use vector_rebuild::BrokenHistory;
 pub enum FileRef {
     /// A file that the command names, by its place from 0 in the order of reading.
     Word(u32),
+    /// A source that the object names, by its number there.
+    Source(u32),
 }
 
 /// The check that a trace file fails.
@@ -69,6 +71,10 @@ pub enum Status {
         pc: u32,
         why: TrapWhy,
     },
+    /// The source with this number in the object has another SHA-256 than the object keeps.
+    SourceChanged {
+        file: u32,
+    },
     /// This file could not be read, or isn't there.
     ReadFault {
         file: FileRef,
@@ -84,6 +90,42 @@ impl From<AllocError> for Status {
 
     fn from(_refused: AllocError) -> Self {
         Status::WantOfMemory
+    }
+}
+
+/// Why a command makes nothing.
+pub struct Refusal {
+    pub status: Status,
+    /// The name of the source that the status is of, where the object names it.
+    pub source: Option<String>,
+}
+
+// Written out: a derived drop is proved anew in each crate above.
+impl Drop for Refusal {
+    fn drop(self) {
+        let Refusal {
+            status: _,
+            source: _,
+        } = self;
+    }
+}
+
+impl From<Status> for Refusal {
+    ghost from_gives = { λ status refusal. (refusal.status ≡ status) × (refusal.source ≡ None) };
+
+    fn from(status: Status) -> Self {
+        Refusal {
+            status,
+            source: None,
+        }
+    }
+}
+
+impl From<AllocError> for Refusal {
+    ghost from_gives = { λ _ refusal. (refusal.status ≡ WantOfMemory) × (refusal.source ≡ None) };
+
+    fn from(_refused: AllocError) -> Self {
+        Refusal::from(Status::WantOfMemory)
     }
 }
 
@@ -110,6 +152,7 @@ impl Status {
             Status::InputRefused { .. } => 5,
             Status::OverBudget { .. } => 6,
             Status::Trap { .. } => 7,
+            Status::SourceChanged { .. } => 8,
             Status::ReadFault { .. } => 9,
             Status::WriteFault => 10,
             Status::WantOfMemory => 11,
@@ -143,6 +186,9 @@ impl Status {
             Status::Trap { pc, why } => {
                 let pc = address_text(alloc, pc)?;
                 format!(in alloc; "gnatcov: trap at {pc}: {why}\n")
+            }
+            Status::SourceChanged { .. } => {
+                format!(in alloc; "gnatcov: source changed: {name}\n")
             }
             Status::ReadFault { .. } => format!(in alloc; "gnatcov: cannot read {name}\n"),
             Status::WriteFault => String::from_str(alloc, WRITE_FAULT_LINE),

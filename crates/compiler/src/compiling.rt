@@ -35,7 +35,8 @@ pub fn compile(
     legal_programs_can_be_laid();
     built_objects_are_of_their_sources();
     let legal = legal_program(alloc, files, main)?;
-    let object = object_of(alloc, files, &legal.program, &legal.copies);
+    let regions = legal.regions;
+    let object = object_of(alloc, files, &legal.program, &legal.copies, regions);
     discard_program(legal.program);
     Ok(closed(alloc, object?)?)
 }

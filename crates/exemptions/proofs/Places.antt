@@ -7,11 +7,11 @@ use Rattle.cov_base.specs.declared.position.Pos.{Pos}
 use Rattle.ada_lexer.specs.declared.token.Lexeme.{Lexeme}
 use Rattle.ada_lexer.specs.declared.token.Lexeme.TheVariants as lexeme
 use Rattle.ada_lexer.specs.declared.token.Token.{Token}
-use Rattle.ada_lexer.specs.Tokens.{IsTokenOf, IsBefore}
+use Rattle.ada_lexer.specs.Tokens.{IsTokenOf, IsBefore, AreTokensOf}
 use Rattle.exemptions.specs.declared.mark.Mark.{Mark}
 use Rattle.exemptions.specs.declared.mark.Mark.TheVariants as mark
 use Rattle.exemptions.specs.Marks.{behind, exempt_off, exempt_on, pragma_end, said_behind, said_by, justification_of, on_of, mark_of, before, marks_of}
-use Rattle.exemptions.specs.Regions.{Paired, paired, region_of, with_region, regions_of, start_of, end_of, IsRegionOf, AreTokensOf, AreRegionsOf}
+use Rattle.exemptions.specs.Regions.{Paired, paired, region_of, with_region, regions_of, start_of, end_of, IsRegionOf, AreRegionsOf}
 
 -- pairs of a list, by recursion
 abbrev PairsByRecursion : {X : Type 0} → (X → X → Type 0) → List X → Type 0

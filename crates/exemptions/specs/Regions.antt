@@ -9,7 +9,7 @@ use Rattle.ada_lexer.specs.declared.token.Token.{Token}
 use Rattle.exemptions.specs.declared.mark.Mark.{Mark}
 use Rattle.exemptions.specs.declared.mark.Mark.TheVariants as mark
 use Rattle.exemptions.specs.declared.pairing.Unpaired.{Unpaired}
-use Rattle.ada_lexer.specs.Tokens.{IsTokenOf, IsBefore}
+use Rattle.ada_lexer.specs.Tokens.{IsBefore, AreTokensOf}
 use Rattle.exemptions.specs.Marks.{marks_of}
 
 -- regions, or the pragma that pairs with none
@@ -78,11 +78,6 @@ pub record IsRegionOf (file : ℕ) (region : Region) : Type 0 where
   pub to_column : 0 < region.to_column
   pub ordered : IsBefore (start_of region) (end_of region)
   pub ascii : IsAscii region.why
-
--- the tokens of a file, in their order
-pub record AreTokensOf (file : ℕ) (source : List ℕ) (tokens : List Token) : Type 0 where
-  pub each : All (IsTokenOf file source) tokens
-  pub places : AllPairs (λ a b. IsBefore a.pos b.pos) tokens
 
 -- regions of a file, each of which begins behind the end of those before it
 pub record AreRegionsOf (file : ℕ) (regions : List Region) : Type 0 where

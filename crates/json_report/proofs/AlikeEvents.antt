@@ -30,7 +30,7 @@ same_conditions level e vs ws places h =
     (same_object (size e) place (shown_pair level e vs c) (shown_pair level e ws c)
     (shown_texts level e vs ws c (shown_pair level e vs c) h (least_pair_is (size e) (kind_of level e c) vs)))))
 
-same_decision : (level : Level) (vs ws : List Vector) (entry : DecEntry) → AreAlike vs ws → decision_object level vs entry ≡ decision_object level ws entry
+pub same_decision : (level : Level) (vs ws : List Vector) (entry : DecEntry) → AreAlike vs ws → decision_object level vs entry ≡ decision_object level ws entry
 same_decision level vs ws entry h =
     let e = expr_of entry in
     same_told entry (gives e false vs) (gives e false ws) (gives e true vs) (gives e true ws)

@@ -1,16 +1,18 @@
 -- The distinct vectors depend on which vectors there are alone.
-use Rattle.std.proofs.Common.{◌≡◌, ℕ, zero, suc, ◌<◌, Bool, true, false, ◌&&◌, ◌||◌, nat_eq, List, [], ◌∷◌, map, nat_lt, refl, sym, ap, ◌∙◌, subst, inl, inr, arith}
+use Rattle.std.proofs.Common.{◌≡◌, ℕ, zero, suc, ◌+◌, ◌<◌, ◌≤◌, true, false, List, [], ◌∷◌, ◌++◌, map, length, take, drop, slice_get, Some, nat_lt, refl, sym, ap, ◌∙◌, subst, inl, inr, arith}
 use Rattle.std.proofs.lemmas.Bool.{cases_Bool, cond-true, cond-false}
 use Rattle.std.proofs.lemmas.Bool.Decides.{nat_tests}
+use Rattle.std.proofs.lemmas.List.{take_all, drop_all}
 use Rattle.serde_json.specs.Data.{Data, string}
 use Rattle.cov_base.specs.declared.event.Vector.{Vector}
 use Rattle.cov_base.specs.Lists.{Everywhere, Somewhere}
-use Rattle.cov_base.specs.Marks.{Marks, marks, rank, precedes_from, precedes}
+use Rattle.cov_base.specs.Marks.{marks, precedes}
 use Rattle.mcdc_verdicts.proofs.Lists.{everywhere-map}
 use Rattle.mcdc_verdicts.proofs.Ordering.{key_from, by_keys}
 use Rattle.annotated_report.specs.Members.{Has, AreWithin, AreAlike}
-use Rattle.annotated_report.specs.Shown.{letter_of, vector_from, vector_text}
-use Rattle.json_report.specs.Distinct.{in_front, added, all_added, distinct}
+use Rattle.annotated_report.specs.Shown.{vector_text}
+use Rattle.annotated_report.proofs.LeastPairs.{same_text}
+use Rattle.json_report.specs.Distinct.{Rises, in_front, added, all_added, distinct}
 use Rattle.json_report.specs.Objects.{vector_values}
 use Rattle.json_report.proofs.Added.{added_everywhere}
 
@@ -39,48 +41,89 @@ neither n v w h l =
 itself_not : (a b : ℕ) → a ≡ b → nat_lt a b ≡ false
 itself_not a b e = grind (arith, nat_tests)
 
-none_before : (a b : ℕ) (p q : Bool) → (nat_lt a b || nat_eq a b && p) ≡ false → (nat_lt b a || nat_eq b a && q) ≡ false
-    → (a ≡ b) × (p ≡ false) × (q ≡ false)
-none_before a b p q h l = grind (arith, nat_tests)
-
--- vectors of which neither comes before the other have one text
-same_letters : (n c : ℕ) (v w : Marks) → precedes_from c n v w ≡ false → precedes_from c n w v ≡ false → vector_from c n v ≡ vector_from c n w
-same_letters zero c v w h l = refl
-same_letters (suc n) c v w h l =
-    let k = none_before (rank v c) (rank w c) (precedes_from (suc c) n v w) (precedes_from (suc c) n w v) h l in
-    ap (λ r. letter_of r ∷ vector_from (suc c) n v) k.0 ∙ ap (λ xs. letter_of (rank w c) ∷ xs) (same_letters n (suc c) v w k.1 k.2)
-
 -- vectors with one number have one text
 text_of : (n : ℕ) (v w : Vector) → key n v ≡ key n w → vector_text n v ≡ vector_text n w
 text_of n v w e =
-    same_letters n 0 (marks v) (marks w) (by_keys 0 n (marks v) (marks w) ∙ itself_not (key n v) (key n w) e)
+    same_text n 0 (marks v) (marks w) (by_keys 0 n (marks v) (marks w) ∙ itself_not (key n v) (key n w) e)
     (by_keys 0 n (marks w) (marks v) ∙ itself_not (key n w) (key n v) (sym e))
 
 -- each comes before those that follow
-abbrev Rises : ℕ → List Vector → Type 0
-Rises n [] = Unit {0}
-Rises n (v ∷ vs) = Everywhere (λ w. key n v < key n w) vs × Rises n vs
+abbrev RiseByKeys : ℕ → List Vector → Type 0
+RiseByKeys n [] = Unit {0}
+RiseByKeys n (v ∷ vs) = Everywhere (λ w. key n v < key n w) vs × RiseByKeys n vs
 
 smaller : (a b c : ℕ) → a < b → b < c → a < c
 smaller a b c h l = omega arith
 
-rises_added : (n : ℕ) (v : Vector) (ws : List Vector) → Rises n ws → Rises n (added n v ws)
+rises_added : (n : ℕ) (v : Vector) (ws : List Vector) → RiseByKeys n ws → RiseByKeys n (added n v ws)
 rises_added n v [] h = (tt, tt)
 rises_added n v (w ∷ ws) h =
     elim (cases_Bool (precedes n (marks w) (marks v))) [
-      | inl first ↦ subst (Rises n) (sym (cond-true _ (w ∷ added n v ws) (in_front n v (w ∷ ws)) first))
+      | inl first ↦ subst (RiseByKeys n) (sym (cond-true _ (w ∷ added n v ws) (in_front n v (w ∷ ws)) first))
           (added_everywhere (λ x. key n w < key n x) n v ws (before n w v first) h.0, rises_added n v ws h.1)
-      | inr other ↦ subst (Rises n) (sym (cond-false _ (w ∷ added n v ws) (in_front n v (w ∷ ws)) other))
+      | inr other ↦ subst (RiseByKeys n) (sym (cond-false _ (w ∷ added n v ws) (in_front n v (w ∷ ws)) other))
           (elim (cases_Bool (precedes n (marks v) (marks w))) [
             | inl sooner ↦
                 let less = before n v w sooner in
-                subst (Rises n) (sym (cond-true _ (v ∷ w ∷ ws) (w ∷ ws) sooner))
+                subst (RiseByKeys n) (sym (cond-true _ (v ∷ w ∷ ws) (w ∷ ws) sooner))
                 ((less, everywhere-map (λ x. key n w < key n x) (λ x. key n v < key n x) (λ x l. smaller (key n v) (key n w) (key n x) less l) ws h.0), h)
-            | inr same ↦ subst (Rises n) (sym (cond-false _ (v ∷ w ∷ ws) (w ∷ ws) same)) h
+            | inr same ↦ subst (RiseByKeys n) (sym (cond-false _ (v ∷ w ∷ ws) (w ∷ ws) same)) h
           ])
     ]
 
-rises_all : (n : ℕ) (kept vs : List Vector) → Rises n kept → Rises n (all_added n kept vs)
+-- ---- the same by the order of vectors
+
+less_is : (a b : ℕ) → a < b → nat_lt a b ≡ true
+less_is a b l = grind (arith, nat_tests)
+
+after : (n : ℕ) (v w : Vector) → key n v < key n w → precedes n (marks v) (marks w) ≡ true
+after n v w l = by_keys 0 n (marks v) (marks w) ∙ less_is (key n v) (key n w) l
+
+to_keys : (n : ℕ) (vs : List Vector) → Rises n vs → RiseByKeys n vs
+to_keys n [] h = tt
+to_keys n (v ∷ vs) h =
+    (everywhere-map (λ w. precedes n (marks v) (marks w) ≡ true) (λ w. key n v < key n w) (λ w is. before n v w is) vs h.0, to_keys n vs h.1)
+
+of_keys : (n : ℕ) (vs : List Vector) → RiseByKeys n vs → Rises n vs
+of_keys n [] h = tt
+of_keys n (v ∷ vs) h =
+    (everywhere-map (λ w. key n v < key n w) (λ w. precedes n (marks v) (marks w) ≡ true) (λ w l. after n v w l) vs h.0, of_keys n vs h.1)
+
+-- vectors that rise still do once one is added
+pub rises_more : (n : ℕ) (v : Vector) (ws kept : List Vector) → Rises n ws → kept ≡ added n v ws → Rises n kept
+rises_more n v ws kept h is = subst (Rises n) (sym is) (of_keys n (added n v ws) (rises_added n v ws (to_keys n ws h)))
+
+-- ---- a vector behind the last one
+
+through : (n : ℕ) (a b c : Vector) → precedes n (marks a) (marks b) ≡ true → precedes n (marks b) (marks c) ≡ true → precedes n (marks a) (marks c) ≡ true
+through n a b c h l = after n a c (smaller (key n a) (key n b) (key n c) (before n a b h) (before n b c l))
+
+all_before : (n : ℕ) (v last : Vector) (ws : List Vector) (i : ℕ) → i + 1 ≡ length ws → slice_get ws i ≡ Some last → Rises n ws
+    → precedes n (marks last) (marks v) ≡ true → Everywhere (λ w. precedes n (marks w) (marks v) ≡ true) ws
+all_before n v last [] i end there rises is = absurd (cc there)
+all_before n v last (w ∷ []) zero end there rises is =
+    let same : w ≡ last = cc there in
+    (subst (λ x. precedes n (marks x) (marks v) ≡ true) (sym same) is, tt)
+all_before n v last (w ∷ []) (suc i) end there rises is = absurd (cc there)
+all_before n v last (w ∷ x ∷ ws) zero end there rises is = absurd (let bad : ⊥ = omega (arith, end) in bad)
+all_before n v last (w ∷ x ∷ ws) (suc i) end there rises is =
+    let rest = all_before n v last (x ∷ ws) i (omega (arith, end)) there rises.1 is in
+    (through n w x v rises.0.0 rest.0, rest)
+
+comes_last : (n : ℕ) (v : Vector) (ws : List Vector) → Everywhere (λ w. precedes n (marks w) (marks v) ≡ true) ws → added n v ws ≡ ws ++ v ∷ []
+comes_last n v [] all = refl
+comes_last n v (w ∷ ws) all =
+    cond-true (precedes n (marks w) (marks v)) (w ∷ added n v ws) (in_front n v (w ∷ ws)) all.0 ∙ ap (λ l. w ∷ l) (comes_last n v ws all.1)
+
+-- a vector that the last one comes before finds its place behind all of them
+pub placed_last : (n : ℕ) (v last : Vector) (ws : List Vector) (i count : ℕ) → i + 1 ≡ length ws → slice_get ws i ≡ Some last → Rises n ws
+    → precedes n (marks last) (marks v) ≡ true → count ≡ length ws → added n v ws ≡ take count ws ++ in_front n v (drop count ws)
+placed_last n v last ws i count end there rises is all =
+    let enough : length ws ≤ count = omega (arith, all) in
+    comes_last n v ws (all_before n v last ws i end there rises is)
+    ∙ sym (ap (λ l. l ++ in_front n v (drop count ws)) (take_all count ws enough) ∙ ap (λ l. ws ++ in_front n v l) (drop_all count ws enough))
+
+rises_all : (n : ℕ) (kept vs : List Vector) → RiseByKeys n kept → RiseByKeys n (all_added n kept vs)
 rises_all n kept [] h = h
 rises_all n kept (v ∷ vs) h = rises_all n (added n v kept) vs (rises_added n v kept h)
 
@@ -139,7 +182,7 @@ at_key : (n k : ℕ) (P : ℕ → Type 0) (vs : List Vector) → Everywhere (λ 
 at_key n k P [] all h = absurd h
 at_key n k P (v ∷ vs) all h = elim h [ inl is ↦ subst P is all.0 | inr there ↦ at_key n k P vs all.1 there ]
 
-first_same : (n : ℕ) (x y : Vector) (xs ys : List Vector) → Rises n (x ∷ xs) → Rises n (y ∷ ys)
+first_same : (n : ℕ) (x y : Vector) (xs ys : List Vector) → RiseByKeys n (x ∷ xs) → RiseByKeys n (y ∷ ys)
     → HasKey n (y ∷ ys) (key n x) → HasKey n (x ∷ xs) (key n y) → key n x ≡ key n y
 first_same n x y xs ys h l f g =
     elim f [
@@ -158,7 +201,7 @@ behind : (n k : ℕ) (x y : Vector) (ys : List Vector) → key n x < k → key n
 behind n k x y ys less same h =
     elim h [ inl is ↦ absurd (let bad : ⊥ = omega (arith, less, same, is) in bad) | inr there ↦ there ]
 
-same_texts : (n : ℕ) (xs ys : List Vector) → Rises n xs → Rises n ys → ((k : ℕ) → HasKey n xs k → HasKey n ys k) → ((k : ℕ) → HasKey n ys k → HasKey n xs k)
+same_texts : (n : ℕ) (xs ys : List Vector) → RiseByKeys n xs → RiseByKeys n ys → ((k : ℕ) → HasKey n xs k → HasKey n ys k) → ((k : ℕ) → HasKey n ys k → HasKey n xs k)
     → map (λ v. string (vector_text n v)) xs ≡ map (λ v. string (vector_text n v)) ys
 same_texts n [] [] h l f g = refl
 same_texts n [] (y ∷ ys) h l f g = absurd (g (key n y) (inl refl))

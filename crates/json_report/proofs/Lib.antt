@@ -6,4 +6,6 @@ pub mod Agreeing
 pub mod Distinctness
 pub mod AlikeEvents
 pub mod GivenPairs
+pub mod ToldPairs
+pub mod CountedRegions
 pub mod Examples

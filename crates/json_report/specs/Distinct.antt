@@ -1,6 +1,7 @@
 -- The distinct vectors of a decision, in their order.
-use Rattle.std.specs.Prelude.{ℕ, List, [], ◌∷◌, if◌then◌else◌}
+use Rattle.std.specs.Prelude.{◌≡◌, ℕ, List, [], ◌∷◌, true, if◌then◌else◌}
 use Rattle.cov_base.specs.declared.event.Vector.{Vector}
+use Rattle.cov_base.specs.Lists.{Everywhere}
 use Rattle.cov_base.specs.Marks.{marks, precedes}
 
 -- a vector in front of those that don't come before it, unless the first of them has its marks
@@ -22,3 +23,8 @@ all_added conditions kept (v ∷ vs) = all_added conditions (added conditions v 
 -- the vectors in their order, F before T before a dash, condition by condition, each once
 abbrev pub distinct : (conditions : ℕ) → List Vector → List Vector
 distinct conditions vectors = all_added conditions [] vectors
+
+-- vectors of which each comes before those that follow
+abbrev pub Rises : (conditions : ℕ) → List Vector → Type 0
+Rises conditions [] = Unit {0}
+Rises conditions (v ∷ vs) = Everywhere (λ w. precedes conditions (marks v) (marks w) ≡ true) vs × Rises conditions vs

@@ -2,3 +2,4 @@ pub mod Distinct
 pub mod Objects
 pub mod Caller
 pub mod Text
+pub mod Pairs

@@ -16,7 +16,7 @@ ghost use Rattle.json_report.specs.Objects.{told_decision, decision_object, deci
 use crate::conditions::asked_conditions;
 use crate::strings::letter_value;
 use crate::vectors::vector_values;
-use annotated_report::{Evaluations, asks_outcomes, collect, outcomes};
+use annotated_report::{Evaluations, asks_outcomes, collect, in_order_once, outcomes};
 use condition_graph::Graph;
 use cov_base::{DecEntry, Event, Level, Vector};
 use mcdc_verdicts::Outcomes;
@@ -50,8 +50,8 @@ fn told_decision(
     })
 }
 
-/// A decision, and what its vectors show.
-fn decision_value(
+/// A decision, and what its vectors show, which are found soonest in their order.
+fn ordered_value(
     alloc: Global,
     level: Level,
     vectors: &[Vector],
@@ -67,6 +67,22 @@ fn decision_value(
     let conditions = asked_conditions(alloc, level, &dec, vectors, entry)?;
     let texts = vector_values(alloc, &dec, vectors)?;
     told_decision(alloc, entry, given, conditions, texts)
+}
+
+/// The same by vectors in any order, each as often as it was given.
+fn decision_value(
+    alloc: Global,
+    level: Level,
+    vectors: &[Vector],
+    entry: &DecEntry,
+) -> Result<Value, AllocError>
+    requires spelled { IsPostfixOf entry.now.expression.postfix (expr_of entry.now) }
+    requires placed { length entry.now.conditions ≡ size (expr_of entry.now) }
+    requires paths { Everywhere (IsPathVector (graph (expr_of entry.now))) vectors.now }
+    ensures { IfOk result (λ v. view v ≡ decision_object level vectors.now entry.now) }
+{
+    let ordered = in_order_once(alloc, vectors)?;
+    ordered_value(alloc, level, ordered.as_slice(), entry)
 }
 
 /// Appends a decision, and what its vectors show.

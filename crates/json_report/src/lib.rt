@@ -17,5 +17,8 @@ mod strings;
 mod vectors;
 mod whole;
 
-pub use laws::{the_json_depends_on_the_set_of_events, the_pairs_are_the_least_of_the_events};
+pub use laws::{
+    the_json_carries_all_least_pairs, the_json_depends_on_the_set_of_events,
+    the_pairs_are_the_least_of_the_events,
+};
 pub use printing::json;

@@ -1,12 +1,13 @@
 //! Exempt regions as objects of JSON.
 
-ghost use Rattle.std.specs.Prelude.{◌≡◌, ◌++◌, ◌∷◌, [], map, length, IfOk, OnOk, IsUtf8};
+ghost use Rattle.std.specs.Prelude.{◌≡◌, ◌∷◌, [], map, length, slice_index_or, IfOk, IsUtf8};
 ghost use Rattle.serde_json.specs.View.{view};
+ghost use Rattle.annotated_report.specs.Numbered.{each_numbered};
 ghost use Rattle.json_report.specs.Caller.{AreExplainedInUtf8};
-ghost use Rattle.json_report.specs.Objects.{region_object, region_objects, held_by, not_held_by};
+ghost use Rattle.json_report.specs.Objects.{region_object, region_objects};
 
 use crate::strings::text_value;
-use annotated_report::{Finding, Regions, exempted, violations};
+use annotated_report::{Finding, Regions, held_counts};
 use cov_base::Region;
 use serde_json::{Value, json};
 use std::alloc::{AllocError, Global};
@@ -26,22 +27,22 @@ fn region_value(alloc: Global, violations: usize, region: &Region) -> Result<Val
     })
 }
 
-/// A region with the number of findings that it holds, and the findings that it doesn't hold.
-fn take_region(
+/// Regions, each with the number of findings that was counted for it.
+fn counted_values(
     alloc: Global,
-    values: &mut Vec<Value>,
-    found: &[Finding],
-    region: &Region,
-) -> Result<Vec<Finding>, AllocError>
-    requires { IsUtf8 region.now.why }
-    ensures value { OnOk result (map view values.new.items
-        ≡ map view values.old.items ++ region_object (length (held_by region.now found.now)) region.now ∷ []) }
-    ensures others { IfOk result (λ others. others.items ≡ not_held_by region.now found.now) }
+    counts: &[usize],
+    regions: &[Region],
+) -> Result<Vec<Value>, AllocError>
+    requires length { length counts.now ≡ length regions.now }
+    requires explained { AreExplainedInUtf8 regions.now }
+    ensures { IfOk result (λ vs. map view vs.items
+        ≡ each_numbered (λ n region. region_object (slice_index_or counts.now n 0) region ∷ []) 0 regions.now) }
 {
-    let one = Regions::of(std::slice::from_ref(region));
-    let held = exempted(alloc, found, &one)?;
-    values.push(region_value(alloc, held.len(), region)?)?;
-    violations(alloc, found, &one)
+    let mut values = Vec::new(alloc);
+    for (n, region) in regions.iter().enumerate() {
+        values.push(region_value(alloc, counts[n], region)?)?;
+    }
+    Ok(values)
 }
 
 /// Regions, each with the number of findings that it holds and none before it.
@@ -53,10 +54,6 @@ pub(crate) fn region_values(
     requires { AreExplainedInUtf8 regions.now }
     ensures { IfOk result (λ vs. map view vs.items ≡ region_objects found.now regions.now) }
 {
-    let mut values = Vec::new(alloc);
-    let mut left = Vec::from_slice(alloc, found)?;
-    for region in regions {
-        left = take_region(alloc, &mut values, left.as_slice(), region)?;
-    }
-    Ok(values)
+    let counts = held_counts(alloc, found, &Regions::of(regions))?;
+    counted_values(alloc, counts.as_slice(), regions)
 }

@@ -7,7 +7,7 @@ ghost use Rattle.cov_base.specs.Lists.{Everywhere};
 ghost use Rattle.cov_base.specs.Marks.{marks, precedes};
 ghost use Rattle.cov_base.specs.Path.{IsPathVector};
 ghost use Rattle.serde_json.specs.View.{view};
-ghost use Rattle.json_report.specs.Distinct.{in_front, added, distinct};
+ghost use Rattle.json_report.specs.Distinct.{Rises, in_front, added, distinct};
 ghost use Rattle.json_report.specs.Objects.{vector_values};
 
 use crate::strings::vector_value;
@@ -26,8 +26,24 @@ fn comes_before(dec: &Graph, v: Vector, w: Vector) -> bool
     compare(v, w).is_lt()
 }
 
-/// How many of the vectors in order come before another.
+/// How many of the vectors in order come before another. Where the last of them does, all do, so vectors
+/// that are added in their order each find their place at once.
 fn place_of(kept: &[Vector], dec: &Graph, vector: Vector) -> usize
+    requires kept { Everywhere (IsPathVector dec.now) kept.now }
+    requires vector { IsPathVector dec.now vector }
+    ensures within { result ≤ length kept.now }
+    ensures place { (e : Expr) → dec.now ≡ graph e → Rises (size e) kept.now
+        → added (size e) vector kept.now ≡ take result kept.now ++ in_front (size e) vector (drop result kept.now) }
+{
+    let count = kept.len();
+    if count > 0 && comes_before(dec, kept[count - 1], vector) {
+        return count;
+    }
+    first_place(kept, dec, vector)
+}
+
+/// The same by going through the vectors, in whatever order they are.
+fn first_place(kept: &[Vector], dec: &Graph, vector: Vector) -> usize
     requires kept { Everywhere (IsPathVector dec.now) kept.now }
     requires vector { IsPathVector dec.now vector }
     ensures within { result ≤ length kept.now }
@@ -46,7 +62,8 @@ fn place_of(kept: &[Vector], dec: &Graph, vector: Vector) -> usize
 fn add(kept: &mut Vec<Vector>, dec: &Graph, vector: Vector) -> Result<(), AllocError>
     requires kept { Everywhere (IsPathVector dec.now) kept.old.items }
     requires vector { IsPathVector dec.now vector }
-    ensures { OnOk result ((e : Expr) → dec.now ≡ graph e → kept.new.items ≡ added (size e) vector kept.old.items) }
+    ensures { OnOk result ((e : Expr) → dec.now ≡ graph e → Rises (size e) kept.old.items
+        → kept.new.items ≡ added (size e) vector kept.old.items) }
 {
     let at = place_of(kept.as_slice(), dec, vector);
     if at == kept.len() || comes_before(dec, vector, kept[at]) {

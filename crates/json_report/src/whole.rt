@@ -43,9 +43,12 @@ fn judged_regions(
     ensures { IfOk result (λ vs. map view vs.items
         ≡ region_objects (findings level obligations.now events.now) obligations.now.regions) }
 {
+    let regions = obligations.regions.as_slice();
+    if regions.is_empty() {
+        return Ok(Vec::new(alloc));
+    }
     let judged = judge(alloc, level, obligations, events)?;
-    let found = judged.found.findings.as_slice();
-    region_values(alloc, found, obligations.regions.as_slice())
+    region_values(alloc, judged.found.findings.as_slice(), regions)
 }
 
 /// The report as one object.

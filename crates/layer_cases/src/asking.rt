@@ -15,7 +15,7 @@ use crate::{
 };
 use decision_map::{DecisionMap, checked_objects_have_maps};
 use generated_images::Draft;
-use object_format::{Object, read_whole_object};
+use object_format::{Object, read_object};
 use std::alloc::Global;
 
 /// Puts what a line is answered.
@@ -68,7 +68,6 @@ fn of_latest(alloc: Global, out: &mut Reply, command: &str, words: &str, blob: &
         "regions" => sources::answer(alloc, out, Reading::Regions, words, blob),
         "exempt" => sources::answer(alloc, out, Reading::Exemption, words, blob),
         "object" => objects::object(alloc, out, blob),
-        "plain" => objects::plain(alloc, out, blob),
         "input" => objects::input(alloc, out, blob),
         "trace" => runs::trace(out, blob),
         "pieces" => pieces::pieces(alloc, out, words, blob),
@@ -83,7 +82,7 @@ fn of_latest(alloc: Global, out: &mut Reply, command: &str, words: &str, blob: &
 /// Puts what a line that asks about an object is answered.
 fn of_object(alloc: Global, blobs: &Blobs, out: &mut Reply, command: &str, words: &str) {
     let (name, words) = split_word(words);
-    match read_whole_object(alloc, blobs.named(out, name)) {
+    match read_object(alloc, blobs.named(out, name)) {
         Ok(object) => of_map(alloc, blobs, out, command, words, &object),
         Err(failure) => out.refuse_file("object", failure),
     }

@@ -3,15 +3,14 @@
 //! | Line | Asks |
 //! |---|---|
 //! | `object` | whether the latest blob is an object file, which is then written again, or why not |
-//! | `plain` | the same in the language of the moment, which has no regions |
 //! | `input` | the numbers of the latest blob as an input file, or the line that is refused |
 //! | `run OBJECT BUDGET` | a run on the latest blob as the input file: what it puts, how it ends, its trace |
 //! | `words OBJECT ADDRESS..` | the kind of each word, where a block from there ends, the condition there |
 
-ghost use Rattle.std.specs.Prelude.{◌≡◌, ◌<◌, ◌^◌, List, length, true};
+ghost use Rattle.std.specs.Prelude.{◌<◌, ◌^◌, List, length};
 ghost use Rattle.object_facts.specs.Object.{facts_of};
 ghost use Rattle.object_format.specs.Checked.{IsSound};
-ghost use Rattle.object_format.specs.Read.{HasObject, is_plain};
+ghost use Rattle.object_format.specs.Read.{HasObject};
 ghost use Rattle.rv_semantics.specs.declared.stepped.Seen.{Seen};
 ghost use Rattle.trace_record.specs.Recorded.{Records};
 ghost use Rattle.transcript.specs.Pieces.{IsEnded};
@@ -20,10 +19,7 @@ use crate::reply::Reply;
 use crate::words::{address, capped};
 use cov_base::Failure;
 use decision_map::{Condition, DecisionMap};
-use object_format::{
-    Object, read_object, read_whole_object, what_is_read_can_be_written, write_object,
-    write_with_digest,
-};
+use object_format::{Object, read_object, what_is_read_can_be_written, write_object};
 use rv32_emulator::{Ending, InputFault, parse_input, run};
 use std::alloc::{AllocError, Global};
 use trace_record::Recorder;
@@ -41,9 +37,8 @@ pub(crate) fn sameness(written: &[u8], read: &[u8]) -> &'static str {
 fn put_again(alloc: Global, out: &mut Reply, object: &Object, bytes: &[u8])
     requires { HasObject object.now }
 {
-    match write_with_digest(alloc, object) {
-        Ok(written) => {
-            let (again, _closing) = written;
+    match write_object(alloc, object) {
+        Ok(again) => {
             let written = sameness(again.as_slice(), bytes);
             out.put(format_args!("{} words, {written} again\n", object.text.len()));
         }
@@ -54,28 +49,8 @@ fn put_again(alloc: Global, out: &mut Reply, object: &Object, bytes: &[u8])
 /// Puts what object a file is.
 pub(crate) fn object(alloc: Global, out: &mut Reply, bytes: &[u8]) {
     what_is_read_can_be_written();
-    match read_whole_object(alloc, bytes) {
-        Ok(object) => put_again(alloc, out, &object, bytes),
-        Err(failure) => out.put_failure(failure),
-    }
-}
-
-/// Puts whether the file of an object of the plain language is written again.
-fn put_plain_again(alloc: Global, out: &mut Reply, object: &Object, bytes: &[u8])
-    requires object { HasObject object.now }
-    requires plain { is_plain object.now ≡ true }
-{
-    match write_object(alloc, object) {
-        Ok(again) => out.put(format_args!("{}\n", sameness(again.as_slice(), bytes))),
-        Err(_) => out.lack_memory(),
-    }
-}
-
-/// Puts what object of the plain language a file is.
-pub(crate) fn plain(alloc: Global, out: &mut Reply, bytes: &[u8]) {
-    what_is_read_can_be_written();
     match read_object(alloc, bytes) {
-        Ok(object) => put_plain_again(alloc, out, &object, bytes),
+        Ok(object) => put_again(alloc, out, &object, bytes),
         Err(failure) => out.put_failure(failure),
     }
 }

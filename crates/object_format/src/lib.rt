@@ -18,9 +18,7 @@ mod write;
 pub use checks::an_object_is_laid_out;
 pub use fault::ObjectFault;
 pub use object::{FileEntry, MEMORY_END, Object, TEXT_START};
-pub use read::{read_object, read_whole_object};
+pub use read::read_object;
 pub use spelling::digest;
 pub use structure::one_object;
-pub use write::{
-    what_is_read_can_be_written, write_object, write_parts, write_whole_object, write_with_digest,
-};
+pub use write::{what_is_read_can_be_written, write_object, write_parts, write_with_digest};

@@ -1,10 +1,10 @@
 //! Writing an object file.
 
-ghost use Rattle.std.specs.Prelude.{◌≡◌, true, IfOk};
+ghost use Rattle.std.specs.Prelude.{◌≡◌, IfOk};
 ghost use Rattle.object_format.specs.declared.object.Object.{Object};
 ghost use Rattle.object_format.specs.Counts.{HasFile};
 ghost use Rattle.object_format.specs.File.{object_bytes, digest_of, closed_object, HasSpelling};
-ghost use Rattle.object_format.specs.Read.{IsObject, HasObject, is_plain};
+ghost use Rattle.object_format.specs.Read.{IsObject, HasObject};
 
 use crate::layout::put_parts;
 use crate::object::Object;
@@ -12,20 +12,9 @@ use cov_base::Digest;
 use spelling::{digest, start_file};
 use std::alloc::{AllocError, Global};
 
-/// The one file of an object's parts, which pass the checks in the language of the moment. The
-/// object's own closing digest isn't looked at.
+/// The one file of an object's parts, which pass the checks. The object's own closing digest isn't
+/// looked at.
 pub fn write_object(alloc: Global, value: &Object) -> Result<Vec<u8>, AllocError>
-    requires object { HasObject value.now }
-    requires plain { is_plain value.now ≡ true }
-    ensures bytes { IfOk result (λ bytes. bytes.items ≡ object_bytes value.now) }
-    // What is written is read as the same parts, with the digest of the file.
-    ensures reads_back { IfOk result (λ _. IsObject (closed_object value.now)) }
-{
-    write_whole_object(alloc, value)
-}
-
-/// The same of any language.
-pub fn write_whole_object(alloc: Global, value: &Object) -> Result<Vec<u8>, AllocError>
     requires { HasObject value.now }
     ensures bytes { IfOk result (λ bytes. bytes.items ≡ object_bytes value.now) }
     // What is written is read as the same parts, with the digest of the file.

@@ -5,9 +5,8 @@ use Rattle.std.specs.List.{AllPairs, AllByRecursion}
 use Rattle.std.proofs.lemmas.List.Elements.{recursion_from_All}
 use Rattle.cov_base.specs.declared.position.Pos.{Pos}
 use Rattle.ada_lexer.specs.declared.token.Token.{Token}
-use Rattle.ada_lexer.specs.Tokens.{IsTokenOf, IsBefore, place_at, place_after, place_behind}
+use Rattle.ada_lexer.specs.Tokens.{IsTokenOf, IsBefore, AreTokensOf, place_at, place_after, place_behind}
 use Rattle.expression_parser.specs.Reading.{Tokens}
-use Rattle.parsed_texts.specs.Parsed.{AreTokensOf}
 use Rattle.parsed_texts.proofs.Files.{all_behind, pairs_behind}
 
 -- a place that stands at another or behind it, in one file

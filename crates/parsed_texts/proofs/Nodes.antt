@@ -1,6 +1,7 @@
 -- Units of files have few nodes: each is a token, and a file has at most one token more than it has bytes.
 use Rattle.std.proofs.Common.{◌≡◌, ℕ, ◌*◌, ◌≤◌, List, [], ◌∷◌, length, sum_by, arith}
 use Rattle.std.proofs.lemmas.List.Sums.{sum_by-cons, sum_by-append}
+use Rattle.ada_lexer.specs.Tokens.{AreTokensOf}
 use Rattle.ada_parser.proofs.UnitNodes.{units_nodes_of}
 use Rattle.ada_parser.specs.Grammar.{IsFile}
 use Rattle.ada_syntax.specs.Nodes.{capped, unit_nodes}
@@ -12,7 +13,7 @@ use Rattle.expression_parser.specs.declared.extent.Extent.{Extent}
 use Rattle.expression_parser.specs.declared.symbol.Symbol.{Symbol}
 use Rattle.expression_parser.specs.declared.symbol.Symbol.TheVariants as symbol
 use Rattle.legal_counts.specs.TextParts.{AreCounted}
-use Rattle.parsed_texts.specs.Parsed.{AreOfFiles, no_file, and_file, AreTokensOf, most_bytes, most_nodes_of_file}
+use Rattle.parsed_texts.specs.Parsed.{AreOfFiles, no_file, and_file, most_bytes, most_nodes_of_file}
 use Rattle.parsed_texts.proofs.Few.{few_tokens}
 use Rattle.parsed_texts.proofs.Files.{everywhere_joined}
 

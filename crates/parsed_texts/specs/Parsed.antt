@@ -1,8 +1,6 @@
 -- Units that are parsed from source files, none of which is too large.
 use Rattle.std.specs.Prelude.{ℕ, ◌+◌, ◌≤◌, List, [], ◌∷◌, ◌++◌, length}
-use Rattle.std.specs.List.{All, AllPairs}
-use Rattle.ada_lexer.specs.declared.token.Token.{Token}
-use Rattle.ada_lexer.specs.Tokens.{IsTokenOf, IsBefore}
+use Rattle.ada_lexer.specs.Tokens.{AreTokensOf}
 use Rattle.ada_parser.specs.Grammar.{IsFile}
 use Rattle.ada_syntax.specs.declared.unit.Unit.{Unit as LibraryUnit}
 use Rattle.cov_base.specs.declared.obligations.SourceFile.{SourceFile}
@@ -16,11 +14,6 @@ most_bytes = 1048576
 -- the most nodes that the units of one file have: it has one token more than bytes at most, and each node is one
 abbrev pub most_nodes_of_file : ℕ
 most_nodes_of_file = 1048577
-
--- tokens of the file with this number, in the order of its text, as the lexer gives them
-pub record AreTokensOf (file : ℕ) (source : List ℕ) (tokens : Tokens) : Type 0 where
-  pub each : All (IsTokenOf file source) tokens
-  pub places : AllPairs (λ (a b : Token). IsBefore a.pos b.pos) tokens
 
 -- the units of this many files, which are numbered from 0 as they come
 pub data AreOfFiles (x : Extent) : ℕ → List LibraryUnit → Type 0 where

@@ -5,6 +5,7 @@ use Rattle.std.specs.Str.{is_utf8, str_to_ascii_lowercase}
 use Rattle.std.proofs.lemmas.Bool.Decides.{nat_tests}
 use Rattle.std.proofs.lemmas.List.{length-map}
 use Rattle.std.proofs.lemmas.List.Elements.{All-from_recursion, recursion_from_All}
+use Rattle.ada_meaning.specs.Obligations.{obligations_of}
 use Rattle.ada_meaning.specs.Program.{Program}
 use Rattle.ada_syntax.specs.Nodes.{unit_nodes}
 use Rattle.ada_syntax.specs.declared.unit.Unit.{Unit as LibraryUnit}
@@ -17,9 +18,12 @@ use Rattle.program_objects.proofs.MarksOf.{marks_law}
 use Rattle.program_objects.proofs.Placing.{text_bound}
 use Rattle.program_objects.specs.Built.{HasPlainName, CanBeNamed, AreLegal, IsBuiltOf}
 use Rattle.program_objects.specs.Compiled.{IsCompiled}
-use Rattle.program_objects.specs.Legal.{entries_for, IsLegal, AreProgram}
+use Rattle.program_objects.specs.Exemptions.{exempt_regions, AreRegionsIn}
+use Rattle.program_objects.specs.Legal.{entries_for, IsLegal}
 use Rattle.program_objects.specs.Source.{entry_of_file, IsObjectOf, IsCheap}
 use Rattle.program_objects.specs.Texts.{HasFewCopies, IsOfText}
+use Rattle.cov_base.specs.declared.obligations.Obligations.{Obligations}
+use Rattle.cov_base.specs.declared.obligations.Region.{Region}
 use Rattle.cov_base.specs.declared.obligations.SourceFile.{SourceFile}
 use Rattle.cov_base.specs.Lists.{Everywhere}
 use Rattle.cov_base.specs.declared.position.Pos.{Pos}
@@ -30,12 +34,11 @@ use Rattle.object_format.specs.File.{closed_object}
 use Rattle.object_format.specs.Read.{IsObject, HasObject}
 use Rattle.object_format.specs.declared.object.FileEntry.{FileEntry}
 use Rattle.object_format.specs.declared.object.Object.{Object}
-use Rattle.parsed_texts.specs.Parsed.{AreOfFiles, most_nodes_of_file}
+use Rattle.parsed_texts.specs.Parsed.{most_nodes_of_file}
 use Rattle.parsed_texts.specs.Places.{AreInFiles, IsInFiles}
 use Rattle.parsed_texts.proofs.Conditions.{conditions_within}
 use Rattle.parsed_texts.proofs.Decisions.{decisions_within}
 use Rattle.parsed_texts.proofs.Statements.{statements_within, units_within}
-use Rattle.program_objects.specs.Units.{HaveUnits}
 
 both_hold : (a b : Bool) → a ≡ true → b ≡ true → (a && b) ≡ true
 both_hold a b p q = rw (p, q) refl
@@ -73,6 +76,17 @@ AreAllInFilesOf lists files = Everywhere (AreInFiles files) lists
 entered : (files : List SourceFile) (p : Program) (nodes : ℕ) (o : Object) (P : ℕ → Type 0) → IsBuiltOf files p nodes o → P (length files) → P (length o.files)
 entered files p nodes o P built within = subst P (sym (ap length built.sources ∙ length-map files entry_of_file)) within
 
+-- obligations with some regions are those with their own
+own_regions : (p : Program) (ob : Obligations) (regions : List Region) → ob ≡ obligations_of p regions → ob ≡ obligations_of p ob.regions
+own_regions p ob regions is = is ∙ ap (obligations_of p) (sym (ap (λ (x : Obligations). x.regions) is))
+
+-- the exempt regions of the sources stand in the object's files
+regions_within : (files : List SourceFile) (p : Program) (nodes : ℕ) (o : Object) → IsBuiltOf files p nodes o → AreRegionsIn (length files) (exempt_regions files)
+    → AreRegionsIn (length o.files) o.obligations.regions
+regions_within files p nodes o built stand =
+    entered files p nodes o (λ (n : ℕ). AreRegionsIn n o.obligations.regions) built
+    (subst (AreRegionsIn (length files)) (sym (ap (λ (ob : Obligations). ob.regions) built.obligations)) stand)
+
 compiled_of : (files : List SourceFile) (main : List ℕ) (p : Program) (nodes : ℕ) (o : Object) (legal : AreLegal files main p) → CanBeNamed files → IsBuiltOf files p nodes o
     → IsCompiled legal.units p o
 compiled_of files main p nodes o legal can built = record {
@@ -80,7 +94,8 @@ compiled_of files main p nodes o legal can built = record {
   nodes = nodes;
   is_kernel = built.is_kernel;
   holds = built.holds;
-  obligations = built.obligations;
+  obligations = own_regions p o.obligations (exempt_regions files) built.obligations;
+  regions = regions_within files p nodes o built legal.regions;
   files = ap are_files built.sources ∙ entries_are_files files can;
   names = subst (λ fs. All FileFits fs) (sym built.sources) (All-from_recursion FileFits (map entry_of_file files) (names_fit files (recursion_from_All HasPlainName files can.names)));
   items = entered files p nodes o (AreItemsInFilesOf legal.units) built (units_within open_extent (length files) legal.units legal.program.read);
@@ -110,7 +125,7 @@ closed_is_built files p nodes o built = record {
 
 -- what was read and accepted is a legal program
 abbrev legal_is : (files : List SourceFile) (main : List ℕ) (p : Program) → AreLegal files main p → IsLegal files main p
-legal_is files main p legal = record { units = legal.units; parsed = legal.parsed; program = legal.program.program }
+legal_is files main p legal = record { units = legal.units; parsed = legal.parsed; program = legal.program.program; exemptions = legal.exemptions }
 
 module _ (files : List SourceFile) (main : List ℕ) (p : Program) (nodes : ℕ) (o : Object) (can : CanBeNamed files) (legal : AreLegal files main p) (text : IsOfText legal.units p)
     (copies : HasFewCopies p) (counted : sum_by unit_nodes legal.units ≤ length files * most_nodes_of_file) (built : IsBuiltOf files p nodes o) where
@@ -122,14 +137,13 @@ module _ (files : List SourceFile) (main : List ℕ) (p : Program) (nodes : ℕ)
 
   -- it can be written
   pub written_law : HasObject o
-  written_law = (passes_law (length files) legal.units lower p o legal.program text copies can.few counted compiled).0
+  written_law = passes_law (length files) legal.units lower p o legal.program text copies can.few counted compiled
 
   -- what is read back of it is the sources' object
   object_law : IsObject o → IsObjectOf files main p o
   object_law is = record {
     legal = legal_is files main p legal;
     checked = is;
-    plain = (passes_law (length files) legal.units lower p o legal.program text copies can.few counted compiled).1;
     sources = built.sources;
     obligations = built.obligations;
     marks = marks_law p nodes built.kernel o text.numbered built.is_kernel built.holds;
@@ -149,12 +163,3 @@ pub closed_law : (files : List SourceFile) (main : List ℕ) (p : Program) (node
 closed_law files main p nodes o can legal text copies counted small built is =
     let whole = closed_is_built files p nodes o built in
     (object_law files main p nodes (closed_object o) can legal text copies counted whole is, cheap_law files main p nodes (closed_object o) can legal text copies counted whole small)
-
--- what has been read and checked
-pub legal_of : (files : List SourceFile) (units read : List LibraryUnit) (main : List ℕ) (p : Program) → HaveUnits files units → AreOfFiles open_extent (length files) units
-    → read ≡ units → AreProgram read (str_to_ascii_lowercase main) p → AreLegal files main p
-legal_of files units read main p parsed of_files are program = record {
-  units = units;
-  parsed = parsed;
-  program = record { read = of_files; program = subst (λ us. AreProgram us (str_to_ascii_lowercase main) p) are program };
-}

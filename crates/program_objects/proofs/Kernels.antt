@@ -1,5 +1,5 @@
 -- A whole kernel is one of its program, and its image one of the program.
-use Rattle.std.proofs.Common.{◌≡◌, ℕ, ◌+◌, ◌≤◌, List, [], length, map, Result, Ok, Err, IfOk, OnOk, sym, ap, ◌∙◌, subst, arith, length-append}
+use Rattle.std.proofs.Common.{◌≡◌, ℕ, ◌+◌, ◌≤◌, List, length, map, Result, Ok, Err, IfOk, OnOk, sym, ap, ◌∙◌, subst, arith, length-append}
 use Rattle.std.proofs.lemmas.List.{length-map}
 use Rattle.std.specs.declared.alloc.AllocError.{AllocError}
 use Rattle.ada_meaning.specs.Obligations.{obligations_of, predefined_names, ordered_exceptions, ListedException}
@@ -13,6 +13,7 @@ use Rattle.program_objects.specs.Held.{HoldsImage}
 use Rattle.program_objects.specs.Kernels.{CanBeLaid, IsImageOf, IsKernelOf, nodes_of}
 use Rattle.program_objects.specs.Made.{IsCompilable}
 use Rattle.cov_base.specs.declared.obligations.Obligations.{Obligations}
+use Rattle.cov_base.specs.declared.obligations.Region.{Region}
 use Rattle.cov_base.specs.Lists.{Everywhere}
 use Rattle.generic_expand.specs.Expanded.{copies_of}
 use Rattle.generic_expand.specs.Limits.{types_weight}
@@ -75,15 +76,15 @@ image_law p nodes k pieces words (Ok image) is are library image_is items = reco
 image_law p nodes k pieces words (Err e) is are library image_is items = tt
 
 -- an object of an image of a program holds its kernel's image
-exceptions_listed : (p : Program) → IsCompilable p → length (obligations_of p []).exceptions ≡ 4 + length p.exceptions
-exceptions_listed p able =
+exceptions_listed : (p : Program) (regions : List Region) → IsCompilable p → length (obligations_of p regions).exceptions ≡ 4 + length p.exceptions
+exceptions_listed p regions able =
     length-append predefined_names (map (λ (x : ListedException). x.name) (ordered_exceptions p))
     ∙ ap (λ (n : ℕ). 4 + n) (length-map (ordered_exceptions p) (λ (x : ListedException). x.name)
     ∙ (sym (length-map (ordered_exceptions p) (λ (x : ListedException). x.entry)) ∙ ap length (sym able.numbered.exceptions)))
 
-pub holds_law : (p : Program) (nodes : ℕ) (o : Object) (image : Image) → IsCompilable p → (is : IsImageOf p nodes image) → o.entry ≡ image.entry → o.text ≡ image.text → o.init_at ≡ image.init_at → o.init ≡ image.init
-    → o.rows ≡ image.rows → o.roles ≡ image.roles → o.obligations ≡ obligations_of p [] → HoldsImage is.kernel o
-holds_law p nodes o image able is entry text at init rows roles obligations = record {
+pub holds_law : (p : Program) (nodes : ℕ) (regions : List Region) (o : Object) (image : Image) → IsCompilable p → (is : IsImageOf p nodes image) → o.entry ≡ image.entry → o.text ≡ image.text → o.init_at ≡ image.init_at → o.init ≡ image.init
+    → o.rows ≡ image.rows → o.roles ≡ image.roles → o.obligations ≡ obligations_of p regions → HoldsImage is.kernel o
+holds_law p nodes regions o image able is entry text at init rows roles obligations = record {
   items = is.items;
   text = text ∙ ap (λ (i : Image). i.text) is.linked;
   entry = entry ∙ ap (λ (i : Image). i.entry) is.linked;
@@ -93,6 +94,6 @@ holds_law p nodes o image able is entry text at init rows roles obligations = re
   roles = roles ∙ ap (λ (i : Image). i.roles) is.linked;
   exceptions =
       let few = is.is_kernel.exceptions in
-      let listed = ap (λ (ob : Obligations). length ob.exceptions) obligations ∙ exceptions_listed p able in
+      let listed = ap (λ (ob : Obligations). length ob.exceptions) obligations ∙ exceptions_listed p regions able in
       omega (arith, few, listed);
 }

@@ -1,5 +1,5 @@
 -- Legal units can be compiled, and their object passes the checks and behaves.
-use Rattle.std.proofs.Common.{◌≡◌, ◌≤◌, ◌*◌, ℕ, ◌<◌, length, map, true, List, sum_by, sym, ap, subst, ◌∙◌, arith}
+use Rattle.std.proofs.Common.{◌≡◌, ◌≤◌, ◌*◌, ℕ, ◌<◌, length, map, List, sum_by, sym, ap, subst, ◌∙◌, arith}
 use Rattle.std.proofs.lemmas.List.{length-map}
 use Rattle.ada_meaning.specs.Collected.{labels_of, decisions_of}
 use Rattle.ada_meaning.specs.Obligations.{ordered_labels, statement_entry, decision_entry}
@@ -25,7 +25,7 @@ use Rattle.cov_base.specs.Lists.{Everywhere}
 use Rattle.program_objects.specs.Listed.{entry_at}
 use Rattle.object_format.specs.Counts.{InstanceFits, AreCountable}
 use Rattle.object_format.specs.Fields.{are_instances, are_statements, are_decisions}
-use Rattle.object_format.specs.Read.{HasObject, is_plain}
+use Rattle.object_format.specs.Read.{HasObject}
 use Rattle.object_format.specs.declared.object.Object.{Object}
 
 pub compilable_law : (files : ℕ) (units : List LibraryUnit) (p : Program) → IsOfText units p → HasFewCopies p → files ≤ 64
@@ -65,6 +65,7 @@ made_of files units main p o h text copies compiled =
       obligations = compiled.obligations;
       files = compiled.files;
       names = compiled.names;
+      regions = compiled.regions;
       instances = ap (λ ob. are_instances (length o.files) ob.instances) compiled.obligations
           ∙ instances_stand (length o.files) units compiled.items p.instances text.instances copies.instances;
       instance_names = subst (λ ob. AreCountable InstanceFits ob.instances) (sym compiled.obligations)
@@ -86,11 +87,11 @@ module _ (files : ℕ) (units : List LibraryUnit) (main : List ℕ) (p : Program
   made : IsMadeOf p o
   made = made_of files units main p o h text copies compiled
 
-  pub passes_law : HasObject o × (is_plain o ≡ true)
+  pub passes_law : HasObject o
   passes_law = made_law p o able made
 
   pub behaves_law : Behaves p o
-  behaves_law = image_behaves p o able made passes_law.0.sound
+  behaves_law = image_behaves p o able made passes_law.sound
 
   pub in_time_law : EndsInTime p o
-  in_time_law = image_ends_in_time p o able made passes_law.0.sound
+  in_time_law = image_ends_in_time p o able made passes_law.sound

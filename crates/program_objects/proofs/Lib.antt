@@ -32,3 +32,6 @@ pub mod LaidPrograms
 mod ExceptionNames
 pub mod Expanded
 pub mod OneCopy
+pub mod Pairing
+pub mod RegionCounts
+pub mod RegionFields

@@ -7,7 +7,8 @@ use Rattle.ada_parser.proofs.FileLaws.{file_unique}
 use Rattle.ada_syntax.specs.declared.unit.Unit.{Unit as LibraryUnit}
 use Rattle.ada_rules.specs.Legal as rules
 use Rattle.ada_rules.specs.Legal.{unnamed, mistyped, legal}
-use Rattle.program_objects.specs.Legal.{entries_for, AreProgram, IsLegal, UnitsAreRefused, breaks_names, breaks_types, passes_a_limit, has_too_many_instances, has_too_many_nodes, AreRefused, no_units, refused_units}
+use Rattle.program_objects.specs.Exemptions.{pragmas_of, exempt_regions}
+use Rattle.program_objects.specs.Legal.{entries_for, AreProgram, IsLegal, BreakRules, breaks_names, breaks_types, PassLimits, passes_a_limit, has_too_many_instances, has_too_many_nodes, AreRefused, no_units, broken_rules, unpaired_pragma, passed_limits}
 use Rattle.cov_base.specs.declared.obligations.SourceFile.{SourceFile}
 use Rattle.generic_expand.specs.Expanded.{past_instances, first_past}
 use Rattle.ada_parser.specs.Opening.{open_extent}
@@ -53,16 +54,22 @@ have_units files units _ have (too_deep {tokens} {pos} fits same deep) =
 have_units files units fault have (without_units {tokens} flat breaks) =
     derived have.parsed (subst (λ lists. BreaksGrammar 0 lists fault) (one_tokens files tokens have.tokens flat have.flat) breaks)
 
--- units that are a program within the limits are not refused
-units_not_refused : (us : List LibraryUnit) (main : List ℕ) (p : Program) (fault : SourceFault) → AreProgram us main p → UnitsAreRefused us main fault → ⊥
-units_not_refused us main p _ h (breaks_names {pos} is offends) = let e : unnamed pos ≡ legal p = sym is ∙ h.legal in let x : ⊥ = cc e in x
-units_not_refused us main p _ h (breaks_types {pos} is offends) = let e : mistyped pos ≡ legal p = sym is ∙ h.legal in let x : ⊥ = cc e in x
-units_not_refused us main p _ h (passes_a_limit {pos} is passed) = let e : rules.too_large pos ≡ legal p = sym is ∙ h.legal in let x : ⊥ = cc e in x
-units_not_refused us main p _ h (has_too_many_instances {pos = pos} is past) = none_some (past_instances 0 (entries_for us main)) pos h.few_instances past
-units_not_refused us main p _ h (has_too_many_nodes {pos = pos} is few past) = none_some (first_past 0 (entries_for us main)) pos h.few past
+-- units that are a program within the limits break no rule and pass no limit
+no_broken_rule : (us : List LibraryUnit) (main : List ℕ) (p : Program) (fault : SourceFault) → AreProgram us main p → BreakRules us main fault → ⊥
+no_broken_rule us main p _ h (breaks_names {pos} is offends) = let e : unnamed pos ≡ legal p = sym is ∙ h.legal in let x : ⊥ = cc e in x
+no_broken_rule us main p _ h (breaks_types {pos} is offends) = let e : mistyped pos ≡ legal p = sym is ∙ h.legal in let x : ⊥ = cc e in x
+
+no_limit_passed : (us : List LibraryUnit) (main : List ℕ) (p : Program) (fault : SourceFault) → AreProgram us main p → PassLimits us main fault → ⊥
+no_limit_passed us main p _ h (passes_a_limit {pos} is passed) = let e : rules.too_large pos ≡ legal p = sym is ∙ h.legal in let x : ⊥ = cc e in x
+no_limit_passed us main p _ h (has_too_many_instances {pos = pos} is past) = none_some (past_instances 0 (entries_for us main)) pos h.few_instances past
+no_limit_passed us main p _ h (has_too_many_nodes {pos = pos} is few past) = none_some (first_past 0 (entries_for us main)) pos h.few past
 
 pub not_refused : (files : List SourceFile) (main : List ℕ) (p : Program) (fault : SourceFault) → IsLegal files main p → AreRefused files main fault → ⊥
 not_refused files main p fault h (no_units none) = have_units files h.units fault h.parsed none
-not_refused files main p fault h (refused_units {units} have refused) =
-    units_not_refused h.units (str_to_ascii_lowercase main) p fault h.program
-    (subst (λ us. UnitsAreRefused us (str_to_ascii_lowercase main) fault) (one_program files units h.units have h.parsed) refused)
+not_refused files main p fault h (broken_rules {units} have broken) =
+    no_broken_rule h.units (str_to_ascii_lowercase main) p fault h.program
+    (subst (λ us. BreakRules us (str_to_ascii_lowercase main) fault) (one_program files units h.units have h.parsed) broken)
+not_refused files main p _ h (unpaired_pragma {unpaired = unpaired} have passed pairs) = err_ok (pragmas_of files) unpaired (exempt_regions files) pairs h.exemptions
+not_refused files main p fault h (passed_limits {units} have paired passed) =
+    no_limit_passed h.units (str_to_ascii_lowercase main) p fault h.program
+    (subst (λ us. PassLimits us (str_to_ascii_lowercase main) fault) (one_program files units h.units have h.parsed) passed)

@@ -1,5 +1,5 @@
 -- An object that is made of a program passes the checks of objects.
-use Rattle.std.proofs.Common.{◌≡◌, ◌≢◌, ℕ, ◌+◌, ◌*◌, ◌^◌, ◌≤◌, ◌<◌, ◌==◌, ◌&&◌, Bool, true, false, nat_lt, nat_le, List, [], ◌∷◌, ◌++◌, length, map, AllPairs, refl, sym, ap, ◌∙◌, subst, arith, lit≤, length-append}
+use Rattle.std.proofs.Common.{◌≡◌, ◌≢◌, ℕ, ◌+◌, ◌*◌, ◌^◌, ◌≤◌, ◌<◌, ◌&&◌, Bool, true, false, nat_lt, nat_le, List, [], ◌∷◌, ◌++◌, length, map, AllPairs, refl, sym, ap, ◌∙◌, subst, arith, lit≤, length-append}
 use Rattle.std.specs.List.{list_all, AllByRecursion}
 use Rattle.std.specs.Str.{is_utf8}
 use Rattle.std.proofs.lemmas.Bool.Decides.{nat_tests}
@@ -17,7 +17,6 @@ use Rattle.program_objects.proofs.Roles.{roles_few, held_are_roles, held_passes}
 use Rattle.program_objects.proofs.RowStarts.{named, starts_held, rows_in_range, rows_few}
 use Rattle.program_objects.specs.Made.{exceptions_in, IsExceptionName, IsCompilable, IsMadeOf}
 use Rattle.cov_base.specs.Lists.{Everywhere}
-use Rattle.cov_base.specs.declared.obligations.Obligations.{Obligations}
 use Rattle.kernel_code.proofs.PieceLaws.{pieces_are_marked}
 use Rattle.kernel_code.specs.Pieces.{kernel_pieces}
 use Rattle.kernel_ir.specs.Obligations.{rows, conditions}
@@ -27,10 +26,10 @@ use Rattle.linker.specs.Linked.{linked}
 use Rattle.statement_code.proofs.Own.{once_law}
 use Rattle.statement_code.specs.Own.{MarksOnce}
 use Rattle.object_format.specs.Checked.{IsSound}
-use Rattle.object_format.specs.Counts.{IsCountable, AreCountable, RegionFits, IsCounted}
+use Rattle.object_format.specs.Counts.{IsCountable, AreCountable, IsCounted}
 use Rattle.object_format.specs.Decisions.{AreExpression}
-use Rattle.object_format.specs.Fields.{is_placed, are_files, are_exceptions, are_regions, are_obliged, is_row, is_role, passes_field}
-use Rattle.object_format.specs.Read.{HasObject, is_plain}
+use Rattle.object_format.specs.Fields.{is_placed, are_files, are_exceptions, are_obliged, is_row, is_role, passes_field}
+use Rattle.object_format.specs.Read.{HasObject}
 use Rattle.object_format.specs.RoleCheck.{conditions_of, PassesRole}
 use Rattle.object_format.specs.RowCheck.{is_in, PassesRow}
 use Rattle.object_format.specs.declared.object.FileEntry.{FileEntry}
@@ -57,9 +56,6 @@ names_are_utf8 (n ∷ ns) named = both_hold (is_utf8 n) (list_all is_utf8 ns) (i
 names_are_exceptions : (names : List (List ℕ)) → Everywhere IsExceptionName names → length names ≤ 4096 → are_exceptions (predefined_names ++ names) ≡ true
 names_are_exceptions names named few =
     both_hold (nat_le (length names) 4294967290) (list_all is_utf8 names) (grind (arith, nat_tests)) (names_are_utf8 names named)
-
-abbrev plain_parts : Obligations → Bool
-plain_parts ob = length ob.regions == 0
 
 few_files : (files : List FileEntry) → are_files files ≡ true → length files ≤ 64
 few_files files are =
@@ -100,8 +96,7 @@ obliged_law : (p : Program) (o : Object) → IsCompilable p → IsMadeOf p o →
 obliged_law p o able made =
     let exceptions : are_exceptions o.obligations.exceptions ≡ true =
     ap (λ ob. are_exceptions ob.exceptions) made.obligations ∙ names_are_exceptions (exceptions_in p) able.exceptions able.few_exceptions in
-    let regions : are_regions (length o.files) o.obligations.regions ≡ true = ap (λ ob. are_regions (length o.files) ob.regions) made.obligations in
-    both_hold _ _ (both_hold _ _ (both_hold _ _ (both_hold _ _ made.instances exceptions) made.statements) made.decisions) regions
+    both_hold _ _ (both_hold _ _ (both_hold _ _ (both_hold _ _ made.instances exceptions) made.statements) made.decisions) made.regions.placed
 
 field_law : (p : Program) (o : Object) → IsCompilable p → IsMadeOf p o → passes_field o ≡ true
 field_law p o able made =
@@ -169,10 +164,10 @@ counted_law p o able made =
       exceptions = subst (λ ob. AreCountable IsCountable ob.exceptions) (sym made.obligations) (names_counted (exceptions_in p) able.exceptions able.few_exceptions);
       statements = omega (arith, statements_long p o able made, labelled);
       decisions = omega (arith, ap length (decisions_are p o able made), length-map (decisions_of p.subprograms) decision_entry, decided);
-      regions = subst (λ ob. AreCountable RegionFits ob.regions) (sym made.obligations) (lit≤ tt, All-from_recursion RegionFits [] tt);
+      regions = let few = made.regions.few in (omega (arith, few, few_files o.files made.files), made.regions.short);
       rows = omega (arith, rows_few o.text o.rows row.placed row.rising, text_few p o made);
       roles = omega (arith, roles_few o (role_law p o able made), text_few p o made);
     }
 
-pub made_law : (p : Program) (o : Object) → IsCompilable p → IsMadeOf p o → HasObject o × (is_plain o ≡ true)
-made_law p o able made = (record { sound = sound_law p o able made; counted = counted_law p o able made }, ap plain_parts made.obligations)
+pub made_law : (p : Program) (o : Object) → IsCompilable p → IsMadeOf p o → HasObject o
+made_law p o able made = record { sound = sound_law p o able made; counted = counted_law p o able made }

@@ -4,7 +4,7 @@ use Rattle.std.proofs.lemmas.Bool.Decides.{nat_tests}
 use Rattle.std.proofs.lemmas.List.{append_assoc, drop_more}
 use Rattle.ada_lexer.specs.declared.lexer.LexFault.{LexFault}
 use Rattle.ada_lexer.specs.declared.token.Token.{Token}
-use Rattle.ada_lexer.specs.Tokens.{tokens_of}
+use Rattle.ada_lexer.specs.Tokens.{tokens_of, AreTokensOf}
 use Rattle.ada_parser.specs.Grammar.{IsFile}
 use Rattle.ada_parser.specs.Refusal.{IsOnlyFile}
 use Rattle.ada_syntax.specs.declared.unit.Unit.{Unit as LibraryUnit}
@@ -12,7 +12,7 @@ use Rattle.cov_base.specs.declared.failure.Failure.{Failure}
 use Rattle.cov_base.specs.declared.failure.Failure.TheVariants.{Fault, WantOfMemory}
 use Rattle.cov_base.specs.declared.obligations.SourceFile.{SourceFile}
 use Rattle.program_objects.specs.declared.fault.SourceFault.{SourceFault}
-use Rattle.parsed_texts.specs.Parsed.{AreTokensOf, AreOfFiles, no_file, and_file, AreTokensOfFiles, no_file_behind, tokens_then}
+use Rattle.parsed_texts.specs.Parsed.{AreOfFiles, no_file, and_file, AreTokensOfFiles, no_file_behind, tokens_then}
 use Rattle.program_objects.specs.Units as sources
 use Rattle.ada_parser.specs.Opening.{open_extent}
 use Rattle.program_objects.specs.Units.{size_limit, first_too_large, all_tokens, lexed, before, AreUnits, BreaksGrammar, HaveTokens, HaveUnits, HaveOnlyUnits, HaveNoUnits, without_units, FailsFor, first_nested}

@@ -15,10 +15,12 @@ use Rattle.cov_base.specs.declared.failure.Failure.{Failure}
 use Rattle.cov_base.specs.declared.failure.Failure.TheVariants.{Fault, WantOfMemory}
 use Rattle.cov_base.specs.declared.obligations.SourceFile.{SourceFile}
 use Rattle.cov_base.specs.declared.position.Pos.{Pos}
+use Rattle.exemptions.specs.declared.pairing.Unpaired.{Unpaired}
 use Rattle.generic_expand.specs.Expanded.{past_instances, first_past}
+use Rattle.program_objects.specs.Exemptions.{pragmas_of, exempt_regions}
 use Rattle.program_objects.specs.Units.{HaveUnits, HaveNoUnits, fault_at}
 use Rattle.program_objects.specs.declared.fault.SourceFault.{SourceFault}
-use Rattle.program_objects.specs.declared.fault.Why.TheVariants.{Limit, Naming, Typing}
+use Rattle.program_objects.specs.declared.fault.Why.TheVariants.{Limit, Naming, Typing, Exemption}
 
 -- what the limits on instances and nodes ask of units, in the world that the rules on types come to
 abbrev pub entries_in : RulesLibrary → Result Walked Pos → List UnitEntry
@@ -34,37 +36,52 @@ pub record AreProgram (units : List LibraryUnit) (main : List ℕ) (p : Program)
   pub few_instances : past_instances 0 (entries_for units main) ≡ None
   pub few : first_past 0 (entries_for units main) ≡ None
 
--- the sources are this legal program with a main procedure of this name, whose case does not count
+-- the sources are this legal program with a main procedure of this name, whose case does not count, and each exemption
+-- pragma pairs
 pub record IsLegal (files : List SourceFile) (main : List ℕ) (p : Program) : Type 0 where
   pub units : List LibraryUnit
   pub parsed : HaveUnits files units
   pub program : AreProgram units (str_to_ascii_lowercase main) p
+  pub exemptions : pragmas_of files ≡ Ok (exempt_regions files)
 
--- Why units are refused, and where: a construct breaks a rule on names; else one on types; else a counted limit is passed; else there are too
--- many instances; or else too many nodes. Each is the verdict of the rules, with its reason.
-pub data UnitsAreRefused (units : List LibraryUnit) (main : List ℕ) : SourceFault → Type 0 where
+-- Units break the rules, here: a construct breaks a rule on names; or else one on types. Each is the verdict of the
+-- rules, with its reason.
+pub data BreakRules (units : List LibraryUnit) (main : List ℕ) : SourceFault → Type 0 where
   breaks_names : {pos : Pos} → checked units main ≡ unnamed pos → BreaksNames (whole_library units) main pos
-      → UnitsAreRefused units main (fault_at pos Naming)
+      → BreakRules units main (fault_at pos Naming)
   breaks_types : {pos : Pos} → checked units main ≡ mistyped pos → BreaksTypes (whole_library units) main pos
-      → UnitsAreRefused units main (fault_at pos Typing)
-  passes_a_limit : {pos : Pos} → checked units main ≡ too_large pos → PassesLimit (whole_library units) main pos
-      → UnitsAreRefused units main (fault_at pos Limit)
-  has_too_many_instances : {p : Program} {pos : Pos} → checked units main ≡ legal p → past_instances 0 (entries_for units main) ≡ Some pos
-      → UnitsAreRefused units main (fault_at pos Limit)
-  has_too_many_nodes : {p : Program} {pos : Pos} → checked units main ≡ legal p → past_instances 0 (entries_for units main) ≡ None
-      → first_past 0 (entries_for units main) ≡ Some pos → UnitsAreRefused units main (fault_at pos Limit)
+      → BreakRules units main (fault_at pos Typing)
 
--- sources that are refused, with their first fault: they have no units; or else their units are refused
+-- units break no rule on names or types: they are a program, or pass a counted limit of the rules
+pub data PassRules (units : List LibraryUnit) (main : List ℕ) : Type 0 where
+  within : {p : Program} → checked units main ≡ legal p → PassRules units main
+  beyond : {pos : Pos} → checked units main ≡ too_large pos → PassRules units main
+
+-- Units that break no rule pass a counted limit, here: one of the rules, with its reason; else there are too many
+-- instances; or else too many nodes.
+pub data PassLimits (units : List LibraryUnit) (main : List ℕ) : SourceFault → Type 0 where
+  passes_a_limit : {pos : Pos} → checked units main ≡ too_large pos → PassesLimit (whole_library units) main pos
+      → PassLimits units main (fault_at pos Limit)
+  has_too_many_instances : {p : Program} {pos : Pos} → checked units main ≡ legal p
+      → past_instances 0 (entries_for units main) ≡ Some pos → PassLimits units main (fault_at pos Limit)
+  has_too_many_nodes : {p : Program} {pos : Pos} → checked units main ≡ legal p
+      → past_instances 0 (entries_for units main) ≡ None → first_past 0 (entries_for units main) ≡ Some pos
+      → PassLimits units main (fault_at pos Limit)
+
+-- Sources that are refused, with their first fault: they have no units; else these break the rules; else an exemption
+-- pragma pairs with none; or else a counted limit is passed.
 pub data AreRefused (files : List SourceFile) (main : List ℕ) : SourceFault → Type 0 where
   no_units : {fault : SourceFault} → HaveNoUnits files fault → AreRefused files main fault
-  refused_units : {units : List LibraryUnit} {fault : SourceFault} → HaveUnits files units
-      → UnitsAreRefused units (str_to_ascii_lowercase main) fault → AreRefused files main fault
+  broken_rules : {units : List LibraryUnit} {fault : SourceFault} → HaveUnits files units
+      → BreakRules units (str_to_ascii_lowercase main) fault → AreRefused files main fault
+  unpaired_pragma : {units : List LibraryUnit} {unpaired : Unpaired} → HaveUnits files units
+      → PassRules units (str_to_ascii_lowercase main) → pragmas_of files ≡ Err unpaired
+      → AreRefused files main (fault_at unpaired.pos Exemption)
+  passed_limits : {units : List LibraryUnit} {fault : SourceFault} → HaveUnits files units
+      → pragmas_of files ≡ Ok (exempt_regions files) → PassLimits units (str_to_ascii_lowercase main) fault
+      → AreRefused files main fault
 
--- a call refused the units, or the sources, where memory was not refused
-abbrev pub RefusesUnits : List LibraryUnit → (main : List ℕ) → Failure SourceFault → Type 0
-RefusesUnits units main (Fault fault) = UnitsAreRefused units main fault
-RefusesUnits units main WantOfMemory = Unit {0}
-
+-- a call refused the sources, where memory was not refused
 abbrev pub RefusesFor : List SourceFile → (main : List ℕ) → Failure SourceFault → Type 0
 RefusesFor files main (Fault fault) = AreRefused files main fault
 RefusesFor files main WantOfMemory = Unit {0}

@@ -9,6 +9,7 @@ pub mod Listed
 pub mod Texts
 pub mod Steps
 pub mod Units
+pub mod Exemptions
 pub mod Why
 pub mod Kernels
 pub mod Expanding

@@ -1,11 +1,12 @@
 -- The object of a program: what it has beside the image of the kernel.
-use Rattle.std.specs.Prelude.{◌≡◌, ◌≤◌, ℕ, true, List, [], length, map, IsAscii}
+use Rattle.std.specs.Prelude.{◌≡◌, ◌≤◌, ℕ, true, List, length, map, IsAscii}
 use Rattle.std.specs.List.{All}
 use Rattle.ada_meaning.specs.Collected.{labels_of, decisions_of}
 use Rattle.ada_meaning.specs.Obligations.{IsNumbered, ordered_labels, ordered_decisions, ordered_exceptions, obligations_of}
 use Rattle.ada_meaning.specs.Program.{Program}
 use Rattle.ada_meaning.specs.Tree.{shape_of, conditions_of}
 use Rattle.cov_base.specs.Expr.{negates_once}
+use Rattle.program_objects.specs.Exemptions.{AreRegionsIn}
 use Rattle.program_objects.specs.Held.{HoldsImage}
 use Rattle.cov_base.specs.Lists.{Everywhere}
 use Rattle.program_objects.specs.Kernels.{IsKernelOf}
@@ -37,17 +38,19 @@ pub record IsCompilable (p : Program) : Type 0 where
   pub exceptions : Everywhere IsExceptionName (exceptions_in p)
   pub few_exceptions : length (exceptions_in p) ≤ 4096
 
--- an object that is made of a program: it holds the image of a kernel of the program, its obligations are the program's, and its files, the
--- instances, the statements and the decisions are such as an object has
+-- an object that is made of a program: it holds the image of a kernel of the program, its obligations are the program's,
+-- with some exempt regions, and its files, the instances, the statements, the decisions and the regions are such as an
+-- object has
 pub record IsMadeOf (p : Program) (o : Object) : Type 0 where
   pub kernel : Kernel
   pub nodes : ℕ
   pub is_kernel : IsKernelOf p nodes kernel
   pub holds : HoldsImage kernel o
-  pub obligations : o.obligations ≡ obligations_of p []
+  pub obligations : o.obligations ≡ obligations_of p o.obligations.regions
   pub files : are_files o.files ≡ true
   pub names : All FileFits o.files
   pub instances : are_instances (length o.files) o.obligations.instances ≡ true
   pub instance_names : AreCountable InstanceFits o.obligations.instances
   pub statements : are_statements (length o.files) o.obligations.statements ≡ true
   pub decisions : are_decisions (length o.files) (length o.obligations.statements) o.obligations.decisions ≡ true
+  pub regions : AreRegionsIn (length o.files) o.obligations.regions

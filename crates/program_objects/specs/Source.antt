@@ -1,10 +1,11 @@
 -- When an object is that of sources.
-use Rattle.std.specs.Prelude.{◌≡◌, ◌↔◌, ℕ, ◌+◌, ◌*◌, ◌≤◌, true, List, [], length, map}
+use Rattle.std.specs.Prelude.{◌≡◌, ◌↔◌, ℕ, ◌+◌, ◌*◌, ◌≤◌, List, length, map}
 use Rattle.std.specs.Str.{str_to_ascii_lowercase}
 use Rattle.ada_meaning.specs.Obligations.{obligations_of}
 use Rattle.ada_meaning.specs.Program.{Program}
 use Rattle.generic_expand.specs.Limits.{node_count}
 use Rattle.program_objects.specs.Behaves.{Behaves, EndsInTime}
+use Rattle.program_objects.specs.Exemptions.{exempt_regions}
 use Rattle.program_objects.specs.Legal.{entries_for, IsLegal}
 use Rattle.cov_base.specs.declared.obligations.SourceFile.{SourceFile}
 use Rattle.cov_base.specs.Lists.{Somewhere}
@@ -12,7 +13,7 @@ use Rattle.line_table.specs.declared.roles.Role.{Role}
 use Rattle.line_table.specs.declared.rows.Row.{Row}
 use Rattle.object_format.specs.declared.object.FileEntry.{FileEntry}
 use Rattle.object_format.specs.declared.object.Object.{Object}
-use Rattle.object_format.specs.Read.{IsObject, is_plain}
+use Rattle.object_format.specs.Read.{IsObject}
 use Rattle.sha2.specs.Sha256.{sha256}
 use Rattle.statement_code.specs.Own.{IsStatementIn, IsConditionIn}
 
@@ -35,14 +36,13 @@ pub record HasItsMarks (p : Program) (o : Object) : Type 0 where
   pub rows : (statement instance : ℕ) → Somewhere (IsRowOf statement instance) o.rows ↔ IsStatementIn p instance statement
   pub roles : (decision condition instance : ℕ) → Somewhere (IsRoleOf decision condition instance) o.roles ↔ IsConditionIn p instance decision condition
 
--- The object is that of a legal program: it passes the checks, names the sources with their digests, has the program's obligations and
--- marks each of them, and on every input does what the program means.
+-- The object is that of a legal program: it passes the checks, names the sources with their digests, has the program's
+-- obligations and the sources' exempt regions, marks each obligation, and on every input does what the program means.
 pub record IsObjectOf (files : List SourceFile) (main : List ℕ) (p : Program) (o : Object) : Type 0 where
   pub legal : IsLegal files main p
   pub checked : IsObject o
-  pub plain : is_plain o ≡ true
   pub sources : o.files ≡ map entry_of_file files
-  pub obligations : o.obligations ≡ obligations_of p []
+  pub obligations : o.obligations ≡ obligations_of p (exempt_regions files)
   pub marks : HasItsMarks p o
   pub behaves : Behaves p o
 

@@ -1,8 +1,10 @@
 //! From a legal program to its object, but for the closing digest.
 
 ghost use Rattle.std.specs.Prelude.{◌≡◌, IfOk, map};
+ghost use Rattle.ada_meaning.specs.Obligations.{obligations_of};
 ghost use Rattle.ada_tree.specs.Programs.{program_of};
 ghost use Rattle.program_objects.specs.Built.{IsBuiltOf};
+ghost use Rattle.program_objects.specs.Exemptions.{exempt_regions};
 ghost use Rattle.program_objects.specs.Kernels.{CanBeLaid, IsImageOf, nodes_of};
 ghost use Rattle.program_objects.specs.Made.{IsCompilable};
 ghost use Rattle.program_objects.specs.Source.{entry_of_file};
@@ -10,7 +12,7 @@ ghost use Rattle.generic_expand.specs.Expanded.{copies_of};
 
 use ada_tree::Program;
 use codegen_rv32::generate;
-use cov_base::{Bytes, Seq, SourceFile};
+use cov_base::{Bytes, Obligations, Region, Seq, SourceFile};
 use generic_expand::Copies;
 use linker::{Image, link};
 use lower::lower;
@@ -18,20 +20,23 @@ use object_format::{FileEntry, Object, digest};
 use obligations::obligations;
 use std::alloc::{AllocError, Global};
 
-/// The object of a program and its sources. Its closing digest is not there yet.
+/// The object of a program and its sources, which have these exempt regions. Its closing digest is not there
+/// yet.
 pub fn object_of(
     alloc: Global,
     files: &[SourceFile],
     program: &Program,
     copies: &Copies,
+    regions: Seq<Region>,
 ) -> Result<Object, AllocError>
     requires able { IsCompilable (program_of program.now) }
     requires laid { CanBeLaid program.now }
     requires copies { copies.now.bodies ≡ copies_of (program_of program.now) }
+    requires regions { regions ≡ exempt_regions files.now }
     ensures { IfOk result (IsBuiltOf files.now (program_of program.now) (nodes_of program.now)) }
 {
     let files = file_entries(alloc, files)?;
-    let obligations = obligations(alloc, program)?;
+    let obligations = all_obligations(alloc, program, regions)?;
     let image = image_of(alloc, program, copies)?;
     Ok(Object {
         entry: image.entry,
@@ -44,6 +49,19 @@ pub fn object_of(
         roles: image.roles,
         closing: [0; 32],
     })
+}
+
+/// The obligations of a program whose sources have these exempt regions.
+fn all_obligations(
+    alloc: Global,
+    program: &Program,
+    regions: Seq<Region>,
+) -> Result<Obligations, AllocError>
+    ensures { IfOk result (λ o. o ≡ obligations_of (program_of program.now) regions) }
+{
+    let mut obligations = obligations(alloc, program)?;
+    obligations.regions = regions;
+    Ok(obligations)
 }
 
 /// The image of a program: the linked machine code of its kernel, with the words of the library level as

@@ -15,7 +15,7 @@ ghost use Rattle.statement_code.specs.Kernels.{AreOutside};
 ghost use Rattle.statement_code.specs.Own.{IsStatementIn, IsConditionIn};
 ghost use Rattle.cov_base.specs.TextOrder.{rise};
 ghost use Rattle.object_format.specs.Fields.{are_statements};
-ghost use Rattle.object_format.specs.Read.{HasObject, is_plain};
+ghost use Rattle.object_format.specs.Read.{HasObject};
 ghost use Rattle.object_format.specs.RoleCheck.{PassesRole};
 ghost use Rattle.object_format.specs.declared.object.Object.{Object};
 
@@ -25,10 +25,9 @@ pub fn roles_are_of_checks_structure_and_conditions()
     ensures { (p : Program) (o : Object) → IsCompilable p → IsMadeOf p o → PassesRole o }
 {}
 
-/// The object that is made of a program passes the checks of objects, and has a file; it is one of the
-/// language of the moment.
+/// The object that is made of a program passes the checks of objects, and has a file.
 pub fn made_objects_pass_their_checks()
-    ensures { (p : Program) (o : Object) → IsCompilable p → IsMadeOf p o → HasObject o × (is_plain o ≡ true) }
+    ensures { (p : Program) (o : Object) → IsCompilable p → IsMadeOf p o → HasObject o }
 {}
 
 /// Places that rise, within files, are places of statements as an object has them.

@@ -1,11 +1,17 @@
-//! The library units of source files, which are numbered from 0 in their order. Each step looks at all
-//! files before the next begins.
+//! The library units of source files, which are numbered from 0 in their order, and how the exemption
+//! pragmas of the files pair. Each step looks at all files before the next begins.
 
 ghost use Rattle.std.specs.Prelude.{◌≡◌, ◌^◌, ◌<◌, ℕ, List, [], ◌∷◌, None, Ok, IfOk, IfErr, OnOk, length};
 ghost use Rattle.ada_parser.specs.Grammar.{IsFile};
 ghost use Rattle.ada_parser.specs.Opening.{open_extent};
 ghost use Rattle.ada_parser.specs.Refusal.{IsOnlyFile};
 ghost use Rattle.parsed_texts.specs.Parsed.{AreOfFiles, AreTokensOfFiles};
+ghost use Rattle.program_objects.specs.Exemptions.{
+  exempt_regions,
+  pragmas_of,
+  unpaired_in,
+  AreRegionsIn,
+};
 ghost use Rattle.program_objects.specs.Units.{
   all_tokens,
   fault_at,
@@ -25,6 +31,7 @@ ghost use Rattle.cov_base.specs.declared.obligations.SourceFile.{SourceFile};
 ghost use Rattle.program_objects.specs.declared.fault.SourceFault.{SourceFault};
 
 use crate::fault::{SourceFault, Why};
+use crate::pragmas::{Exemptions, exemptions_of};
 use ada_lexer::{LexFault, Token, lex, nested};
 use ada_parser::{discard_units, parse};
 use ada_syntax::Unit;
@@ -41,17 +48,29 @@ const BEGINNING: Pos = Pos {
     col: 1,
 };
 
+/// What source files are parsed into. The units are for `discard_units`.
+pub struct ParsedSources {
+    pub units: Vec<Unit>,
+    pub exemptions: Exemptions,
+}
+
 /// The library units of source files, which are numbered from 0 in their order, and stand in them as they
-/// are parsed. Each step looks at all files before the next begins: size, tokens, nesting, syntax.
-pub fn units_of(alloc: Global, files: &[SourceFile]) -> Result<Vec<Unit>, Failure<SourceFault>>
+/// are parsed, and how the exemption pragmas of the files pair. Each step looks at all files before the next
+/// begins: size, tokens, nesting, syntax. A pragma that pairs with none is no refusal yet.
+pub fn units_of(alloc: Global, files: &[SourceFile]) -> Result<ParsedSources, Failure<SourceFault>>
     requires { length files.now < 2 ^ 32 }
-    ensures units { IfOk result (λ units. HaveUnits files.now units.items) }
-    ensures only_units { IfOk result (λ units. HaveOnlyUnits files.now units.items) }
-    ensures read { IfOk result (λ units. AreOfFiles open_extent (length files.now) units.items) }
+    ensures units { IfOk result (λ s. HaveUnits files.now s.units.items) }
+    ensures only_units { IfOk result (λ s. HaveOnlyUnits files.now s.units.items) }
+    ensures read { IfOk result (λ s. AreOfFiles open_extent (length files.now) s.units.items) }
+    ensures regions { IfOk result (λ s. s.exemptions.regions ≡ exempt_regions files.now) }
+    ensures unpaired { IfOk result (λ s. s.exemptions.unpaired ≡ unpaired_in (pragmas_of files.now)) }
+    ensures in_files { OnOk result (AreRegionsIn (length files.now) (exempt_regions files.now)) }
     ensures refused { IfErr result (FailsFor files.now) }
 {
     let tokens = flat_tokens(alloc, files)?;
-    units_of_tokens(alloc, tokens.as_slice())
+    let exemptions = exemptions_of(alloc, tokens.as_slice())?;
+    let units = units_of_tokens(alloc, tokens.as_slice())?;
+    Ok(ParsedSources { units, exemptions })
 }
 
 /// The tokens of each file. No file is too large, and the tokens of none nest too deep.

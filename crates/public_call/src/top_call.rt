@@ -1,22 +1,22 @@
 //! The public call: words in, a status out.
 
-ghost use Rattle.std.specs.Prelude.{◌≡◌, map, string_bytes};
+ghost use Rattle.std.specs.Prelude.{◌≡◌, map, string_bytes, IfErr};
 ghost use Rattle.command_words.specs.Command.{task_view};
 ghost use Rattle.command_words.specs.Task.{IsWithinLimits, task_of};
 ghost use Rattle.commands.specs.Clauses.{UsageIsExact, DoneIsWhole, RefusalsLeaveFiles, OthersStay, RefusalsPutOneLine, RisenReadsAreTold, ReadFaultHasCause, WriteFaultHasCause};
 ghost use Rattle.commands.specs.Complete.{LegalSourcesCompile, ProgramsRun, ProgramsDoNotTrap, TracesAreCovered, TracesAreConsolidated};
 ghost use Rattle.commands.specs.Headline.{CoverageTellsTheSource};
 ghost use Rattle.commands.specs.Outcome.{call_of, Prepares, Because, Answers};
-ghost use Rattle.commands.specs.Ready.{verdict_view};
+ghost use Rattle.commands.specs.Ready.{answer_view, TellsSourceOf};
 ghost use Rattle.commands.specs.RunsConsolidated.{RunsAreConsolidated, ProgramsAreConsolidated};
 ghost use Rattle.commands.specs.RunsCovered.{RunsAreCovered};
-ghost use Rattle.commands.specs.ShownPairs.{LeastPairsAreShown};
+ghost use Rattle.commands.specs.ShownPairs.{LeastPairsAreShown, LeastPairsAreInJson};
 
 use crate::compile;
 use command_words::{Command, words_of};
 use commands::{
-    OUT_OF_MEMORY_LINE, Product, Ready, Status, USAGE_LINE, coverage, deliver, put_line, refuse,
-    run,
+    OUT_OF_MEMORY_LINE, Product, Ready, Refusal, Status, USAGE_LINE, coverage, deliver, put_line,
+    refuse, run,
 };
 use cov_base::Failure;
 use cov_io::{Files, Sink};
@@ -58,8 +58,8 @@ pub fn gnatcov<F: Files, S: Sink>(
         (call_of F.held F.reads_failed F.writes_failed S.written S.failures files.old files.new out.old out.new)
         result }
 
-    // What coverage puts, over an object and the traces of its runs; and over the object of a program and
-    // traces of its runs: the report of the program's own executions.
+    // What coverage puts in each of its forms, over an object and the traces of its runs; and over the object of
+    // a program and traces of its runs: the report of the program's own executions.
     ensures runs { RunsAreCovered (task_of (map string_bytes words.now))
         (call_of F.held F.reads_failed F.writes_failed S.written S.failures files.old files.new out.old out.new)
         result }
@@ -68,8 +68,11 @@ pub fn gnatcov<F: Files, S: Sink>(
         result }
 
     // At a level that asks for pairs, that report ends in the least pairs of vectors that occurred in the
-    // program's own executions, one for each condition that has a pair.
+    // program's own executions, one for each condition that has a pair; and JSON carries the same.
     ensures pairs { LeastPairsAreShown (task_of (map string_bytes words.now))
+        (call_of F.held F.reads_failed F.writes_failed S.written S.failures files.old files.new out.old out.new)
+        result }
+    ensures json_pairs { LeastPairsAreInJson (task_of (map string_bytes words.now))
         (call_of F.held F.reads_failed F.writes_failed S.written S.failures files.old files.new out.old out.new)
         result }
 
@@ -136,7 +139,7 @@ fn obey<F: Files, S: Sink>(
 {
     match prepare(alloc, command, files) {
         Ok(ready) => deliver(&ready, files, out),
-        Err(status) => refuse(alloc, command, status, out),
+        Err(refusal) => refuse(alloc, command, &refusal, out),
     }
 }
 
@@ -145,10 +148,11 @@ fn prepare<'a, F: Files>(
     alloc: Global,
     command: &Command<'a>,
     files: &mut F,
-) -> Result<Ready<'a>, Status>
+) -> Result<Ready<'a>, Refusal>
     requires { IsWithinLimits (task_view command.now) }
     ensures prepares { Prepares (task_view command.now) (F.held files.old) (F.reads_failed files.old)
-        (F.reads_failed files.new) (verdict_view result) }
+        (F.reads_failed files.new) (answer_view result) }
+    ensures named { IfErr result (TellsSourceOf (task_view command.now) (F.held files.old)) }
     ensures same { F.held files.new ≡ F.held files.old }
     ensures writes { F.writes_failed files.new ≡ F.writes_failed files.old }
 {
@@ -157,13 +161,13 @@ fn prepare<'a, F: Files>(
             main,
             object,
             sources,
-        } => compile::prepare(alloc, main, object, sources.as_slice(), files),
+        } => Ok(compile::prepare(alloc, main, object, sources.as_slice(), files)?),
         Command::Run {
             input,
             budget,
             trace,
             object,
-        } => run::prepare(alloc, input, *budget, trace, object, files),
+        } => Ok(run::prepare(alloc, input, *budget, trace, object, files)?),
         Command::Coverage {
             level,
             annotate,

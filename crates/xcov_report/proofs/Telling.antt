@@ -1,12 +1,12 @@
 -- What is told is one, however it was found.
-use Rattle.std.proofs.Common.{◌≡◌, ℕ, ◌+◌, ◌<◌, Bool, true, false, not, ◌||◌, List, [], ◌∷◌, ◌++◌, Option, Some, None, is_some, length, drop, filter, slice_get, refl, sym, ap, ◌∙◌, if◌then◌else◌, arith}
+use Rattle.std.proofs.Common.{◌≡◌, ℕ, suc, ◌+◌, ◌<◌, Bool, true, false, not, ◌||◌, List, [], ◌∷◌, ◌++◌, Option, Some, None, is_some, length, cond, nat_lt, filter, slice_get, slice_index_or, refl, ap, ◌∙◌, if◌then◌else◌, arith}
 use Rattle.std.specs.List.{list_any}
-use Rattle.std.proofs.lemmas.List.{append_assoc}
+use Rattle.std.proofs.lemmas.Bool.Decides.{nat_tests}
 use Rattle.std.proofs.lemmas.Option.{slice_get_within}
 use Rattle.cov_base.specs.declared.event.Event.{Event}
 use Rattle.cov_base.specs.declared.obligations.Obligations.{Obligations}
 use Rattle.cov_base.specs.declared.obligations.Region.{Region}
-use Rattle.exemptions.specs.Regions.{is_inside, is_exempt}
+use Rattle.exemptions.specs.Regions.{is_inside}
 use Rattle.annotated_report.specs.declared.finding.Finding.{Finding}
 use Rattle.annotated_report.specs.Marked.{marked}
 use Rattle.annotated_report.specs.Verdicts.{is_started, vectors_of}
@@ -23,7 +23,9 @@ use Rattle.annotated_report.specs.LeastPair.{kind_of, shown_pair}
 use Rattle.annotated_report.specs.Members.{AreAlike}
 use Rattle.annotated_report.proofs.Alike.{same_pairs}
 use Rattle.annotated_report.proofs.LeastPairs.{least_pair_is, same_shown, option_text}
-use Rattle.annotated_report.proofs.Numbering.{same_found}
+use Rattle.annotated_report.specs.Held.{held_counts}
+use Rattle.annotated_report.specs.Numbered.{each_numbered}
+use Rattle.annotated_report.proofs.Numbering.{same_found, numbered_later}
 use Rattle.annotated_report.proofs.Same.{AgreeBelow}
 use Rattle.xcov_report.specs.Obliged.{of_line, statement_stretches, condition_stretches, conditions_stretches, decision_stretches, decisions_stretches, of_region, region_stretches, all_stretches}
 
@@ -71,31 +73,31 @@ same_decisions level f g decisions h =
     same_found (λ d entry. decision_stretches level (f d) entry) (λ d entry. decision_stretches level (g d) entry) 0 decisions
     (λ i d entry e at. ap (λ vectors. decision_stretches level vectors entry) (h d (within decisions i d entry e at)))
 
-alone : (inside : Bool) → not (inside || false) ≡ not inside
-alone true = refl
-alone false = refl
+more_than_none : (n : ℕ) → nat_lt 0 (suc n) ≡ true
+more_than_none n = grind (arith, nat_tests)
 
--- what no region of one holds stands outside of it
-outside : (region : Region) (found : List Finding)
-    → filter (λ f. not (is_exempt (region ∷ []) f.key.pos)) found ≡ filter (λ f. not (is_inside f.key.pos region)) found
-outside region found =
-    let one : (f : Finding) → not (is_exempt (region ∷ []) f.key.pos) ≡ not (is_inside f.key.pos region) = λ f. alone (is_inside f.key.pos region) in
-    ap (λ (test : Finding → Bool). filter test found) (λ i f. one f i)
+counted_any : {X : Type 0} (here : Bool) (x : X) (xs : List X) (any : Bool) → nat_lt 0 (length xs) ≡ any
+    → nat_lt 0 (length (cond here (x ∷ xs) xs)) ≡ (here || any)
+counted_any true x xs any is = more_than_none (length xs)
+counted_any false x xs any is = is
 
--- one more region, and those behind it
-pub regions_more : (regions : List Region) (i : ℕ) (region : Region) (left less : List Finding) (stretch : Stretch) (old more all : List Stretch)
-    → drop i regions ≡ region ∷ drop (i + 1) regions
-    → stretch ≡ of_region (list_any (λ f. is_inside f.key.pos region) left) region
-    → more ≡ old ++ stretch ∷ []
-    → less ≡ filter (λ f. not (is_exempt (region ∷ []) f.key.pos)) left
-    → old ++ region_stretches (drop i regions) left ≡ all
-    → more ++ region_stretches (drop (i + 1) regions) less ≡ all
-regions_more regions i region left less stretch old more all next told is taken whole =
-    let rest = drop (i + 1) regions in
-    ap (λ l. l ++ region_stretches rest less) (is ∙ ap (λ s. old ++ s ∷ []) told)
-    ∙ append_assoc old (of_region (list_any (λ f. is_inside f.key.pos region) left) region ∷ []) (region_stretches rest less)
-    ∙ ap (λ l. old ++ of_region (list_any (λ f. is_inside f.key.pos region) left) region ∷ region_stretches rest l) (taken ∙ outside region left)
-    ∙ ap (λ l. old ++ region_stretches l left) (sym next) ∙ whole
+-- whether one passes, by how many do
+any_passes : {X : Type 0} (p : X → Bool) (xs : List X) → nat_lt 0 (length (filter p xs)) ≡ list_any p xs
+any_passes p [] = refl
+any_passes p (x ∷ xs) = counted_any (p x) x (filter p xs) (list_any p xs) (any_passes p xs)
+
+-- regions tell by what was counted for each what they tell one after another
+pub by_counts : (found : List Finding) (regions : List Region)
+    → each_numbered (λ n region. of_region (nat_lt 0 (slice_index_or (held_counts found regions) n 0)) region ∷ []) 0 regions
+    ≡ region_stretches regions found
+by_counts found [] = refl
+by_counts found (region ∷ regions) =
+    let inside : Finding → Bool = λ f. is_inside f.key.pos region in
+    let less = filter (λ (f : Finding). not (is_inside f.key.pos region)) found in
+    let count = length (filter inside found) in
+    ap (λ (l : List Stretch). of_region (nat_lt 0 count) region ∷ l)
+    (numbered_later (λ n r. of_region (nat_lt 0 (slice_index_or (count ∷ held_counts less regions) n 0)) r ∷ []) 0 regions ∙ by_counts less regions)
+    ∙ ap (λ (b : Bool). of_region b region ∷ region_stretches regions less) (any_passes inside found)
 
 -- what was told in turn is all that is told
 pub all_told : (level : Level) (obligations : Obligations) (events : List Event) (marks : List Bool) (entries : List StmtEntry) (given : List DecEntry)

@@ -1,28 +1,13 @@
 //! What regions tell of their lines.
 
-ghost use Rattle.std.specs.Prelude.{◌≡◌, ◌++◌, OnOk};
-ghost use Rattle.std.specs.List.{list_any};
-ghost use Rattle.exemptions.specs.Regions.{is_inside};
+ghost use Rattle.std.specs.Prelude.{◌≡◌, ◌++◌, ◌∷◌, [], length, nat_lt, slice_index_or, OnOk};
+ghost use Rattle.annotated_report.specs.Numbered.{each_numbered};
 ghost use Rattle.xcov_report.specs.Obliged.{of_region, region_stretches};
 
 use crate::told::{Stretch, Told};
-use annotated_report::{Finding, Regions, violations};
+use annotated_report::{Finding, Regions, held_counts};
 use cov_base::Region;
-use exemptions::exempt;
 use std::alloc::{AllocError, Global};
-use std::slice;
-
-/// Whether one of the findings stands in a region.
-fn holds_any(region: &Region, findings: &[Finding]) -> bool
-    ensures { result ≡ list_any (λ f. is_inside f.key.pos region.now) findings.now }
-{
-    for finding in findings {
-        if exempt(slice::from_ref(region), finding.key.pos) {
-            return true;
-        }
-    }
-    false
-}
 
 /// What a region tells of its lines, by whether a finding stands in it.
 fn of_region(region: &Region, is_exempted: bool) -> Stretch
@@ -41,6 +26,23 @@ fn of_region(region: &Region, is_exempted: bool) -> Stretch
     }
 }
 
+/// Appends what regions tell of their lines, by how many findings were counted for each.
+fn tell_counted(
+    stretches: &mut Vec<Stretch>,
+    regions: &[Region],
+    counts: &[usize],
+) -> Result<(), AllocError>
+    requires { length counts.now ≡ length regions.now }
+    ensures { OnOk result (stretches.new.items ≡ stretches.old.items
+        ++ each_numbered (λ n region. of_region (nat_lt 0 (slice_index_or counts.now n 0)) region ∷ []) 0 regions.now) }
+{
+    for (number, region) in regions.iter().enumerate() {
+        let is_exempted = 0 < counts[number];
+        stretches.push(of_region(region, is_exempted))?;
+    }
+    Ok(())
+}
+
 /// Appends what regions tell of their lines: each of them takes the findings that stand in it and in
 /// none before it.
 pub(crate) fn tell_regions(
@@ -51,15 +53,6 @@ pub(crate) fn tell_regions(
 ) -> Result<(), AllocError>
     ensures { OnOk result (stretches.new.items ≡ stretches.old.items ++ region_stretches regions.now findings.now) }
 {
-    let mut left = Vec::from_slice(alloc, findings)?;
-    for region in regions {
-        let is_exempted = holds_any(region, left.as_slice());
-        stretches.push(of_region(region, is_exempted))?;
-        left = violations(
-            alloc,
-            left.as_slice(),
-            &Regions::of(slice::from_ref(region)),
-        )?;
-    }
-    Ok(())
+    let counts = held_counts(alloc, findings, &Regions::of(regions))?;
+    tell_counted(stretches, regions, counts.as_slice())
 }

@@ -52,7 +52,7 @@ fn level_of(matches: &ArgMatches<'_>) -> Result<Level, Failure<Usage>>
     level_named(text(matches, "level")?)
 }
 
-/// The form of a report that was found.
+/// The form that was found, in which coverage is shown.
 fn annotation_of(matches: &ArgMatches<'_>) -> Result<Annotation, Failure<Usage>>
     ensures { Gives (λ form. form) (option_and_then annotation_named (first_of (codes "annotate") (rows_of (found_of matches.now)))) result }
 {
@@ -72,12 +72,14 @@ fn level_named(name: &str) -> Result<Level, Failure<Usage>>
     }
 }
 
-/// The form of a report of that name. There is one so far.
+/// The form of that name in which coverage is shown.
 fn annotation_named(name: &str) -> Result<Annotation, Failure<Usage>>
     ensures { Gives (λ annotation. annotation) (annotation_named name.now) result }
 {
     match name {
         "report" => Ok(Annotation::Report),
+        "xcov" => Ok(Annotation::Xcov),
+        "json" => Ok(Annotation::Json),
         _ => Err(Failure::Fault(Usage)),
     }
 }

@@ -40,7 +40,7 @@ pub fn read_sources<F: Files>(
 }
 
 /// Appends a source.
-fn add(sources: &mut Vec<SourceFile>, source: SourceFile) -> Result<(), AllocError>
+pub fn add(sources: &mut Vec<SourceFile>, source: SourceFile) -> Result<(), AllocError>
     ensures { OnOk result (sources.new.items ≡ sources.old.items ++ (source ∷ [])) }
 {
     sources.push(source)?;
@@ -69,10 +69,8 @@ fn read_source<F: Files>(
 }
 
 /// The source of this name, with these bytes.
-fn source_of(alloc: Global, name: &str, bytes: Vec<u8>) -> Result<SourceFile, AllocError>
-    requires { length name.now ≤ 4096 }
+pub fn source_of(alloc: Global, name: &str, bytes: Vec<u8>) -> Result<SourceFile, AllocError>
     ensures named { IfOk result (λ source. source.name ≡ name.now) }
-    ensures plain { IfOk result HasPlainName }
     ensures bytes { IfOk result (λ source. source.bytes ≡ bytes.items) }
 {
     Ok(SourceFile {

@@ -1,7 +1,7 @@
-use Rattle.std.proofs.Common.{◌∙◌, ap}
+use Rattle.std.proofs.Common.{◌∙◌, ap, inl, refl}
 use Rattle.commands.specs.Lines.{line_of}
 use Rattle.commands.proofs.delivery.refuse.Goals as goal
 
-pub returns-in-Ok-clause-puts : goal.returns-in-Ok-clause-puts
-returns-in-Ok-clause-puts g c =
-    rw (← (c.as_str.ensures.value ∙ c.in-Ok.ensures ∙ ap (λ name. line_of name c.args.status) c.name_of.ensures)) c.put_line.ensures
+pub returns-in-Ok : goal.returns-in-Ok
+returns-in-Ok g c =
+    inl (refl, rw (← (c.as_str.ensures.value ∙ c.in-Ok.ensures ∙ ap (λ name. line_of name c.args.refusal.now.status) c.told_name.ensures)) c.put_line.ensures)

@@ -11,10 +11,12 @@ returns-in_err-units-clause-refused c =
 pub returns-clause-refused : goal.returns-clause-refused
 returns-clause-refused c =
     IfErr-weaker c.small_program-answer.result _ _
-    (λ f h. sources_refused c.args.files.now c.in_ok-units.units.items c.as_slice.result.now c.args.main.now f c.in_ok-units.ensures.units c.as_slice.ensures.value h)
+    (λ f h. sources_refused c.args.files.now c.in_ok-units.field-0.units.items c.as_slice.result.now c.args.main.now c.in_ok-units.field-0.exemptions.unpaired f c.in_ok-units.ensures.units c.as_slice.ensures.value
+    c.in_ok-units.ensures.unpaired h)
     c.small_program-answer.ensures.refused
 
 pub returns-clause-typed : goal.returns-clause-typed
 returns-clause-typed c =
-    typed_answer c.args.files.now c.in_ok-units.units.items c.as_slice.result.now c.args.main.now c.small_program-answer.result c.in_ok-units.ensures.units
+    typed_answer c.args.files.now c.in_ok-units.field-0.units.items c.as_slice.result.now c.args.main.now c.in_ok-units.field-0.exemptions.unpaired c.small_program-answer.result c.in_ok-units.ensures.units
     c.in_ok-units.ensures.read c.as_slice.ensures.value c.small_program-answer.ensures.legal c.small_program-answer.ensures.types
+    c.in_ok-units.ensures.unpaired c.small_program-answer.ensures.paired c.in_ok-units.ensures.in_files

@@ -8,5 +8,5 @@ returns-in-Ok-clause-legal c =
 
 pub returns-in-Err-clause-refused : goal.returns-in-Err-clause-refused
 returns-in-Err-clause-refused c =
-    units_past_limit c.args.units.now (str_to_ascii_lowercase c.args.main.now) c.in_ok-program.program c.in_ok-program.ensures.legal c.in_ok-program.ensures.entries
-    c.in-Err.failure c.in-Err.ensures.refused
+    units_past_limit c.args.units.now (str_to_ascii_lowercase c.args.main.now) c.args.exemptions.unpaired c.in_ok-program.program c.in_ok-program.ensures.legal c.in_ok-program.ensures.entries
+    c.in_ok-program.ensures.paired c.in-Err.failure c.in-Err.ensures.refused

@@ -2,7 +2,7 @@ use Rattle.commands.proofs.ClauseLaws.{usage_law, done_law, files_law, others_la
 use Rattle.commands.proofs.CompleteLaws.{compile_law, run_law, trap_law, coverage_law, consolidate_law}
 use Rattle.commands.proofs.ConsolidateLaws.{consolidated_law, program_law}
 use Rattle.commands.proofs.HeadlineLaws.{headline_law}
-use Rattle.commands.proofs.PairLaws.{pairs_law}
+use Rattle.commands.proofs.PairLaws.{pairs_law, json_pairs_law}
 use Rattle.commands.proofs.RunsLaw.{runs_law}
 use Rattle.public_call.proofs.top_call.gnatcov.Goals as goal
 
@@ -38,6 +38,9 @@ returns-clause-source g c = headline_law _ _ _ c.answer.ensures
 
 pub returns-clause-pairs : goal.returns-clause-pairs
 returns-clause-pairs g c = pairs_law _ _ _ c.answer.ensures
+
+pub returns-clause-json_pairs : goal.returns-clause-json_pairs
+returns-clause-json_pairs g c = json_pairs_law _ _ _ c.answer.ensures
 
 pub returns-clause-consolidated : goal.returns-clause-consolidated
 returns-clause-consolidated g c = consolidated_law _ _ _ c.answer.ensures

@@ -1,27 +1,20 @@
-use Rattle.std.proofs.Common.{◌≡◌, ◌+◌, ◌∙◌, ◌∷◌, [], List, ap, drop, filter, not, arith}
-use Rattle.std.specs.List.{list_any}
-use Rattle.std.proofs.lemmas.Grind.{common_steps}
-use Rattle.cov_base.specs.declared.obligations.Region.{Region}
-use Rattle.exemptions.specs.Regions.{is_inside, is_exempt}
-use Rattle.annotated_report.specs.declared.finding.Finding.{Finding}
+use Rattle.std.proofs.Common.{◌≡◌, ◌∙◌, ◌++◌, ◌∷◌, [], List, ℕ, ap, nat_lt, slice_index_or}
+use Rattle.std.proofs.lemmas.Result.{on_ok_weaker}
+use Rattle.annotated_report.specs.Held.{held_counts}
+use Rattle.annotated_report.specs.Numbered.{each_numbered}
+use Rattle.xcov_report.specs.declared.told.Stretch.{Stretch}
 use Rattle.xcov_report.specs.Obliged.{of_region}
-use Rattle.xcov_report.proofs.Telling.{regions_more}
+use Rattle.xcov_report.proofs.Telling.{by_counts}
 use Rattle.xcov_report.proofs.regions.tell_regions.Goals as goal
 
-pub loop-region-preserved : goal.loop-region-preserved
-loop-region-preserved c =
+pub returns : goal.returns
+returns c =
+    let found = c.args.findings.now in
     let regions = c.args.regions.now in
-    let i = c.loop-region.region-index in
-    let region = c.region-item.result in
-    let left = c.loop-region.left.items in
-    let next : drop i regions ≡ region ∷ drop (i + 1) regions = grind (arith, common_steps) in
-    let told = c.of_region.ensures ∙ ap (λ b. of_region b region)
-    (c.holds_any-is_exempted.ensures ∙ ap (λ (l : List Finding). list_any (λ f. is_inside f.key.pos region) l) c.as_slice.ensures.value) in
-    let taken = c.in_ok-left-2.ensures
-    ∙ ap (λ (rs : List Region). filter (λ (f : Finding). not (is_exempt rs f.key.pos)) c.as_slice-in-loop-region.result.now) c.of.ensures
-    ∙ ap (λ (rs : List Region). filter (λ (f : Finding). not (is_exempt rs f.key.pos)) c.as_slice-in-loop-region.result.now) c.from_ref.ensures.value
-    ∙ ap (λ (l : List Finding). filter (λ f. not (is_exempt (region ∷ []) f.key.pos)) l) c.as_slice-in-loop-region.ensures.value in
-    record {
-      within = omega (arith, c.loop-region-test.true);
-      told = regions_more regions i region left _ c.of_region.result _ _ _ next told c.in_ok-push.ensures.items taken c.loop-region.invariant.told;
-    }
+    let old = c.args.stretches.now.items in
+    let are : c.as_slice.result.now ≡ held_counts found regions =
+    c.as_slice.ensures.value ∙ c.in_ok-counts.ensures.counts ∙ ap (held_counts found) c.of.ensures in
+    on_ok_weaker c.tell_counted.result
+    (λ is. is ∙ ap (λ (counts : List ℕ). old ++ each_numbered (λ n region. of_region (nat_lt 0 (slice_index_or counts n 0)) region ∷ []) 0 regions) are
+    ∙ ap (λ (l : List Stretch). old ++ l) (by_counts found regions))
+    c.tell_counted.ensures
