@@ -11,6 +11,7 @@ pub mod SourceLaws
 pub mod StopLaws
 pub mod MadeLaws
 pub mod ReportLaws
+pub mod RisingRegions
 pub mod RunsLaw
 pub mod HeadlineLaws
 pub mod PairLaws

@@ -1,12 +1,13 @@
 //! Laws of what commands make of files.
 
-ghost use Rattle.std.specs.Prelude.{◌≡◌, ℕ, List, [], ◌∷◌};
+ghost use Rattle.std.specs.Prelude.{◌≡◌, ℕ, List, [], ◌∷◌, true};
 ghost use Rattle.cov_base.specs.declared.level.Annotation.{Annotation};
 ghost use Rattle.cov_base.specs.declared.level.Level.{Level};
 ghost use Rattle.cov_base.specs.declared.obligations.SourceFile.{SourceFile};
 ghost use Rattle.commands.specs.Content.{Made, IsTraceFor, Reports, ConsolidatesTo};
 ghost use Rattle.commands.specs.Grouping.{TellSame};
 ghost use Rattle.object_format.specs.Checked.{IsSound};
+ghost use Rattle.annotated_report.specs.Rising.{rise};
 ghost use Rattle.object_format.specs.declared.object.Object.{Object};
 
 /// How runs are grouped into files does not matter, nor in which order these are named, nor how often.
@@ -23,4 +24,10 @@ pub fn grouping_does_not_matter()
         → TellSame o files (made.file ∷ []) }
     ensures taken { (o : Object) (files : List (List ℕ)) (made : Made) → IsSound o → ConsolidatesTo o files made
         → IsTraceFor o made.file }
+{}
+
+/// The regions of an object that passed its checks rise, so each look-up of a finding's region halves them.
+#[tactic(auto, using(crate::proofs::RisingRegions::regions_law))]
+pub fn regions_of_objects_rise()
+    ensures { (o : Object) → IsSound o → rise o.obligations.regions ≡ true }
 {}
