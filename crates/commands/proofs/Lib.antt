@@ -20,4 +20,5 @@ pub mod ConsolidateLaws
 pub mod FileLaws
 pub mod GroupingLaws
 pub mod CompleteLaws
+pub mod LeavesLaws
 pub mod PieceLaws

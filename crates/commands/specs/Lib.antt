@@ -5,6 +5,7 @@ pub mod Covering
 pub mod Failures
 pub mod Grouping
 pub mod Headline
+pub mod Leaves
 pub mod ShownPairs
 pub mod Lines
 pub mod Outcome

@@ -1,11 +1,12 @@
 //! Laws of what commands make of files.
 
-ghost use Rattle.std.specs.Prelude.{◌≡◌, ℕ, List, [], ◌∷◌, true};
+ghost use Rattle.std.specs.Prelude.{◌≡◌, ℕ, ℤ, List, [], ◌∷◌, true};
 ghost use Rattle.cov_base.specs.declared.level.Annotation.{Annotation};
 ghost use Rattle.cov_base.specs.declared.level.Level.{Level};
 ghost use Rattle.cov_base.specs.declared.obligations.SourceFile.{SourceFile};
-ghost use Rattle.commands.specs.Content.{Made, IsTraceFor, Reports, ConsolidatesTo};
+ghost use Rattle.commands.specs.Content.{Made, IsInputOf, IsTraceFor, Reports, ConsolidatesTo};
 ghost use Rattle.commands.specs.Grouping.{TellSame};
+ghost use Rattle.kernel_code.specs.Whole.{IsInput};
 ghost use Rattle.object_format.specs.Checked.{IsSound};
 ghost use Rattle.annotated_report.specs.Rising.{rise};
 ghost use Rattle.object_format.specs.declared.object.Object.{Object};
@@ -30,4 +31,10 @@ pub fn grouping_does_not_matter()
 #[tactic(auto, using(crate::proofs::RisingRegions::regions_law))]
 pub fn regions_of_objects_rise()
     ensures { (o : Object) → IsSound o → rise o.obligations.regions ≡ true }
+{}
+
+/// The numbers of an input file are of 32 bits, as a program reads them.
+#[tactic(auto, using(crate::proofs::InputLaws::numbers_fit))]
+pub fn inputs_are_of_32_bits()
+    ensures { (bytes : List ℕ) (numbers : List ℤ) → IsInputOf numbers bytes → IsInput numbers }
 {}

@@ -18,7 +18,7 @@ mod status;
 
 pub use decision_map::FitFault;
 pub use delivery::{deliver, put_line, refuse};
-pub use laws::{grouping_does_not_matter, regions_of_objects_rise};
+pub use laws::{grouping_does_not_matter, inputs_are_of_32_bits, regions_of_objects_rise};
 pub use object_format::ObjectFault;
 pub use program_objects::Why;
 pub use ready::compiled::{status_of, told};

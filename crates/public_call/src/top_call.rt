@@ -6,6 +6,7 @@ ghost use Rattle.command_words.specs.Task.{IsWithinLimits, task_of};
 ghost use Rattle.commands.specs.Clauses.{UsageIsExact, DoneIsWhole, RefusalsLeaveFiles, OthersStay, RefusalsPutOneLine, RisenReadsAreTold, ReadFaultHasCause, WriteFaultHasCause};
 ghost use Rattle.commands.specs.Complete.{LegalSourcesCompile, ProgramsRun, ProgramsDoNotTrap, TracesAreCovered, TracesAreConsolidated};
 ghost use Rattle.commands.specs.Headline.{CoverageTellsTheSource};
+ghost use Rattle.commands.specs.Leaves.{CompileLeavesAnObject, RunLeavesATrace};
 ghost use Rattle.commands.specs.Outcome.{call_of, Prepares, Because, Answers};
 ghost use Rattle.commands.specs.Ready.{answer_view, TellsSourceOf};
 ghost use Rattle.commands.specs.RunsConsolidated.{RunsAreConsolidated, ProgramsAreConsolidated};
@@ -82,6 +83,15 @@ pub fn gnatcov<F: Files, S: Sink>(
         (call_of F.held F.reads_failed F.writes_failed S.written S.failures files.old files.new out.old out.new)
         result }
     ensures merged { ProgramsAreConsolidated (task_of (map string_bytes words.now))
+        (call_of F.held F.reads_failed F.writes_failed S.written S.failures files.old files.new out.old out.new)
+        result }
+
+    // What compile and run leave: an object of the sources that were read, and the trace of the object's run on
+    // the input.
+    ensures object { CompileLeavesAnObject (task_of (map string_bytes words.now))
+        (call_of F.held F.reads_failed F.writes_failed S.written S.failures files.old files.new out.old out.new)
+        result }
+    ensures trace { RunLeavesATrace (task_of (map string_bytes words.now))
         (call_of F.held F.reads_failed F.writes_failed S.written S.failures files.old files.new out.old out.new)
         result }
 

@@ -2,6 +2,7 @@ use Rattle.commands.proofs.ClauseLaws.{usage_law, done_law, files_law, others_la
 use Rattle.commands.proofs.CompleteLaws.{compile_law, run_law, trap_law, coverage_law, consolidate_law}
 use Rattle.commands.proofs.ConsolidateLaws.{consolidated_law, program_law}
 use Rattle.commands.proofs.HeadlineLaws.{headline_law}
+use Rattle.commands.proofs.LeavesLaws.{object_law, trace_law}
 use Rattle.commands.proofs.PairLaws.{pairs_law, json_pairs_law}
 use Rattle.commands.proofs.RunsLaw.{runs_law}
 use Rattle.public_call.proofs.top_call.gnatcov.Goals as goal
@@ -47,6 +48,12 @@ returns-clause-consolidated g c = consolidated_law _ _ _ c.answer.ensures
 
 pub returns-clause-merged : goal.returns-clause-merged
 returns-clause-merged g c = program_law _ _ _ c.answer.ensures
+
+pub returns-clause-object : goal.returns-clause-object
+returns-clause-object g c = object_law _ _ _ c.answer.ensures
+
+pub returns-clause-trace : goal.returns-clause-trace
+returns-clause-trace g c = trace_law _ _ _ c.answer.ensures
 
 pub returns-clause-compiles : goal.returns-clause-compiles
 returns-clause-compiles g c = compile_law _ _ _ c.answer.ensures
