@@ -65,7 +65,7 @@ refused status = Err status
 told_of : (held : Held) (there : Option Held) (P : Held → Type 0) → there ≡ Some held → IfSome there P → P held
 told_of held there P holds says = subst (λ (h : Option Held). IfSome h P) holds says
 
-done_unless : (held : Held) (task : Task) (call : Call) (status : Status) → call.held ≡ Some held → NothingFails call
+pub done_unless : (held : Held) (task : Task) (call : Call) (status : Status) → call.held ≡ Some held → NothingFails call
     → ((s : Status) → ComesTo held task (refused s) → ⊥) → Because task call status → IsDone status
 done_unless held task call Done holds fine never b = inl refl
 done_unless held task call Usage holds fine never b = absurd b
@@ -81,7 +81,7 @@ done_unless held task call (InputRefused line) holds fine never b = absurd (neve
 done_unless held task call (OverBudget count) holds fine never b = absurd (never (OverBudget count) (told_of held call.held _ holds b.0.1))
 done_unless held task call (Trap pc why) holds fine never b = absurd (never (Trap pc why) (told_of held call.held _ holds b.0.1))
 
-asked : (task : Task) (words : Option Task) (call : Call) (status : Status) → words ≡ Some task → Answers words call status → Because task call status
+pub asked : (task : Task) (words : Option Task) (call : Call) (status : Status) → words ≡ Some task → Answers words call status → Because task call status
 asked task words call status is answers = subst (λ (t : Option Task). Answers t call status) is answers
 
 -- ---- objects
@@ -113,13 +113,13 @@ unrefused o bytes why is refuses =
     refuses
 
 -- what follows of an object, where its file was read
-of_object : (o : Object) (bytes : List ℕ) (Then : Object → Result Output Status → Type 0) (s : Status) → IsFileOf o bytes → AfterObject bytes Then (refused s) → Then o (refused s)
+pub of_object : (o : Object) (bytes : List ℕ) (Then : Object → Result Output Status → Type 0) (s : Status) → IsFileOf o bytes → AfterObject bytes Then (refused s) → Then o (refused s)
 of_object o bytes Then s is (inl refuses) = absurd (unrefused o bytes refuses.0 is refuses.1)
 of_object o bytes Then s is (inr other) =
     subst (λ (x : Object). Then x (refused s)) (one_object other.0 o other.1.checked.closed is.checked.closed (sym other.1.spelled ∙ is.spelled)) other.2
 
 -- what follows of a file that is there
-of_read : (held : Held) (place : ℕ) (name bytes : List ℕ) (Then : List ℕ → Result Output Status → Type 0) (s : Status) → finmap.get held name ≡ Some bytes
+pub of_read : (held : Held) (place : ℕ) (name bytes : List ℕ) (Then : List ℕ → Result Output Status → Type 0) (s : Status) → finmap.get held name ≡ Some bytes
     → AfterRead held place name Then (refused s) → Then bytes (refused s)
 of_read held place name bytes Then s there says = rw there at says
 
@@ -293,7 +293,7 @@ one_passes o number bytes Then s is (inl refuses) = absurd (trace_unrefused o nu
 one_passes o number bytes Then s is (inr next) = next.1
 
 -- the traces and consolidated files of runs all pass
-all_pass : (held : Held) (o : Object) (number : ℕ) (names : List (List ℕ)) (runs : List ARun) (Then : List (List ℕ) → Result Output Status → Type 0) (s : Status)
+pub all_pass : (held : Held) (o : Object) (number : ℕ) (names : List (List ℕ)) (runs : List ARun) (Then : List (List ℕ) → Result Output Status → Type 0) (s : Status)
     → IsSound o → AreTracesOf held o names runs → Everywhere (λ r. IsDisciplined (facts_of o) (transcript_of o r)) runs
     → AfterTraces held o number names Then (refused s) → (traces : List (List ℕ)) × Then traces (refused s)
 all_pass held o number [] runs Then s sound are fair says = ([], says)

@@ -34,7 +34,7 @@ file_of_runs o sound held names runs traces bytes text held_are are made = recor
 }
 
 -- a new file that is there stands under its name
-new_file : (call : Call) (file : Option NewFile) (name bytes : List ℕ) → file ≡ Some (record { name = name; bytes = bytes }) → HasFile file call
+pub new_file : (call : Call) (file : Option NewFile) (name bytes : List ℕ) → file ≡ Some (record { name = name; bytes = bytes }) → HasFile file call
     → WhereTold (Replaces name bytes) call.held call.held_after
 new_file call file name bytes is has = subst (λ (f : Option NewFile). HasFile f call) is has
 

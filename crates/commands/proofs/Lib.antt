@@ -19,6 +19,8 @@ pub mod InputLaws
 pub mod ConsolidateLaws
 pub mod FileLaws
 pub mod GroupingLaws
+pub mod RegroupingLaws
 pub mod CompleteLaws
 pub mod LeavesLaws
+pub mod CompleteRunsLaws
 pub mod PieceLaws

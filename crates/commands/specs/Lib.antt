@@ -1,5 +1,6 @@
 pub mod Clauses
 pub mod Complete
+pub mod CompleteRuns
 pub mod Content
 pub mod Covering
 pub mod Failures
@@ -13,6 +14,7 @@ pub mod Prepared
 pub mod Products
 pub mod Reading
 pub mod Ready
+pub mod Regrouping
 pub mod RunLines
 pub mod RunsConsolidated
 pub mod RunsCovered

@@ -11,6 +11,7 @@
 #![tactic(auto)]
 
 mod delivery;
+mod grouping;
 mod laws;
 mod ready;
 mod run_lines;
@@ -18,6 +19,7 @@ mod status;
 
 pub use decision_map::FitFault;
 pub use delivery::{deliver, put_line, refuse};
+pub use grouping::{calls_know_no_grouping, files_in_any_grouping_tell_the_same};
 pub use laws::{grouping_does_not_matter, inputs_are_of_32_bits, regions_of_objects_rise};
 pub use object_format::ObjectFault;
 pub use program_objects::Why;

@@ -5,10 +5,13 @@ ghost use Rattle.command_words.specs.Command.{task_view};
 ghost use Rattle.command_words.specs.Task.{IsWithinLimits, task_of};
 ghost use Rattle.commands.specs.Clauses.{UsageIsExact, DoneIsWhole, RefusalsLeaveFiles, OthersStay, RefusalsPutOneLine, RisenReadsAreTold, ReadFaultHasCause, WriteFaultHasCause};
 ghost use Rattle.commands.specs.Complete.{LegalSourcesCompile, ProgramsRun, ProgramsDoNotTrap, TracesAreCovered, TracesAreConsolidated};
+ghost use Rattle.commands.specs.CompleteRuns.{RunsAreTakenByCoverage, RunsAreTakenByConsolidation};
 ghost use Rattle.commands.specs.Headline.{CoverageTellsTheSource};
 ghost use Rattle.commands.specs.Leaves.{CompileLeavesAnObject, RunLeavesATrace};
 ghost use Rattle.commands.specs.Outcome.{call_of, Prepares, Because, Answers};
 ghost use Rattle.commands.specs.Ready.{answer_view, TellsSourceOf};
+ghost use Rattle.commands.specs.Regrouping.{FilesAreCovered, FilesAreConsolidated};
+ghost use Rattle.commands.specs.Regrouping.{CoverageKnowsNoGrouping, ConsolidationKnowsNoGrouping};
 ghost use Rattle.commands.specs.RunsConsolidated.{RunsAreConsolidated, ProgramsAreConsolidated};
 ghost use Rattle.commands.specs.RunsCovered.{RunsAreCovered};
 ghost use Rattle.commands.specs.ShownPairs.{LeastPairsAreShown, LeastPairsAreInJson};
@@ -86,6 +89,21 @@ pub fn gnatcov<F: Files, S: Sink>(
         (call_of F.held F.reads_failed F.writes_failed S.written S.failures files.old files.new out.old out.new)
         result }
 
+    // What coverage and consolidate make of any files over any object; so runs may be grouped into files, and
+    // these be named, in any way: coverage puts the same text in each form, and consolidate writes the same bytes.
+    ensures files_covered { FilesAreCovered (task_of (map string_bytes words.now))
+        (call_of F.held F.reads_failed F.writes_failed S.written S.failures files.old files.new out.old out.new)
+        result }
+    ensures files_merged { FilesAreConsolidated (task_of (map string_bytes words.now))
+        (call_of F.held F.reads_failed F.writes_failed S.written S.failures files.old files.new out.old out.new)
+        result }
+    ensures grouping { CoverageKnowsNoGrouping (task_of (map string_bytes words.now))
+        (call_of F.held F.reads_failed F.writes_failed S.written S.failures files.old files.new out.old out.new)
+        result }
+    ensures merged_grouping { ConsolidationKnowsNoGrouping (task_of (map string_bytes words.now))
+        (call_of F.held F.reads_failed F.writes_failed S.written S.failures files.old files.new out.old out.new)
+        result }
+
     // What compile and run leave: an object of the sources that were read, and the trace of the object's run on
     // the input.
     ensures object { CompileLeavesAnObject (task_of (map string_bytes words.now))
@@ -110,6 +128,14 @@ pub fn gnatcov<F: Files, S: Sink>(
         (call_of F.held F.reads_failed F.writes_failed S.written S.failures files.old files.new out.old out.new)
         result }
     ensures consolidates { TracesAreConsolidated (task_of (map string_bytes words.now))
+        (call_of F.held F.reads_failed F.writes_failed S.written S.failures files.old files.new out.old out.new)
+        result }
+
+    // Over any object, files of runs of it with disciplined transcripts are covered and consolidated.
+    ensures covers_runs { RunsAreTakenByCoverage (task_of (map string_bytes words.now))
+        (call_of F.held F.reads_failed F.writes_failed S.written S.failures files.old files.new out.old out.new)
+        result }
+    ensures consolidates_runs { RunsAreTakenByConsolidation (task_of (map string_bytes words.now))
         (call_of F.held F.reads_failed F.writes_failed S.written S.failures files.old files.new out.old out.new)
         result }
 {

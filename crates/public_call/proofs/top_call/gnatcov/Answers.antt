@@ -1,9 +1,11 @@
 use Rattle.commands.proofs.ClauseLaws.{usage_law, done_law, files_law, others_law, line_law, rose_law, read_fault_law, write_fault_law}
 use Rattle.commands.proofs.CompleteLaws.{compile_law, run_law, trap_law, coverage_law, consolidate_law}
+use Rattle.commands.proofs.CompleteRunsLaws.{coverage_taken, consolidation_taken}
 use Rattle.commands.proofs.ConsolidateLaws.{consolidated_law, program_law}
 use Rattle.commands.proofs.HeadlineLaws.{headline_law}
 use Rattle.commands.proofs.LeavesLaws.{object_law, trace_law}
 use Rattle.commands.proofs.PairLaws.{pairs_law, json_pairs_law}
+use Rattle.commands.proofs.RegroupingLaws as regrouping
 use Rattle.commands.proofs.RunsLaw.{runs_law}
 use Rattle.public_call.proofs.top_call.gnatcov.Goals as goal
 
@@ -55,6 +57,18 @@ returns-clause-object g c = object_law _ _ _ c.answer.ensures
 pub returns-clause-trace : goal.returns-clause-trace
 returns-clause-trace g c = trace_law _ _ _ c.answer.ensures
 
+pub returns-clause-files_covered : goal.returns-clause-files_covered
+returns-clause-files_covered g c = regrouping.files_covered _ _ _ c.answer.ensures
+
+pub returns-clause-files_merged : goal.returns-clause-files_merged
+returns-clause-files_merged g c = regrouping.files_consolidated _ _ _ c.answer.ensures
+
+pub returns-clause-grouping : goal.returns-clause-grouping
+returns-clause-grouping g c = regrouping.coverage_law _ _ _ c.answer.ensures
+
+pub returns-clause-merged_grouping : goal.returns-clause-merged_grouping
+returns-clause-merged_grouping g c = regrouping.consolidation_law _ _ _ c.answer.ensures
+
 pub returns-clause-compiles : goal.returns-clause-compiles
 returns-clause-compiles g c = compile_law _ _ _ c.answer.ensures
 
@@ -69,3 +83,9 @@ returns-clause-covers g c = coverage_law _ _ _ c.answer.ensures
 
 pub returns-clause-consolidates : goal.returns-clause-consolidates
 returns-clause-consolidates g c = consolidate_law _ _ _ c.answer.ensures
+
+pub returns-clause-covers_runs : goal.returns-clause-covers_runs
+returns-clause-covers_runs g c = coverage_taken _ _ _ c.answer.ensures
+
+pub returns-clause-consolidates_runs : goal.returns-clause-consolidates_runs
+returns-clause-consolidates_runs g c = consolidation_taken _ _ _ c.answer.ensures

@@ -1,0 +1,3 @@
+pub mod Calls
+pub mod Use
+pub mod GoesOn
