@@ -2,6 +2,7 @@
 
 mod faltering;
 mod outside;
+mod sources;
 
 use cov_io::Entry;
 use std::alloc::{AllocError, Global};
