@@ -1,2 +1,5 @@
 pub mod WayLaws
 pub mod GoesOnLaws
+pub mod ListLaws
+pub mod GroupingLaws
+pub mod ExampleLaws

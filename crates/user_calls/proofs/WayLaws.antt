@@ -216,7 +216,7 @@ mapped P f (x ∷ xs) =
       λ s. ⊎_elim (λ a. inl a) (λ b. inr (later.1 b)) s,
     )
 
-on_runs : (p : Program) (e : Event) (runs : List ARun) (inputs : List (List ℤ)) → map (λ r. r.input) runs ≡ inputs
+pub on_runs : (p : Program) (e : Event) (runs : List ARun) (inputs : List (List ℤ)) → map (λ r. r.input) runs ≡ inputs
     → Somewhere (λ input. Occurs p input e) inputs ↔ Somewhere (λ r. Occurs p r.input e) runs
 on_runs p e runs inputs are =
     subst (λ (is : List (List ℤ)). Somewhere (λ input. Occurs p input e) is ↔ Somewhere (λ r. Occurs p r.input e) runs) are

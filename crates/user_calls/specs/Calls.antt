@@ -26,7 +26,7 @@ pub record ACall : Type 0 where
   pub call : Call
   pub status : Status
 
--- the call keeps what gnatcov promises to a reader: these are the clauses of its contract
+-- the call keeps what gnatcov promises to a reader: these are clauses of its contract
 pub record IsMade (c : ACall) : Type 0 where
   pub usage : UsageIsExact c.task c.status
   pub done : DoneIsWhole c.task c.call c.status

@@ -1,3 +1,5 @@
 pub mod Calls
 pub mod Use
 pub mod GoesOn
+pub mod Grouping
+pub mod Example
