@@ -160,11 +160,12 @@ abbrev pub completed : Region → Identifier → Judgement Region
 completed region i = construct i.pos (rule (to_complete region i (entity_of (key i) region)))
 
 -- A body conforms to its declaration: the names of the parameters in order, their modes, and which subtypes they and
--- the result have (RM 6.3.1). What is no subtype is left to the rules on types.
+-- the result have (RM 6.3.1). A mark that is no subtype conforms to no subtype. Two of them are left to the rules on
+-- types, which refuse both.
 abbrev pub same_mark : Option Identity → Option Identity → Bool
-same_mark None b = true
-same_mark (Some a) None = true
+same_mark None None = true
 same_mark (Some a) (Some b) = same_identity a b
+same_mark a b = false
 
 abbrev pub same_parameter : Parameter → Parameter → Bool
 same_parameter a b = same_name a.name b.name && same_mode a.mode b.mode && same_mark a.mark b.mark

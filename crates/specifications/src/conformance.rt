@@ -33,16 +33,14 @@ pub(crate) fn same_mode(left: Mode, right: Mode) -> bool
     }
 }
 
-/// Whether marks name one subtype, as far as both name one.
+/// Whether marks name one subtype, or neither names one.
 fn same_mark(declared: Option<Identity>, given: Option<Identity>) -> bool
     ensures { result ≡ rules.same_mark (option_map identity_of declared) (option_map identity_of given) }
 {
-    match declared {
-        Some(declared) => match given {
-            Some(given) => declared.is_same(given),
-            None => true,
-        },
-        None => true,
+    match (declared, given) {
+        (Some(declared), Some(given)) => declared.is_same(given),
+        (None, None) => true,
+        _ => false,
     }
 }
 
