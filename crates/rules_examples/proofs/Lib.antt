@@ -9,3 +9,7 @@ pub mod WholeShown
 pub mod ApartShown
 pub mod DoublingShown
 pub mod ObligedShown
+pub mod ValuesShown
+pub mod BodiesShown
+pub mod ConformanceShown
+pub mod ActualsShown

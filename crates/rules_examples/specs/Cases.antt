@@ -71,6 +71,14 @@ pub record Case : Type 0 where
 abbrev pub case_of : List ℕ → List Lines → Outcome → Case
 case_of main files o = record { main = main; files = files; outcome = o }
 
+-- the main unit M with these declarations, of which the first stands in line 2, and these statements
+abbrev pub of_main : (declarations statements : Lines) → Outcome → Case
+of_main ds ss o = case_of (codes "m") (("procedure M is" ⏎ ds ++ ("begin" ⏎ ss ++ ("end M;" ⏎ []))) ∷ []) o
+
+-- these units, from line 1 on, and behind them a main unit M that does nothing
+abbrev pub of_units : Lines → Outcome → Case
+of_units f o = case_of (codes "m") ((f ++ ("procedure M is" ⏎ "begin" ⏎ "   null;" ⏎ "end M;" ⏎ [])) ∷ []) o
+
 -- files of which one has other lines in place of these, from the first to the last
 abbrev pub changed : (file first last : ℕ) → Lines → List Lines → List Lines
 changed n first last new [] = []

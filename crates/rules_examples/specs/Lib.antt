@@ -11,3 +11,7 @@ pub mod Whole
 pub mod Apart
 pub mod Doubling
 pub mod Obliged
+pub mod Values
+pub mod Bodies
+pub mod Conformance
+pub mod Actuals

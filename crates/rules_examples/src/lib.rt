@@ -17,6 +17,10 @@ ghost use Rattle.rules_examples.specs.Whole.{Whole};
 ghost use Rattle.rules_examples.specs.Apart.{Apart};
 ghost use Rattle.rules_examples.specs.Doubling.{Doubling};
 ghost use Rattle.rules_examples.specs.Obliged.{Obliged};
+ghost use Rattle.rules_examples.specs.Actuals.{Actuals};
+ghost use Rattle.rules_examples.specs.Conformance.{Conformance};
+ghost use Rattle.rules_examples.specs.Bodies.{Bodies};
+ghost use Rattle.rules_examples.specs.Values.{Values};
 
 /// Objects of type Integer, assignments and calls of Test_IO.
 pub fn objects()
@@ -71,4 +75,24 @@ pub fn doubling()
 /// Obligations entry by entry: of recursion, instances, exceptions, and composite types.
 pub fn obliged()
     ensures { Obliged }
+{}
+
+/// What objects are set to, parts of expressions, and bounds of loops.
+pub fn values()
+    ensures { Values }
+{}
+
+/// Returns and ends of functions, case statements, handlers, and numbers of parameters.
+pub fn bodies()
+    ensures { Bodies }
+{}
+
+/// Bodies and their declarations.
+pub fn conformance()
+    ensures { Conformance }
+{}
+
+/// Units in `with`, actuals of instances, and static values in generics.
+pub fn actuals()
+    ensures { Actuals }
 {}
