@@ -1,6 +1,6 @@
 //! The constants of a generic in an instance (Ada RM 2012, 3.3.1, 4.9).
 
-ghost use Rattle.std.specs.Prelude.{◌≡◌, ◌+◌, [], map, IfOk, OnOk, option_map};
+ghost use Rattle.std.specs.Prelude.{◌≡◌, [], map, IfOk, OnOk, option_map};
 ghost use Rattle.ada_meaning.specs.Statics as statics;
 ghost use Rattle.ada_meaning.specs.Statics.{constant_values, constants_of, value_of_constant};
 ghost use Rattle.ada_tree.specs.Programs.{bounds_of, constant_of};
@@ -13,7 +13,7 @@ use crate::constants::GenericConstants;
 use crate::facts::{Facts, Instances};
 use crate::known::Known;
 use ada_tree::{GenericConstant, Range};
-use cov_base::Seq;
+use cov_base::{Seq, number_behind};
 use std::alloc::{AllocError, Global};
 
 /// A value, where it lies within bounds.
@@ -117,19 +117,9 @@ impl Instances {
         let mut resolved = Instances::new(alloc);
         let mut number = 0u32;
         for facts in self.as_slice() {
-            number = following(number)?;
+            number = number_behind(number)?;
             resolved.add(self.with_constants(alloc, constants, number, facts)?)?;
         }
         Ok(resolved)
-    }
-}
-
-/// The next number.
-fn following(number: u32) -> Result<u32, AllocError>
-    ensures { IfOk result (λ n. n ≡ number + 1) }
-{
-    match number.checked_add(1) {
-        Some(next) => Ok(next),
-        None => Err(AllocError),
     }
 }

@@ -6,6 +6,7 @@ ghost use Rattle.ada_tree.specs.Programs.{constant_of};
 ghost use Rattle.ada_demands.specs.Grouping.{group_at};
 
 use ada_tree::GenericConstant;
+use cov_base::numbered;
 use std::alloc::{AllocError, Global};
 use std::marker::Model;
 
@@ -58,9 +59,9 @@ fn push_both(
     declared.push(constant)?;
     match group.push(constant) {
         Ok(()) => Ok(()),
-        Err(_) => {
+        Err(refused) => {
             let _ = declared.pop();
-            Err(AllocError)
+            Err(AllocError::from(refused))
         }
     }
 }
@@ -85,9 +86,7 @@ impl GenericConstants {
         let index = constant.generic as usize;
         make_room(alloc, &mut self.groups, index)?;
         let group = &mut self.groups[index];
-        let Ok(number) = u32::try_from(group.as_slice().len()) else {
-            return Err(AllocError);
-        };
+        let number = numbered(group.as_slice().len())?;
         push_both(&mut self.declared, group, constant)?;
         Ok(number)
     }

@@ -1,6 +1,6 @@
 //! The values that case statements name (Ada RM 2012, 5.4).
 
-ghost use Rattle.std.specs.Prelude.{◌≡◌, pos, ◌-ℤ◌, [], ◌∷◌, ◌++◌, option_map, slice_get, IfOk, OnOk};
+ghost use Rattle.std.specs.Prelude.{◌≡◌, ◌≤◌, ◌^◌, pos, ◌-ℤ◌, [], ◌∷◌, ◌++◌, option_map, slice_get, IfOk, IfErr, OnOk};
 ghost use Rattle.std.specs.Option.{option_copied};
 ghost use Rattle.ada_tree.specs.Programs.{bounds_of};
 ghost use Rattle.ada_tree.specs.View.{scalar_range_of};
@@ -17,6 +17,7 @@ use crate::facts::{Fact, Instances};
 use crate::known::between;
 use ada_judged::{FormalKind, ScalarType, StaticTree, Values};
 use ada_tree::{Range, ScalarRange};
+use cov_base::{numbered, signed_numbered};
 use std::alloc::{AllocError, Global};
 
 /// The values of a type (RM 3.5).
@@ -94,13 +95,12 @@ pub(crate) fn base_range() -> ScalarRange
     })
 }
 
-/// The position numbers of so many literals (RM 3.5.1).
+/// The position numbers of so many literals (RM 3.5.1). Those of 2^31 literals have no memory.
 fn positions(count: u32) -> Result<TypeValues, AllocError>
-    ensures { IfOk result (λ v. type_values_of v ≡ within (numbers (pos 0) (pos count -ℤ pos 1))) }
+    ensures values { IfOk result (λ v. type_values_of v ≡ within (numbers (pos 0) (pos count -ℤ pos 1))) }
+    ensures refused { IfErr result (λ e. 2 ^ 31 ≤ count) }
 {
-    let Ok(count) = i32::try_from(count) else {
-        return Err(AllocError);
-    };
+    let count = signed_numbered(count as usize)?;
     Ok(TypeValues::Within(ScalarRange::Known(Range {
         first: 0,
         last: count - 1,
@@ -124,9 +124,7 @@ impl SpanTable {
         ensures added { OnOk result (listed self.new ≡ listed self.old ++ values ∷ []) }
         ensures begins { OnOk result ((k : Tables) → Begins (listed self.new) k → Begins (listed self.old) k) }
     {
-        let Ok(number) = u32::try_from(self.entries.as_slice().len()) else {
-            return Err(AllocError);
-        };
+        let number = numbered(self.entries.as_slice().len())?;
         self.entries.push(values)?;
         Ok(Values::Listed(number))
     }

@@ -8,10 +8,9 @@ ghost use Rattle.ada_entities.specs.EntityViews.{Tables, no_routine};
 ghost use Rattle.ada_entities.specs.RoutineViews.{IsRoutine, AreTestIo, HasRoutines, routine_from};
 
 use crate::entity::Values;
-use crate::table::numbered;
 use crate::types::{Identity, Subtype};
 use ada_tree::{Callee, Mode};
-use cov_base::{Bytes, Seq};
+use cov_base::{Bytes, Seq, numbered};
 use std::alloc::{AllocError, Global};
 use std::marker::Model;
 

@@ -14,18 +14,8 @@ use crate::composite::{Component, Definition, Types};
 use crate::seen::range_seen;
 use crate::types::{AdaType, ScalarType, Subtype};
 use ada_tree::Owner;
-use cov_base::Seq;
+use cov_base::{Seq, numbered};
 use std::alloc::{AllocError, Global};
-
-/// How many there are, as a number. A table with more than 2^32 - 1 has no memory.
-pub(crate) fn numbered(count: usize) -> Result<u32, AllocError>
-    ensures { IfOk result (λ n. n ≡ count) }
-{
-    match u32::try_from(count) {
-        Ok(number) => Ok(number),
-        Err(_) => Err(AllocError),
-    }
-}
 
 /// Whether an instance was made.
 fn is_made(instances: &[Option<Seq<Option<ScalarType>>>], instance: u32) -> bool

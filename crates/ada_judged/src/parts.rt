@@ -15,7 +15,7 @@ use crate::judged::{Form, Indexing, Judged, Spelling, Variable};
 use crate::kind::Kind;
 use ada_entities::{Subtype, Types, Values};
 use ada_tree::{Expr, Selector};
-use cov_base::Pos;
+use cov_base::{Pos, numbered};
 use std::alloc::{AllocError, Global};
 
 /// Whether an index stands in one of two parts of a name.
@@ -58,13 +58,10 @@ impl Variable {
         ensures { IfOk result (IsComponent (tables types.now) name.now self) }
     {
         match types.component_of(self.subtype.of, name) {
-            Some((place, subtype)) => match u32::try_from(place) {
-                Ok(number) => {
-                    let selector = Selector::Component(number);
-                    Ok(Some(self.part(selector, subtype, Indexing::Fixed)?))
-                }
-                Err(_) => Err(AllocError),
-            },
+            Some((place, subtype)) => {
+                let selector = Selector::Component(numbered(place)?);
+                Ok(Some(self.part(selector, subtype, Indexing::Fixed)?))
+            }
             None => Ok(None),
         }
     }

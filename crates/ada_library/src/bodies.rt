@@ -10,6 +10,7 @@ ghost use Rattle.ada_library.specs.BodyNumbering.{body_named, AddsBodies, AreBod
 use crate::items::both;
 use ada_entities::key;
 use ada_syntax::{BodyItem, Identifier, LibraryItem, Unit};
+use cov_base::number_behind;
 use indexmap::IndexMap;
 use std::alloc::{AllocError, Global};
 use std::marker::Model;
@@ -49,7 +50,7 @@ impl BodyNumbers {
         ensures { OnOk result (AddsBodies self.old (body_named package_name.now name.now ∷ []) self.new) }
     {
         let number = self.count;
-        self.count = number.checked_add(1).ok_or(AllocError)?;
+        self.count = number_behind(number)?;
         let names = both(key(alloc, package_name), key(alloc, name))?;
         if self.table.get(&names).is_some() {
             return Ok(());

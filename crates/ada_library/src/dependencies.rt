@@ -6,13 +6,13 @@ ghost use Rattle.ada_syntax.specs.declared.name.Identifier.{Identifier as Name};
 ghost use Rattle.ada_rules.specs.Library as rules;
 ghost use Rattle.ada_library.specs.Depending.{AreDependencies};
 
-use crate::items::{is_package_body, numbered};
+use crate::items::is_package_body;
 use crate::names::Names;
 use crate::ordering::dependency_order;
 use crate::search::reached;
 use ada_entities::key;
 use ada_syntax::{Identifier, Unit, WithClause};
-use cov_base::Seq;
+use cov_base::{Seq, numbered};
 use std::alloc::{AllocError, Global};
 use std::collections::VecDeque;
 

@@ -5,11 +5,11 @@ ghost use Rattle.ada_rules.specs.Entities.{same_name};
 ghost use Rattle.ada_rules.specs.Library as rules;
 ghost use Rattle.ada_library.specs.Headings.{AnswersHeading, AnswersHeadings, MayName, IsKnown, ChecksNames, WantsBody, IsWanted, IsNew, IsDeclaredWell};
 
-use crate::items::{has_body, is_package_body, is_test_io, item_name, numbered};
+use crate::items::{has_body, is_package_body, is_test_io, item_name};
 use crate::library::Library;
 use ada_entities::{Refusal, key, refused};
 use ada_syntax::{Identifier, LibraryItem, Unit};
-use cov_base::Failure;
+use cov_base::{Failure, numbered};
 use std::alloc::{AllocError, Global};
 
 /// Whether a unit with this number may name another in `with`.

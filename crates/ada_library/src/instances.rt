@@ -1,10 +1,11 @@
 //! The numbers of instances (Ada RM 2012, 12.3).
 
-ghost use Rattle.std.specs.Prelude.{◌≡◌, IfOk};
+ghost use Rattle.std.specs.Prelude.{◌≡◌, ◌≤◌, ◌^◌, IfOk, IfErr};
 ghost use Rattle.ada_library.specs.InstanceNumbering.{next_number, number_at, AreInstances};
 
 use crate::items::is_instance;
 use ada_syntax::{LibraryItem, Unit};
+use cov_base::number_behind;
 use std::alloc::{AllocError, Global};
 
 /// The numbers of instances, from 1 on in the order of the text: for each unit the number that it has as
@@ -26,10 +27,11 @@ impl Drop for InstanceNumbers {
 
 /// The number of the next instance behind a unit.
 fn next_number(number: u32, item: &LibraryItem) -> Result<u32, AllocError>
-    ensures { IfOk result (λ n. n ≡ next_number number item.now) }
+    ensures number { IfOk result (λ n. n ≡ next_number number item.now) }
+    ensures refused { IfErr result (λ e. 2 ^ 32 ≤ next_number number item.now) }
 {
     if is_instance(item) {
-        number.checked_add(1).ok_or(AllocError)
+        number_behind(number)
     } else {
         Ok(number)
     }

@@ -6,7 +6,6 @@ ghost use Rattle.ada_rules.specs.Library as rules;
 ghost use Rattle.ada_library.specs.UnitNaming.{IsWanting};
 
 use ada_syntax::{Identifier, LibraryItem, PackageItem};
-use std::alloc::AllocError;
 
 /// Whether a name in lower case is that of the predefined unit of input and output (RM A.1).
 pub fn is_test_io(name: &[u8]) -> bool
@@ -69,16 +68,6 @@ pub fn has_body(item: &LibraryItem) -> bool
         LibraryItem::PackageBody(_) | LibraryItem::Instance(_) | LibraryItem::Subprogram(_) => {
             false
         }
-    }
-}
-
-/// The place of a unit in the list as its number. A list with more than 2^32 - 1 items has no memory.
-pub fn numbered(index: usize) -> Result<u32, AllocError>
-    ensures { IfOk result (λ n. n ≡ index) }
-{
-    match u32::try_from(index) {
-        Ok(number) => Ok(number),
-        Err(_) => Err(AllocError),
     }
 }
 

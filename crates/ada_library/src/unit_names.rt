@@ -5,10 +5,11 @@ ghost use Rattle.ada_rules.specs.Library as rules;
 ghost use Rattle.ada_library.specs.NameTable.{Adds, with_body};
 ghost use Rattle.ada_library.specs.UnitNaming.{AreNames, AddsNames};
 
-use crate::items::{item_name, numbered};
+use crate::items::item_name;
 use crate::names::Names;
 use ada_entities::key;
 use ada_syntax::{LibraryItem, Unit};
+use cov_base::numbered;
 use std::alloc::{AllocError, Global};
 
 /// The numbers of units by name: of those that others may name, and of bodies of packages. Of two with

@@ -10,6 +10,7 @@ use crate::known::{Known, owner_in};
 use ada_tree::{
     Callee, ExceptionName, FormalActual, PredefinedException, Program, Raisable, Target,
 };
+use cov_base::{number_after, numbered};
 use std::alloc::AllocError;
 
 /// What the actual for a formal subprogram comes to: `Test_IO.Put`, where there is none, which no legal
@@ -75,8 +76,7 @@ pub fn exception_in(
         ExceptionName::Declared(owner, declaration) => {
             let exceptions = program.exceptions.as_slice();
             let rank = rank_of(exceptions, owner_in(instance, owner), declaration);
-            let rank = u32::try_from(rank).map_err(|_| AllocError)?;
-            rank.checked_add(5).ok_or(AllocError)
+            number_after(numbered(rank)?, 5)
         }
     }
 }

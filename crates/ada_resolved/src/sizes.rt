@@ -18,7 +18,7 @@ use crate::arithmetic::values_in;
 use crate::known::{instance_at, owner_in};
 use crate::values::bounds_in;
 use ada_tree::{CompositeType, Instance, LibraryObject, Program, Range, Subtype};
-use cov_base::Seq;
+use cov_base::{Seq, numbered};
 use std::alloc::{AllocError, Global};
 
 /// How many words a program may have at the library level, and so a type.
@@ -139,7 +139,7 @@ fn composite_size(
 pub fn instance_count(instances: &[Instance]) -> Result<u32, AllocError>
     ensures { IfOk result (λ n. n ≡ length instances.now) }
 {
-    u32::try_from(instances.len()).map_err(|_| AllocError)
+    numbered(instances.len())
 }
 
 /// The row of a composite type, by the table so far.

@@ -13,7 +13,8 @@ ghost use Rattle.kernel_code.specs.SimpleCode.{branch, call_piece};
 ghost use Rattle.kernel_code.specs.FillCode.{layout_lines, layout_word, counter_byte, keep_return, go_back};
 ghost use Rattle.kernel_ir.specs.declared.kernel.Layout.TheVariants as layout;
 
-use kernel_code::{Emitter, Said, addi, back, far, further, high, load, low, lui, store};
+use cov_base::number_after;
+use kernel_code::{Emitter, Said, addi, back, far, high, load, low, lui, store};
 use kernel_ir::Layout;
 use rv_isa::{BranchOp, Reg};
 use std::alloc::AllocError;
@@ -117,7 +118,7 @@ fn count_down(emitter: &mut Emitter, number: u32) -> Result<(), AllocError>
 fn call_layout(emitter: &mut Emitter, first: u32, component: u32) -> Result<(), AllocError>
     ensures { OnOk result (emitter.new ≡ emitter.old ++ call_piece (first + component) ∷ []) }
 {
-    emitter.call_piece(further(first, component)?)
+    emitter.call_piece(number_after(first, component)?)
 }
 
 /// An array: the loop calls the piece of its component.

@@ -5,7 +5,7 @@ ghost use Rattle.kernel_ir.specs.declared.simple.Simple.TheVariants as simple;
 ghost use Rattle.kernel_ir.specs.TreeView.{op_of, ops_of, nodes_of};
 ghost use Rattle.kernel_code.specs.Code.{simple_length, op_length, code_length, nodes_length};
 
-use kernel_code::further;
+use cov_base::number_after;
 use kernel_ir::{Code, Node, Op, Operator, Relation, Simple};
 use std::alloc::AllocError;
 
@@ -63,7 +63,7 @@ fn arithmetic_length(operator: Operator) -> u32
 pub(crate) fn behind(place: u32, length: Result<u32, AllocError>) -> Result<u32, AllocError>
     ensures { (n : ℕ) → IfOk length (λ lines. lines ≡ n) → IfOk result (λ there. there ≡ place + n) }
 {
-    further(place, length?)
+    number_after(place, length?)
 }
 
 /// How many lines code has.

@@ -17,9 +17,9 @@ ghost use Rattle.kernel_code.specs.Set.{setting_of};
 
 use crate::lengths::nodes_length;
 use crate::targets::Evaluation;
-use cov_base::CondIx;
+use cov_base::{CondIx, number_after, number_behind};
 use kernel_code::{
-    Emitter, Frame, Said, a3, addi, back, exception, further, immediate, load, lui, register, store,
+    Emitter, Frame, Said, a3, addi, back, exception, immediate, load, lui, register, store,
 };
 use kernel_ir::{Edge, Node, Slot};
 use rv_isa::{BranchOp, ImmediateOp, Instr, Reg, RegisterOp};
@@ -47,8 +47,8 @@ fn node_place(skipped: u32, nodes: &[Node], place: u32) -> Result<u32, AllocErro
     ensures { IfOk result (λ there. there ≡ node_place skipped (nodes_of nodes.now) place) }
 {
     match nodes.get(..skipped as usize) {
-        Some(before) => further(place, nodes_length(before)?),
-        None => further(place, nodes_length(nodes)?),
+        Some(before) => number_after(place, nodes_length(before)?),
+        None => number_after(place, nodes_length(nodes)?),
     }
 }
 
@@ -190,8 +190,8 @@ pub(crate) fn put_call(
 ) -> Result<(), AllocError>
     ensures { OnOk result (emitter.new ≡ emitter.old ++ call_lines (setting_of frame.now) raise_to place body) }
 {
-    let piece = further(body, 1)?;
-    let past = further(place, 13)?;
+    let piece = number_behind(body)?;
+    let past = number_after(place, 13)?;
     check_depth(emitter, raise_to, place)?;
     move_frame(emitter, way_down(frame.width))?;
     emitter.call_piece(piece)?;
@@ -250,6 +250,6 @@ pub(crate) fn put_start(emitter: &mut Emitter, main: u32) -> Result<(), AllocErr
     ensures { OnOk result (emitter.new ≡ emitter.old ++ start_lines main) }
 {
     enter_start(emitter)?;
-    emitter.call_piece(further(main, 1)?)?;
+    emitter.call_piece(number_behind(main)?)?;
     end_run(emitter)
 }

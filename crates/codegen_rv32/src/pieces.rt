@@ -18,8 +18,8 @@ use crate::fills::put_layout;
 use crate::parts::put_start;
 use crate::structure::put_body;
 use assembler::{Item, Label, Mark, Piece};
-use cov_base::{CondIx, DecId, InstId, Seq};
-use kernel_code::{Emitter, Frame, Line, Said, further, sizes_of};
+use cov_base::{CondIx, DecId, InstId, Seq, number_behind, numbered};
+use kernel_code::{Emitter, Frame, Line, Said, sizes_of};
 use kernel_ir::{Body, Code, Kernel, Layout};
 use line_table::RoleKind;
 use std::alloc::{AllocError, Global};
@@ -39,13 +39,13 @@ fn pieces_of(alloc: Global, kernel: &Kernel, sizes: &[u64]) -> Result<Vec<Piece>
     requires { sizes.now ≡ sizes_of kernel.now.layouts }
     ensures { IfOk result (λ pieces. pieces.items ≡ kernel_pieces kernel.now) }
 {
-    let count = u32::try_from(kernel.bodies.len()).map_err(|_| AllocError)?;
+    let count = numbered(kernel.bodies.len())?;
     let frame = Frame {
         width: 0,
         exceptions: kernel.exceptions,
         layouts: kernel.layouts.as_slice(),
         sizes,
-        first_layout: further(count, 1)?,
+        first_layout: number_behind(count)?,
     };
     let mut pieces = Vec::new(alloc);
     put_pieces(alloc, &mut pieces, &frame, kernel)?;
@@ -104,7 +104,7 @@ fn put_layouts(
     for layout in layouts {
         let piece = layout_piece(alloc, first, number, layout)?;
         pieces.push(piece)?;
-        number = further(number, 1)?;
+        number = number_behind(number)?;
     }
     Ok(())
 }
@@ -172,7 +172,7 @@ fn marks_of(alloc: Global, lines: &[Line]) -> Result<Vec<Mark>, AllocError>
     let mut place: u32 = 0;
     for line in lines {
         put_mark(&mut marks, place, line.said)?;
-        place = further(place, 1)?;
+        place = number_behind(place)?;
     }
     Ok(marks)
 }

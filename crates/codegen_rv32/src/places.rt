@@ -7,7 +7,7 @@ ghost use Rattle.kernel_code.specs.Code.{code_length, nodes_length, edge_place};
 use crate::lengths::{behind, code_length, nodes_length};
 use crate::parts::edge_place;
 use crate::targets::Evaluation;
-use kernel_code::further;
+use cov_base::{number_after, number_behind};
 use kernel_ir::{Code, Node};
 use std::alloc::AllocError;
 
@@ -29,7 +29,7 @@ pub(crate) fn choice_places(
     ensures otherwise { IfOk result (λ at. at.otherwise ≡ place + 7 + code_length if_true.now) }
     ensures past { IfOk result (λ at. at.past ≡ place + 7 + code_length if_true.now + code_length if_false.now) }
 {
-    let test_end = further(place, 7)?;
+    let test_end = number_after(place, 7)?;
     let otherwise = behind(test_end, code_length(if_true))?;
     let past = behind(otherwise, code_length(if_false))?;
     let inside = test_end - 1;
@@ -59,7 +59,7 @@ pub(crate) fn handler_places(
     ensures past { IfOk result (λ at. at.past ≡ place + code_length body.now + 4 + code_length handler.now) }
 {
     let end = behind(place, code_length(body))?;
-    let handled = further(end, 4)?;
+    let handled = number_after(end, 4)?;
     let past = behind(handled, code_length(handler))?;
     let caught = handled - 3;
     Ok(HandlerPlaces {
@@ -74,7 +74,7 @@ pub(crate) fn behind_loop(place: u32, body: &Code) -> Result<u32, AllocError>
     ensures { IfOk result (λ past. past ≡ place + code_length body.now + 1) }
 {
     let end = behind(place, code_length(body))?;
-    further(end, 1)
+    number_behind(end)
 }
 
 /// Where the outcomes of a decision lead, and what is behind it.
@@ -92,7 +92,7 @@ pub(crate) fn outcome_places(place: u32, nodes: &[Node]) -> Result<OutcomePlaces
     ensures past { IfOk result (λ at. at.past ≡ place + nodes_length (nodes_of nodes.now) + 9) }
 {
     let true_at = behind(place, nodes_length(nodes))?;
-    let past = further(true_at, 9)?;
+    let past = number_after(true_at, 9)?;
     let false_at = past - 4;
     Ok(OutcomePlaces {
         true_at,
@@ -125,7 +125,7 @@ pub(crate) fn node_places(
         ≡ edge_place evaluation.true_at evaluation.false_at (nodes_of following.now) at.next node.now.on_false) }
 {
     let end = behind(place, code_length(&node.operand))?;
-    let next = further(end, 8)?;
+    let next = number_after(end, 8)?;
     let on_true = edge_place(evaluation, following, next, node.on_true)?;
     let on_false = edge_place(evaluation, following, next, node.on_false)?;
     let taken = next - 1;
@@ -135,11 +135,4 @@ pub(crate) fn node_places(
         on_true,
         on_false,
     })
-}
-
-/// The number of the next node. There is no memory for 256 of them.
-pub(crate) fn number_after(number: u8) -> Result<u8, AllocError>
-    ensures { IfOk result (λ after. after ≡ number + 1) }
-{
-    number.checked_add(1).ok_or(AllocError)
 }

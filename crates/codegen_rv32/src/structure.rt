@@ -11,12 +11,10 @@ use crate::lengths::{behind, code_length, op_length};
 use crate::parts::{
     enter_body, enter_handler, leave_body, put_call, put_condition, put_test, set_outcome,
 };
-use crate::places::{
-    behind_loop, choice_places, handler_places, node_places, number_after, outcome_places,
-};
+use crate::places::{behind_loop, choice_places, handler_places, node_places, outcome_places};
 use crate::targets::{Evaluation, Targets};
-use cov_base::{DecId, InstId};
-use kernel_code::{Emitter, Frame, further};
+use cov_base::{DecId, InstId, byte_behind, number_after};
+use kernel_code::{Emitter, Frame};
 use kernel_ir::{Code, Node, Op, Slot};
 use std::alloc::AllocError;
 
@@ -202,7 +200,7 @@ fn put_nodes(
         return Ok(());
     };
     let at = node_places(evaluation, place, node, following)?;
-    let after = number_after(number)?;
+    let after = byte_behind(number)?;
     put_code(emitter, frame, targets, place, &node.operand)?;
     put_condition(
         emitter,
@@ -227,8 +225,8 @@ pub(crate) fn put_body(
     ensures { OnOk result (emitter.new ≡ emitter.old ++ body_lines (setting_of frame.now) code.now) }
 {
     let length = code_length(code)?;
-    let end = further(2, length)?;
-    let raised = further(3, length)?;
+    let end = number_after(2, length)?;
+    let raised = number_after(3, length)?;
     let targets = Targets {
         raise_to: raised,
         exit_to: end,

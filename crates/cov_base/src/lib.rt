@@ -7,6 +7,7 @@
 #![tactic(auto)]
 
 mod bytes;
+mod counting;
 pub mod decision;
 mod event;
 mod failure;
@@ -17,6 +18,10 @@ mod position;
 mod seq;
 
 pub use bytes::Bytes;
+pub use counting::{
+    byte_behind, byte_numbered, count_of_both, number_after, number_behind, numbered,
+    signed_numbered, size_of_all, size_of_both,
+};
 pub use event::{Event, Vector};
 pub use failure::Failure;
 pub use level::{Annotation, Level};

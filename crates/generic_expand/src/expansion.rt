@@ -10,7 +10,7 @@ ghost use Rattle.generic_expand.specs.Expanded.{node_limit, Refuses};
 use crate::copies::{BodyCopy, Copies};
 use crate::fault::ExpandFault;
 use ada_tree::{Instance, Program, Subprogram, UnitEntry, UnitRole};
-use cov_base::{Failure, InstId, Pos, Seq};
+use cov_base::{Failure, InstId, Pos, Seq, number_behind, numbered};
 use std::alloc::{AllocError, Global};
 
 /// How many instances a program may have.
@@ -119,13 +119,6 @@ fn first_past(units: &[UnitEntry]) -> Option<Pos>
     None
 }
 
-/// A number that is an index. A list of 2 ^ 32 items is too large for memory.
-fn numbered(index: usize) -> Result<u32, AllocError>
-    ensures { IfOk result (λ n. n ≡ index) }
-{
-    u32::try_from(index).map_err(|_| AllocError)
-}
-
 /// Adds the copy of a subprogram for the instance at this index, where it is one of the generic.
 fn push_copy(
     copies: &mut Vec<BodyCopy>,
@@ -139,7 +132,7 @@ fn push_copy(
     if instance.generic != generic {
         return Ok(());
     }
-    let number = numbered(index)?.checked_add(1).ok_or(AllocError)?;
+    let number = number_behind(numbered(index)?)?;
     copies.push(BodyCopy {
         instance: InstId(number),
         subprogram,

@@ -1,6 +1,6 @@
 //! An emitter: the lines of a piece so far.
 
-ghost use Rattle.std.specs.Prelude.{◌≡◌, ◌+◌, ◌^◌, ◌<◌, ◌++◌, List, [], ◌∷◌, map, IfOk, OnOk};
+ghost use Rattle.std.specs.Prelude.{◌≡◌, ◌+◌, ◌^◌, ◌<◌, ◌++◌, List, [], ◌∷◌, map, OnOk};
 ghost use Rattle.kernel_code.specs.Line.{Line as CodeLine, plain, jump, checks, steers};
 ghost use Rattle.kernel_code.specs.SimpleCode.{branch, call_piece};
 ghost use Rattle.kernel_code.specs.Words.{load_slot, store_slot, load_constant};
@@ -9,6 +9,7 @@ ghost use Rattle.kernel_code.specs.View.{said_of, lines_of};
 use crate::instructions::{load_constant, load_slot, store_slot};
 use crate::line::{Line, Said};
 use assembler::{Item, Label, PieceId};
+use cov_base::number_after;
 use rv_isa::{BranchOp, Instr, Reg};
 use std::alloc::{AllocError, Global};
 use std::marker::Model;
@@ -163,7 +164,7 @@ impl Emitter {
     ) -> Result<(), AllocError>
         ensures { OnOk result (self.new ≡ self.old ++ branch checks op rs1 rs2 (place + lines) ∷ jump raise_to ∷ []) }
     {
-        let past = further(place, lines)?;
+        let past = number_after(place, lines)?;
         self.check(raise_to, op, rs1, rs2, past)
     }
 
@@ -178,14 +179,7 @@ impl Emitter {
     ) -> Result<(), AllocError>
         ensures { OnOk result (self.new ≡ self.old ++ branch steers op rs1 rs2 (place + lines) ∷ []) }
     {
-        let past = further(place, lines)?;
+        let past = number_after(place, lines)?;
         self.branch(Said::Steers, op, rs1, rs2, past)
     }
-}
-
-/// The place so many lines further on. There is no memory for a piece of 2 ^ 32 lines.
-pub fn further(place: u32, lines: u32) -> Result<u32, AllocError>
-    ensures { IfOk result (λ there. there ≡ place + lines) }
-{
-    place.checked_add(lines).ok_or(AllocError)
 }

@@ -35,7 +35,7 @@ mod sizes;
 mod standing;
 mod values;
 
-pub use emitter::{Emitter, further};
+pub use emitter::Emitter;
 pub use frame::Frame;
 pub use instructions::{
     a3, addi, back, exception, far, high, immediate, load, low, lui, register, store,

@@ -12,8 +12,9 @@ ghost use Rattle.kernel_code.specs.Line.{plain, jump, checks};
 ghost use Rattle.kernel_code.specs.Words.{high, low, load_slot, store_slot, load_constant};
 ghost use Rattle.kernel_code.specs.SimpleCode.{branch, call_piece, checked, raising, measure, library_byte, copy_loop};
 
-use crate::emitter::{Emitter, further};
+use crate::emitter::Emitter;
 use crate::instructions::{a3, a4, addi, high, load, low, lui, register, shift, store};
+use cov_base::number_after;
 use kernel_ir::Slot;
 use rv_isa::{BranchOp, Reg, RegisterOp, ShiftOp};
 use std::alloc::AllocError;
@@ -216,8 +217,8 @@ impl Emitter {
             (Shift shifts.Slli 11 10 2 ∷ load_slot 10 from (Shift shifts.Slli 10 10 2 ∷ load_constant 13 words []))
             ++ copy_loop (place + 27)))) }
     {
-        let second = further(place, 10)?;
-        let turn = further(place, 27)?;
+        let second = number_after(place, 10)?;
+        let turn = number_after(place, 27)?;
         let count = word_count(words);
         self.check_words(raise_to, place, from, count)?;
         self.check_words(raise_to, second, to, count)?;

@@ -13,13 +13,13 @@ ghost use Rattle.kernel_code.specs.Words.{high, low, load_slot, store_slot, load
 ghost use Rattle.kernel_code.specs.SimpleCode.{branch, raising, simple_lines};
 
 use crate::arithmetic::raises;
-use crate::emitter::{Emitter, further};
+use crate::emitter::Emitter;
 use crate::frame::Frame;
 use crate::instructions::{a3, a4, addi, exception, high, low};
 use crate::line::Said;
 use crate::sizes::layout_words;
 use assembler::Item;
-use cov_base::{InstId, StmtId};
+use cov_base::{InstId, StmtId, number_after};
 use kernel_ir::{Simple, Slot};
 use rv_isa::{BranchOp, Instr, Reg};
 use std::alloc::AllocError;
@@ -167,7 +167,7 @@ impl Emitter {
             Simple::WriteLibrary { word, from } => self.write_library(word, from),
             Simple::Copy { to, from, words } => self.copy(raise_to, place, to, from, words),
             Simple::Fill { at, layout } => {
-                let piece = further(frame.first_layout, layout)?;
+                let piece = number_after(frame.first_layout, layout)?;
                 let words = layout_words(frame, layout);
                 self.fill(raise_to, place, at, words, piece)
             }

@@ -6,6 +6,7 @@ ghost use Rattle.kernel_code.specs.Frame.{sizes_of, size_at, size_of, sum_of};
 ghost use Rattle.kernel_code.specs.Set.{setting_of};
 
 use crate::frame::Frame;
+use cov_base::{size_of_all, size_of_both};
 use kernel_ir::Layout;
 use std::alloc::{AllocError, Global};
 
@@ -30,9 +31,7 @@ fn sum_of(sizes: &[u64], layouts: &[u32]) -> Result<u64, AllocError>
 {
     let mut sum: u64 = 0;
     for layout in layouts {
-        sum = sum
-            .checked_add(word_count(sizes, *layout))
-            .ok_or(AllocError)?;
+        sum = size_of_both(sum, word_count(sizes, *layout))?;
     }
     Ok(sum)
 }
@@ -43,9 +42,9 @@ fn size_of(sizes: &[u64], layout: &Layout) -> Result<u64, AllocError>
 {
     match layout {
         Layout::Word(_) => Ok(1),
-        Layout::Array { count, component } => u64::from(*count)
-            .checked_mul(word_count(sizes, *component))
-            .ok_or(AllocError),
+        Layout::Array { count, component } => {
+            size_of_all(u64::from(*count), word_count(sizes, *component))
+        }
         Layout::Record(components) => sum_of(sizes, components.as_slice()),
     }
 }

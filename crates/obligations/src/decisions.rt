@@ -7,7 +7,7 @@ ghost use Rattle.obligations.specs.Spelled.{nothing_spelled, with_byte, with_con
 
 use crate::listing::Listing;
 use ada_tree::ShortCircuit;
-use cov_base::{Place, Pos};
+use cov_base::{Place, Pos, byte_numbered};
 use std::alloc::{AllocError, Global};
 use std::marker::Model;
 
@@ -64,9 +64,7 @@ impl Spelling {
     pub(crate) fn add_condition(&mut self, place: Pos) -> Result<(), AllocError>
         ensures { OnOk result (self.new ≡ with_condition place self.old) }
     {
-        let Ok(number) = u8::try_from(self.conditions.len()) else {
-            return Err(AllocError);
-        };
+        let number = byte_numbered(self.conditions.len())?;
         self.postfix.push(number)?;
         self.conditions.push(Place {
             line: place.line,

@@ -11,7 +11,7 @@ ghost use Rattle.storage_layout.specs.Layouts as spec;
 
 use ada_resolved::{TypeSizes, bounds_in, instance_count, owner_in, stands_in, values_in};
 use ada_tree::{CompositeType, Owner, Program, Range, ScalarRange, Subtype, TypeDeclaration};
-use cov_base::Seq;
+use cov_base::{Seq, number_behind, numbered};
 use kernel_ir::Layout;
 use std::alloc::{AllocError, Global};
 use std::marker::Model;
@@ -50,7 +50,7 @@ pub fn layouts_before(laid: &[LaidType], instance: u32, number: u32) -> Result<u
         if is_layout_of(*one, instance, number) {
             return Ok(before);
         }
-        before = before.checked_add(1).ok_or(AllocError)?;
+        before = number_behind(before)?;
     }
     Ok(before)
 }
@@ -127,7 +127,7 @@ impl TypeLayouts {
     {
         match component {
             Subtype::Scalar(range) => {
-                let number = u32::try_from(self.laid.len()).map_err(|_| AllocError)?;
+                let number = numbered(self.laid.len())?;
                 let first = bounds(program, instance, range).first;
                 self.push(LaidType::First(first), Layout::Word(first))?;
                 Ok(number)
@@ -249,7 +249,7 @@ impl TypeLayouts {
     {
         let mut layouts = TypeLayouts::new(alloc);
         for (place, declaration) in sizes.program().types.as_slice().iter().enumerate() {
-            let number = u32::try_from(place).map_err(|_| AllocError)?;
+            let number = numbered(place)?;
             layouts.push_type_in_all(alloc, sizes, number, declaration)?;
         }
         Ok(layouts)

@@ -6,7 +6,7 @@ ghost use Rattle.commands.specs.declared.status.Status.TheVariants.{WantOfMemory
 ghost use Rattle.commands.specs.Failures.{source_status};
 
 use crate::status::Status;
-use cov_base::{DecEntry, Failure};
+use cov_base::{DecEntry, Failure, count_of_both};
 use object_format::Object;
 use program_objects::{Compiled, SourceFault};
 use std::alloc::{AllocError, Global};
@@ -27,9 +27,7 @@ fn condition_count(decisions: &[DecEntry]) -> Result<usize, AllocError>
 {
     let mut count: usize = 0;
     for decision in decisions {
-        count = count
-            .checked_add(decision.conditions.len())
-            .ok_or(AllocError)?;
+        count = count_of_both(count, decision.conditions.len())?;
     }
     Ok(count)
 }

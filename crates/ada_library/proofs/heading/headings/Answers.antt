@@ -20,7 +20,7 @@ returns-in_err-heading c l is =
     let u = c.index-units-index.result in
     let f = c.in_err-heading.field-0.0 in
     let so_far = c.loop-index.invariant l is ∙ drop_item (λ ys. (all_headings l i ys).answer) us i u (omega arith) c.index-units-index.is in
-    let own = subst (λ n. Refuses (heading l n u).answer f) c.in_ok-numbered.ensures (c.in_err-heading.ensures l is) in
+    let own = subst (λ n. Refuses (heading l n u).answer f) c.in_ok-numbered.ensures.number (c.in_err-heading.ensures l is) in
     let r = refused_as _ _ f so_far (unit_refused l i u (drop (i + 1) us) f own) in
     search (rules, r)
 

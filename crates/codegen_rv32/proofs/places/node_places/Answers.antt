@@ -5,7 +5,7 @@ use Rattle.codegen_rv32.proofs.places.node_places.Goals as goal
 pub returns : goal.returns
 returns c =
     let end = c.in_ok-end.ensures (code_length c.args.node.now.operand) c.code_length.ensures in
-    let next = c.in_ok-next.ensures in
+    let next = c.in_ok-next.ensures.number in
     record {
       taken = omega (arith, end, next);
       next = omega (arith, end, next);

@@ -69,7 +69,7 @@ put_nodes-returns t c =
     c.in_ok-after.after c.args.place c.in-Some.node.now.slot
     c.in-Some.node.now.operand c.in-Some.node.now.on_true c.in-Some.node.now.on_false
     (nodes_of c.in-Some.following.now) _ _ _ _ _ _ _ _
-    c.in_ok-at.ensures.taken c.in_ok-at.ensures.next c.in_ok-after.ensures
+    c.in_ok-at.ensures.taken c.in_ok-at.ensures.next c.in_ok-after.ensures.number
     c.in_ok-at.ensures.on_true c.in_ok-at.ensures.on_false c.in_ok-put_code.ensures c.in_ok-put_condition.ensures h))
     c.put_nodes.ensures
 

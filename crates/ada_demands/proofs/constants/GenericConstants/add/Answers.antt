@@ -27,5 +27,5 @@ invariant_of-self-2 c =
 pub returns : goal.returns
 returns c = record { number = grind (arith, common_steps); added = grind (arith, common_steps) }
 
-pub invariant_of-self-in_default : goal.invariant_of-self-in_default
-invariant_of-self-in_default c = grind (arith, common_steps)
+pub invariant_of-self-in_err-number : goal.invariant_of-self-in_err-number
+invariant_of-self-in_err-number c = grind (arith, common_steps)

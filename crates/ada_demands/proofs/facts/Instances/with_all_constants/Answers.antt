@@ -7,5 +7,5 @@ pub loop-facts-preserved : goal.loop-facts-preserved
 loop-facts-preserved c =
     one_resolved c.args.self.now (map constant_of c.args.constants.now) c.as_slice-facts-items.result.now c.loop-facts.facts-index c.facts-item.result
     c.in_ok-with_constants.field-0 c.loop-facts.number c.in_ok-number.number c.loop-facts.resolved c.add.new.self
-    (omega arith) c.facts-item.is c.in_ok-number.ensures c.in_ok-with_constants.ensures c.in_ok-add.ensures
+    (omega arith) c.facts-item.is c.in_ok-number.ensures.number c.in_ok-with_constants.ensures c.in_ok-add.ensures
     ∙ c.loop-facts.invariant

@@ -21,7 +21,7 @@ invariant_of-self c =
 pub returns-clause-number : goal.returns-clause-number
 returns-clause-number c =
     let old = c.args.self.now in
-    omega (arith, c.in_ok-number.ensures, ap length c.as_slice-types.ensures.value, shapes_length (instances_of old.instances.items) [] old.definitions.items)
+    omega (arith, c.in_ok-number.ensures.number, ap length c.as_slice-types.ensures.value, shapes_length (instances_of old.instances.items) [] old.definitions.items)
 
 pub returns-clause-added : goal.returns-clause-added
 returns-clause-added c =
