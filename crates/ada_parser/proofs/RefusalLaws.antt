@@ -1,15 +1,20 @@
 -- The place of a refusal.
-use Rattle.std.proofs.Common.{◌≡◌, List, [], ◌∷◌, ◌++◌, length, sum_by, refl, subst, arith}
+use Rattle.std.proofs.Common.{◌≡◌, List, [], ◌∷◌, ◌++◌, length, sum_by, Err, refl, subst, arith}
 use Rattle.cov_base.specs.declared.position.Pos.{Pos}
 use Rattle.ada_lexer.specs.declared.token.Token.{Token}
 use Rattle.ada_syntax.specs.declared.unit.Unit.{Unit as LibraryUnit}
+use Rattle.cov_base.specs.declared.failure.Failure.{Failure}
 use Rattle.expression_parser.specs.declared.extent.Extent.{Extent}
+use Rattle.expression_parser.specs.declared.fault.Fault.{Fault as Stop}
+use Rattle.expression_parser.specs.declared.fault.Fault.TheVariants.{Syntax, Memory}
+use Rattle.ada_parser.specs.declared.refusal.SyntaxFault.{SyntaxFault}
+use Rattle.ada_parser.specs.UnitDepth.{ReadsFile}
 use Rattle.expression_parser.specs.Reading.{Tokens, Reading, Got, Stuck}
 use Rattle.expression_parser.specs.Syntax.{Suffix}
 use Rattle.expression_parser.specs.Shows.{Reads}
 use Rattle.ada_parser.specs.UnitReading as read
 use Rattle.ada_parser.specs.Grammar.{IsFile}
-use Rattle.ada_parser.specs.Refusal.{end_place, place_of, Place, at_token, at_end, Refused, IsOnlyFile}
+use Rattle.ada_parser.specs.Refusal.{end_place, place_of, failure_of, Place, at_token, at_end, Refused, RefusedBy, IsOnlyFile}
 use Rattle.expression_parser.proofs.Agree.{place}
 use Rattle.ada_syntax.specs.Nodes.{unit_nodes}
 use Rattle.declaration_parser.specs.NodeTokens.{node_tokens}
@@ -39,6 +44,11 @@ nodes_are x tokens units r = omega (arith, units_nodes_of x (file_derives x r))
 
 pub is_refused : (x : Extent) (tokens rest : Tokens) (pos : Pos) → Reads (read.file_by x) tokens (Stuck rest) → pos ≡ place_of rest tokens → Refused x tokens pos
 is_refused x tokens rest pos r e = record { none = λ units d. file_refused x r d; place = rw e (place_at x tokens rest r) }
+
+-- where reading stops, the file is refused
+pub is_failed : (x : Extent) (tokens : Tokens) (fault : Stop) (told : Failure SyntaxFault) → ReadsFile x tokens (Err fault) → told ≡ failure_of fault tokens → RefusedBy x tokens told
+is_failed x tokens (Syntax rest) told r e = rw e (is_refused x tokens rest.now (place_of rest.now tokens) r refl)
+is_failed x tokens Memory told r e = rw e tt
 
 pub ruleset end_places = (end_place-push)
 

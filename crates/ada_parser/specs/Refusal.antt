@@ -6,6 +6,8 @@ use Rattle.cov_base.specs.declared.failure.Failure.TheVariants.{Fault, WantOfMem
 use Rattle.ada_lexer.specs.declared.token.Token.{Token}
 use Rattle.ada_syntax.specs.declared.unit.Unit.{Unit as LibraryUnit}
 use Rattle.expression_parser.specs.declared.extent.Extent.{Extent}
+use Rattle.expression_parser.specs.declared.fault.Fault.{Fault as Stop}
+use Rattle.expression_parser.specs.declared.fault.Fault.TheVariants.{Syntax, Memory}
 use Rattle.ada_parser.specs.declared.refusal.SyntaxFault.{SyntaxFault}
 use Rattle.expression_parser.specs.Reading.{Tokens}
 use Rattle.ada_parser.specs.Grammar.{IsFile}
@@ -41,6 +43,11 @@ pub data Place (x : Extent) (tokens : Tokens) : Pos → Type 0 where
 pub record Refused (x : Extent) (tokens : Tokens) (pos : Pos) : Type 0 where
   pub none : IsNoFile x tokens
   pub place : Place x tokens pos
+
+-- the failure of a file whose reading stops there
+abbrev pub failure_of : Stop → Tokens → Failure SyntaxFault
+failure_of (Syntax rest) tokens = Fault (record { pos = place_of rest.now tokens })
+failure_of Memory tokens = WantOfMemory
 
 -- want of memory is free
 abbrev pub RefusedBy : Extent → Tokens → Failure SyntaxFault → Type 0

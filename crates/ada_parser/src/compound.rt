@@ -12,7 +12,7 @@ ghost use Rattle.ada_parser.specs.Bodies.{ReadsIfRest, ReadsCaseArms, ReadsLoopB
 use crate::arms::alternatives;
 use crate::heads::{declarations_to_begin, expr_before};
 use crate::simple::direction;
-use crate::statements::{handled, nested};
+use crate::statements::{handled, statements};
 use crate::words::{closing, end};
 use ada_lexer::Token;
 use ada_syntax::{Alternative, Branch, Declaration, LoopScheme, Statement, StatementKind};
@@ -22,12 +22,12 @@ use expression_parser::{Extent, Fault, Parsed, Parser, Symbol, behind, symbol_in
 
 /// `expr THEN stmts`
 #[cycle(statement)]
-fn branch<'a>(parser: Parser, depth: u32, tokens: &'a [Token]) -> Parsed<'a, Branch>
+fn branch<'a>(parser: Parser, tokens: &'a [Token]) -> Parsed<'a, Branch>
     ensures reads { ShowsAs branch_parts (Reads (at.at_branch parser.extent) tokens.now) result }
     ensures shorter { IfOk result (λ x. length x.1.now < length tokens.now) }
 {
     let (expr, rest) = expr_before(parser, Symbol::Then, tokens)?;
-    let ((condition, statements), rest) = paired(expr, nested(parser, depth, rest))?;
+    let ((condition, statements), rest) = paired(expr, statements(parser, rest))?;
     let branch = Branch {
         condition,
         statements,
@@ -38,14 +38,14 @@ fn branch<'a>(parser: Parser, depth: u32, tokens: &'a [Token]) -> Parsed<'a, Bra
 /// `{ELSIF expr THEN stmts}`
 #[cycle(statement)]
 #[tactic(auto, using(crate::proofs::CompoundCode::branches_rules))]
-fn branches<'a>(parser: Parser, depth: u32, tokens: &'a [Token]) -> Parsed<'a, Vec<Branch>>
+fn branches<'a>(parser: Parser, tokens: &'a [Token]) -> Parsed<'a, Vec<Branch>>
     ensures reads { ShowsAs (λ v. branches_of v.items) (Reads (at.at_branches parser.extent) tokens.now) result }
     ensures no_longer { IfOk result (λ x. length x.1.now ≤ length tokens.now) }
 {
     let mut rest = tokens;
     let mut branches = Vec::new(parser.alloc);
     while let Some(after) = behind(Symbol::Elsif, rest) {
-        let (branch, next) = branch(parser, depth, after)?;
+        let (branch, next) = branch(parser, after)?;
         branches.push(branch)?;
         rest = next;
     }
@@ -54,85 +54,71 @@ fn branches<'a>(parser: Parser, depth: u32, tokens: &'a [Token]) -> Parsed<'a, V
 
 /// `[ELSE stmts]`
 #[cycle(statement)]
-fn else_part<'a>(parser: Parser, depth: u32, tokens: &'a [Token]) -> Parsed<'a, Vec<Statement>>
+fn else_part<'a>(parser: Parser, tokens: &'a [Token]) -> Parsed<'a, Vec<Statement>>
     ensures reads { ShowsAs (λ v. v.items) (Reads (at.at_else parser.extent) tokens.now) result }
     ensures no_longer { IfOk result (λ x. length x.1.now ≤ length tokens.now) }
 {
     let Some(after) = behind(Symbol::Else, tokens) else {
         return Ok((Vec::new(parser.alloc), tokens));
     };
-    nested(parser, depth, after)
+    statements(parser, after)
 }
 
 /// `{ELSIF expr THEN stmts} [ELSE stmts] END IF ;` behind a first branch
 #[cycle(statement)]
-fn if_rest<'a>(
-    parser: Parser,
-    depth: u32,
-    tokens: &'a [Token],
-) -> Parsed<'a, (Vec<Branch>, Vec<Statement>)>
+fn if_rest<'a>(parser: Parser, tokens: &'a [Token]) -> Parsed<'a, (Vec<Branch>, Vec<Statement>)>
     ensures reads { ReadsIfRest (λ v. (branches_of v.0.items, v.1.items)) parser.extent tokens.now result }
     ensures shorter { IfOk result (λ x. length x.1.now < length tokens.now) }
 {
-    let (others, rest) = branches(parser, depth, tokens)?;
-    let (otherwise, rest) = else_part(parser, depth, rest)?;
+    let (others, rest) = branches(parser, tokens)?;
+    let (otherwise, rest) = else_part(parser, rest)?;
     let rest = closing(Symbol::If, rest)?;
     Ok(((others, otherwise), rest))
 }
 
 /// `expr THEN stmts {ELSIF expr THEN stmts} [ELSE stmts] END IF ;` behind `IF`
 #[cycle(statement)]
-fn if_statement<'a>(
-    parser: Parser,
-    depth: u32,
-    pos: Pos,
-    tokens: &'a [Token],
-) -> Parsed<'a, Statement>
+fn if_statement<'a>(parser: Parser, pos: Pos, tokens: &'a [Token]) -> Parsed<'a, Statement>
     ensures reads { Shows (Reads (at.at_if parser.extent pos) tokens.now) result }
     ensures shorter { IfOk result (λ x. length x.1.now < length tokens.now) }
 {
-    let (start, rest) = branch(parser, depth, tokens)?;
-    let ((first, (others, otherwise)), rest) = paired(start, if_rest(parser, depth, rest))?;
+    let (start, rest) = branch(parser, tokens)?;
+    let ((first, (others, otherwise)), rest) = paired(start, if_rest(parser, rest))?;
     let kind = StatementKind::If(first, others, otherwise);
     Ok((Statement { pos, kind }, rest))
 }
 
 /// `alt {alt} END CASE ;`
 #[cycle(statement)]
-fn case_arms<'a>(parser: Parser, depth: u32, tokens: &'a [Token]) -> Parsed<'a, Vec<Alternative>>
+fn case_arms<'a>(parser: Parser, tokens: &'a [Token]) -> Parsed<'a, Vec<Alternative>>
     ensures reads { ReadsCaseArms (λ v. alternatives_of v.items) parser.extent tokens.now result }
     ensures shorter { IfOk result (λ x. length x.1.now < length tokens.now) }
 {
-    let (alternatives, rest) = alternatives(parser, depth, tokens)?;
+    let (alternatives, rest) = alternatives(parser, tokens)?;
     let rest = closing(Symbol::Case, rest)?;
     Ok((alternatives, rest))
 }
 
 /// `expr IS alt {alt} END CASE ;` behind `CASE`
 #[cycle(statement)]
-fn case_statement<'a>(
-    parser: Parser,
-    depth: u32,
-    pos: Pos,
-    tokens: &'a [Token],
-) -> Parsed<'a, Statement>
+fn case_statement<'a>(parser: Parser, pos: Pos, tokens: &'a [Token]) -> Parsed<'a, Statement>
     ensures reads { Shows (Reads (at.at_case parser.extent pos) tokens.now) result }
     ensures shorter { IfOk result (λ x. length x.1.now < length tokens.now) }
 {
     let (expr, rest) = expr_before(parser, Symbol::Is, tokens)?;
-    let ((selector, alternatives), rest) = paired(expr, case_arms(parser, depth, rest))?;
+    let ((selector, alternatives), rest) = paired(expr, case_arms(parser, rest))?;
     let kind = StatementKind::Case(selector, alternatives);
     Ok((Statement { pos, kind }, rest))
 }
 
 /// `LOOP stmts END LOOP ;`
 #[cycle(statement)]
-fn loop_body<'a>(parser: Parser, depth: u32, tokens: &'a [Token]) -> Parsed<'a, Vec<Statement>>
+fn loop_body<'a>(parser: Parser, tokens: &'a [Token]) -> Parsed<'a, Vec<Statement>>
     ensures reads { ReadsLoopBody (λ v. v.items) parser.extent tokens.now result }
     ensures shorter { IfOk result (λ x. length x.1.now < length tokens.now) }
 {
     let rest = word(Symbol::Loop, tokens)?;
-    let (statements, rest) = nested(parser, depth, rest)?;
+    let (statements, rest) = statements(parser, rest)?;
     let rest = closing(Symbol::Loop, rest)?;
     Ok((statements, rest))
 }
@@ -141,7 +127,6 @@ fn loop_body<'a>(parser: Parser, depth: u32, tokens: &'a [Token]) -> Parsed<'a, 
 #[cycle(statement)]
 fn loop_rest<'a>(
     parser: Parser,
-    depth: u32,
     pos: Pos,
     scheme: LoopScheme,
     tokens: &'a [Token],
@@ -149,29 +134,24 @@ fn loop_rest<'a>(
     ensures reads { Shows (Reads (at.at_loop parser.extent pos scheme) tokens.now) result }
     ensures shorter { IfOk result (λ x. length x.1.now < length tokens.now) }
 {
-    let ((scheme, statements), rest) = paired(scheme, loop_body(parser, depth, tokens))?;
+    let ((scheme, statements), rest) = paired(scheme, loop_body(parser, tokens))?;
     let kind = StatementKind::Loop(scheme, statements);
     Ok((Statement { pos, kind }, rest))
 }
 
 /// `expr LOOP stmts END LOOP ;` behind `WHILE`
 #[cycle(statement)]
-fn while_loop<'a>(
-    parser: Parser,
-    depth: u32,
-    pos: Pos,
-    tokens: &'a [Token],
-) -> Parsed<'a, Statement>
+fn while_loop<'a>(parser: Parser, pos: Pos, tokens: &'a [Token]) -> Parsed<'a, Statement>
     ensures reads { Shows (Reads (at.at_while parser.extent pos) tokens.now) result }
     ensures shorter { IfOk result (λ x. length x.1.now < length tokens.now) }
 {
     let (condition, rest) = parser.expr(tokens)?;
-    loop_rest(parser, depth, pos, LoopScheme::While(condition), rest)
+    loop_rest(parser, pos, LoopScheme::While(condition), rest)
 }
 
 /// `id IN [REVERSE] range LOOP stmts END LOOP ;` behind `FOR`
 #[cycle(statement)]
-fn for_loop<'a>(parser: Parser, depth: u32, pos: Pos, tokens: &'a [Token]) -> Parsed<'a, Statement>
+fn for_loop<'a>(parser: Parser, pos: Pos, tokens: &'a [Token]) -> Parsed<'a, Statement>
     ensures reads { Shows (Reads (at.at_for parser.extent pos) tokens.now) result }
     ensures shorter { IfOk result (λ x. length x.1.now < length tokens.now) }
 {
@@ -180,14 +160,13 @@ fn for_loop<'a>(parser: Parser, depth: u32, pos: Pos, tokens: &'a [Token]) -> Pa
     let (direction, rest) = direction(rest);
     let (values, rest) = range(parser, rest)?;
     let scheme = LoopScheme::For(parameter, direction, values);
-    loop_rest(parser, depth, pos, scheme, rest)
+    loop_rest(parser, pos, scheme, rest)
 }
 
 /// `stmts [handlers] END ;` behind `BEGIN`
 #[cycle(statement)]
 fn block<'a>(
     parser: Parser,
-    depth: u32,
     pos: Pos,
     declarations: Option<Seq<Declaration>>,
     tokens: &'a [Token],
@@ -195,7 +174,7 @@ fn block<'a>(
     ensures reads { Shows (Reads (at.at_block parser.extent pos declarations) tokens.now) result }
     ensures shorter { IfOk result (λ x. length x.1.now < length tokens.now) }
 {
-    let (handled, rest) = handled(parser, depth, tokens)?;
+    let (handled, rest) = handled(parser, tokens)?;
     let rest = end(rest)?;
     let kind = StatementKind::Block(declarations, handled);
     Ok((Statement { pos, kind }, rest))
@@ -203,17 +182,12 @@ fn block<'a>(
 
 /// `{ldecl} BEGIN stmts [handlers] END ;` behind `DECLARE`
 #[cycle(statement)]
-fn declaring_block<'a>(
-    parser: Parser,
-    depth: u32,
-    pos: Pos,
-    tokens: &'a [Token],
-) -> Parsed<'a, Statement>
+fn declaring_block<'a>(parser: Parser, pos: Pos, tokens: &'a [Token]) -> Parsed<'a, Statement>
     ensures reads { Shows (Reads (at.at_declaring parser.extent pos) tokens.now) result }
     ensures shorter { IfOk result (λ x. length x.1.now < length tokens.now) }
 {
     let (declarations, rest) = declarations_to_begin(parser, tokens)?;
-    block(parser, depth, pos, Some(Seq::from(declarations)), rest)
+    block(parser, pos, Some(Seq::from(declarations)), rest)
 }
 
 /// The extent with which a statement with statements in it comes that begins with this word.
@@ -266,19 +240,19 @@ pub fn begins_compound(tokens: &[Token]) -> bool
 /// A statement with statements in it. `case` and `for` come with [`Extent::Types`], the others with
 /// [`Extent::Decisions`].
 #[cycle(statement)]
-pub fn compound<'a>(parser: Parser, depth: u32, tokens: &'a [Token]) -> Parsed<'a, Statement>
+pub fn compound<'a>(parser: Parser, tokens: &'a [Token]) -> Parsed<'a, Statement>
     ensures reads { Shows (Reads (at.at_compound parser.extent) tokens.now) result }
     ensures shorter { IfOk result (λ x. length x.1.now < length tokens.now) }
 {
     let ((word, pos), rest) = beginning(parser, tokens)?;
     match word {
-        Symbol::If => if_statement(parser, depth, pos, rest),
-        Symbol::Case => case_statement(parser, depth, pos, rest),
-        Symbol::Loop => loop_rest(parser, depth, pos, LoopScheme::Forever, tokens),
-        Symbol::While => while_loop(parser, depth, pos, rest),
-        Symbol::For => for_loop(parser, depth, pos, rest),
-        Symbol::Begin => block(parser, depth, pos, None, rest),
-        Symbol::Declare => declaring_block(parser, depth, pos, rest),
+        Symbol::If => if_statement(parser, pos, rest),
+        Symbol::Case => case_statement(parser, pos, rest),
+        Symbol::Loop => loop_rest(parser, pos, LoopScheme::Forever, tokens),
+        Symbol::While => while_loop(parser, pos, rest),
+        Symbol::For => for_loop(parser, pos, rest),
+        Symbol::Begin => block(parser, pos, None, rest),
+        Symbol::Declare => declaring_block(parser, pos, rest),
         _ => Err(Fault::Syntax(tokens)),
     }
 }

@@ -6,6 +6,10 @@
 //! the whole language, and [`parse_within`] for any extent. The tokens are read with one of them in
 //! view; that this reading is the derivation is proved in `proofs/`, for every extent.
 //!
+//! Statements may stand in one another as deep as the tokens say, and each level takes stack. The limit
+//! of nesting bounds the depth: who reads sources has `nested` of `ada_lexer` look at the tokens first, and
+//! parses none that pass it.
+//!
 //! The contract that the layers above use: [`parse`] answers the units that the tokens derive, or
 //! else, where they derive none, the place at which they are refused. [`count_nodes`] answers how many
 //! nodes these units have.

@@ -53,6 +53,18 @@ fn refused_at(rest: &[Token], tokens: &[Token]) -> Pos
     }
 }
 
+/// The failure of a file whose reading stops so: want of memory is told as itself, and a fault by its place.
+fn failure_of(fault: Fault<'_>, tokens: &[Token]) -> Failure<SyntaxFault>
+    ensures { result ≡ refusal.failure_of fault.entry tokens.now }
+{
+    match fault {
+        Fault::Syntax(rest) => Failure::Fault(SyntaxFault {
+            pos: refused_at(rest, tokens),
+        }),
+        Fault::Memory => Failure::WantOfMemory,
+    }
+}
+
 /// The library units of a file, from its tokens, within an extent of the grammar.
 #[tactic(auto, using(crate::proofs::RefusalLaws::parses))]
 pub fn parse_within(
@@ -67,10 +79,7 @@ pub fn parse_within(
 {
     match file(Parser { alloc, extent }, tokens) {
         Ok(units) => Ok(units),
-        Err(Fault::Syntax(rest)) => Err(Failure::Fault(SyntaxFault {
-            pos: refused_at(rest, tokens),
-        })),
-        Err(Fault::Memory) => Err(Failure::WantOfMemory),
+        Err(fault) => Err(failure_of(fault, tokens)),
     }
 }
 

@@ -10,10 +10,7 @@ use crate::compound::{begins_compound, compound};
 use crate::simple::simple;
 use ada_lexer::Token;
 use ada_syntax::{HandledStatements, Statement};
-use expression_parser::{Fault, Parsed, Parser, Symbol, symbol_in};
-
-/// How deep statements may stand in one another: each level takes stack.
-const DEPTH: u32 = 128;
+use expression_parser::{Parsed, Parser, Symbol, symbol_in};
 
 /// Whether the next token begins a statement.
 fn begins_statement(tokens: &[Token]) -> bool
@@ -42,12 +39,12 @@ fn begins_statement(tokens: &[Token]) -> bool
 
 /// A statement.
 #[cycle(statement)]
-fn statement<'a>(parser: Parser, depth: u32, tokens: &'a [Token]) -> Parsed<'a, Statement>
+fn statement<'a>(parser: Parser, tokens: &'a [Token]) -> Parsed<'a, Statement>
     ensures reads { Shows (Reads (at.at_statement parser.extent) tokens.now) result }
     ensures shorter { IfOk result (λ x. length x.1.now < length tokens.now) }
 {
     if begins_compound(tokens) {
-        return compound(parser, depth, tokens);
+        return compound(parser, tokens);
     }
     simple(parser, tokens)
 }
@@ -55,41 +52,29 @@ fn statement<'a>(parser: Parser, depth: u32, tokens: &'a [Token]) -> Parsed<'a, 
 /// `stmt {stmt}`
 #[cycle(statement)]
 #[tactic(auto, using(crate::proofs::StatementCode::statements_rules))]
-fn statements<'a>(parser: Parser, depth: u32, tokens: &'a [Token]) -> Parsed<'a, Vec<Statement>>
+pub fn statements<'a>(parser: Parser, tokens: &'a [Token]) -> Parsed<'a, Vec<Statement>>
     ensures reads { ShowsAs (λ v. v.items) (Reads (at.at_statements parser.extent) tokens.now) result }
     ensures shorter { IfOk result (λ x. length x.1.now < length tokens.now) }
 {
-    let (first, mut rest) = statement(parser, depth, tokens)?;
+    let (first, mut rest) = statement(parser, tokens)?;
     let mut statements = Vec::new(parser.alloc);
     statements.push(first)?;
     'rest: while begins_statement(rest) {
-        let (statement, next) = statement(parser, depth, rest)?;
+        let (statement, next) = statement(parser, rest)?;
         statements.push(statement)?;
         rest = next;
     }
     Ok((statements, rest))
 }
 
-/// `stmt {stmt}` within a statement. Where they stand too deep, memory is wanting.
-#[cycle(statement)]
-pub fn nested<'a>(parser: Parser, depth: u32, tokens: &'a [Token]) -> Parsed<'a, Vec<Statement>>
-    ensures reads { ShowsAs (λ v. v.items) (Reads (at.at_statements parser.extent) tokens.now) result }
-    ensures shorter { IfOk result (λ x. length x.1.now < length tokens.now) }
-{
-    let Some(depth) = depth.checked_sub(1) else {
-        return Err(Fault::Memory);
-    };
-    statements(parser, depth, tokens)
-}
-
 /// `stmts [handlers]`
 #[cycle(statement)]
-pub fn handled<'a>(parser: Parser, depth: u32, tokens: &'a [Token]) -> Parsed<'a, HandledStatements>
+pub fn handled<'a>(parser: Parser, tokens: &'a [Token]) -> Parsed<'a, HandledStatements>
     ensures reads { Shows (Reads (at.at_handled parser.extent) tokens.now) result }
     ensures shorter { IfOk result (λ x. length x.1.now < length tokens.now) }
 {
-    let (statements, rest) = nested(parser, depth, tokens)?;
-    let (handlers, rest) = handlers(parser, depth, rest)?;
+    let (statements, rest) = statements(parser, tokens)?;
+    let (handlers, rest) = handlers(parser, rest)?;
     let handled = HandledStatements {
         statements,
         handlers,
@@ -102,5 +87,5 @@ pub fn handled_statements<'a>(parser: Parser, tokens: &'a [Token]) -> Parsed<'a,
     ensures reads { Shows (Reads (at.at_handled parser.extent) tokens.now) result }
     ensures shorter { IfOk result (λ x. length x.1.now < length tokens.now) }
 {
-    handled(parser, DEPTH, tokens)
+    handled(parser, tokens)
 }

@@ -184,7 +184,7 @@ compound::branch-returns-in_err-condition-clause-reads t c =
     let p = err_from_is_err_and c.from_residual-in_err-condition.result c.from_residual-in_err-condition.ensures.1 in
     rw (p.1, p.2) (pair_fault (λ r. ShowsAs (λ v. v.items) (Reads (at.at_statements x) e.rest.now) r) e.expr (Reads (at.at_branch x) ts)
     (λ f k. part_fails (Reads (at.at_statements x) e.rest.now) (Reads (at.at_branch x) ts) f k (λ rest h. branch_empty x ts e.rest.now rest e.expr e.ensures.reads e.ensures.shorter h))
-    c.nested.result c.in_err-condition.field-0.0 c.nested.ensures.reads c.in_err-condition.ensures)
+    c.statements.result c.in_err-condition.field-0.0 c.statements.ensures.reads c.in_err-condition.ensures)
 
 pub compound::branch-returns-in_err-condition-clause-shorter : goal.compound::branch-returns-in_err-condition-clause-shorter
 compound::branch-returns-in_err-condition-clause-shorter t c = rw ((err_from_is_err_and c.from_residual-in_err-condition.result c.from_residual-in_err-condition.ensures.1).1) tt
@@ -196,13 +196,13 @@ compound::branch-returns-clause-reads t c =
     let e = c.in_ok-expr in
     let k = c.in_ok-condition in
     pair_done (λ r. ShowsAs (λ v. v.items) (Reads (at.at_statements x) e.rest.now) r) e.expr (λ z v vs. Reads (at.at_branch x) ts (Got (z, v.items) vs))
-    (λ v vs h. branch_read x ts e.rest.now vs.now e.expr v.items e.ensures.reads e.ensures.shorter h) c.nested.result k.condition k.statements k.rest c.nested.ensures.reads k.ensures
+    (λ v vs h. branch_read x ts e.rest.now vs.now e.expr v.items e.ensures.reads e.ensures.shorter h) c.statements.result k.condition k.statements k.rest c.statements.ensures.reads k.ensures
 
 pub compound::branch-returns-clause-shorter : goal.compound::branch-returns-clause-shorter
 compound::branch-returns-clause-shorter t c =
     let e = c.in_ok-expr in
     let k = c.in_ok-condition in
-    pair_below (length e.rest.now) (length c.args.tokens.now) (omega (arith, e.ensures.shorter)) e.expr c.nested.result (read_so (k.condition, k.statements) k.rest) c.nested.ensures.shorter k.ensures
+    pair_below (length e.rest.now) (length c.args.tokens.now) (omega (arith, e.ensures.shorter)) e.expr c.statements.result (read_so (k.condition, k.statements) k.rest) c.statements.ensures.shorter k.ensures
 
 pub compound::if_statement-returns-in_err-start-clause-reads : goal.compound::if_statement-returns-in_err-start-clause-reads
 compound::if_statement-returns-in_err-start-clause-reads t c =
@@ -402,10 +402,10 @@ pub compound::else_part-returns-in_default-clause-no_longer : goal.compound::els
 compound::else_part-returns-in_default-clause-no_longer t c = omega arith
 
 pub compound::else_part-returns-clause-reads : goal.compound::else_part-returns-clause-reads
-compound::else_part-returns-clause-reads t c = shown_so (λ v. v.items) (Reads (at.at_statements c.args.parser.extent) c.in-Some.after.now) (Reads (at.at_else c.args.parser.extent) c.args.tokens.now) c.nested.result c.nested.ensures.reads (λ q. an_else c.args.parser.extent c.args.tokens.now c.in-Some.after.now q (sym c.in-Some.ensures))
+compound::else_part-returns-clause-reads t c = shown_so (λ v. v.items) (Reads (at.at_statements c.args.parser.extent) c.in-Some.after.now) (Reads (at.at_else c.args.parser.extent) c.args.tokens.now) c.statements.result c.statements.ensures.reads (λ q. an_else c.args.parser.extent c.args.tokens.now c.in-Some.after.now q (sym c.in-Some.ensures))
 
 pub compound::else_part-returns-clause-no_longer : goal.compound::else_part-returns-clause-no_longer
-compound::else_part-returns-clause-no_longer t c = within_below c.args.tokens.now c.nested.result (below_behind c.args.tokens.now c.in-Some.after.now c.nested.result (omega (arith, ap length (after_some symbol.Else c.args.tokens.now c.in-Some.after.now (sym c.in-Some.ensures)).here)) c.nested.ensures.shorter)
+compound::else_part-returns-clause-no_longer t c = within_below c.args.tokens.now c.statements.result (below_behind c.args.tokens.now c.in-Some.after.now c.statements.result (omega (arith, ap length (after_some symbol.Else c.args.tokens.now c.in-Some.after.now (sym c.in-Some.ensures)).here)) c.statements.ensures.shorter)
 
 pub statements::handled-returns-in_err-statements-clause-reads : goal.statements::handled-returns-in_err-statements-clause-reads
 statements::handled-returns-in_err-statements-clause-reads t c =

@@ -34,9 +34,6 @@ decreases-statements::statement l = 32 * length l.tokens.now + 5
 abbrev pub decreases-statements::statements : goal.decreases-statements::statements
 decreases-statements::statements l = 32 * length l.tokens.now + 6
 
-abbrev pub decreases-statements::nested : goal.decreases-statements::nested
-decreases-statements::nested l = 32 * length l.tokens.now + 7
-
 abbrev pub decreases-statements::handled : goal.decreases-statements::handled
 decreases-statements::handled l = 32 * length l.tokens.now + 8
 
