@@ -11,7 +11,7 @@ use Rattle.clap.specs.ValueTests.{is_numeral}
 use Rattle.clap.specs.declared.error.kind.ErrorKind.{ErrorKind}
 use Rattle.clap.proofs.WalkLemmas.{both}
 use Rattle.cov_base.specs.declared.failure.Failure.{Failure}
-use Rattle.cov_base.specs.declared.failure.Failure.TheVariants.{Fault}
+use Rattle.cov_base.specs.declared.failure.Failure.TheVariants.{Fault, WantOfMemory}
 use Rattle.command_words.specs.Gives.{Gives}
 use Rattle.command_words.specs.Lines.{given, number_of, rows_unless}
 
@@ -22,6 +22,15 @@ pub gives-ok_or : {A B F : Type 0} (view : A → B) (wanted : Option B) (found :
     → Gives view wanted (ok_or {E = Failure F} found (Fault fault))
 gives-ok_or view wanted (Some a) fault e = sym e
 gives-ok_or view wanted None fault e = sym e
+
+-- any failure does where nothing is wanted
+pub fault-gives : {A B F : Type 0} (view : A → B) (wanted : Option B) (failure : Failure F) → wanted ≡ None → Gives view wanted (Err failure)
+fault-gives view wanted (Fault fault) e = e
+fault-gives view wanted WantOfMemory e = tt
+
+-- want of memory does always
+pub memory-gives : {A B F : Type 0} (view : A → B) (wanted : Option B) (failure : Failure F) → failure ≡ WantOfMemory → Gives view wanted (Err failure)
+memory-gives view wanted failure e = rw e tt
 
 -- ---- what clap gives
 

@@ -2,7 +2,7 @@
 
 ghost use Rattle.std.specs.Prelude.{◌≡◌, true, map, option_and_then, string_bytes, unwrap_or, [], IfOk};
 ghost use Rattle.clap.specs.Words.{all_of, app_of, first_of, found_of, is_simple_and_free, one_of, rows_of};
-ghost use Rattle.command_words.specs.Gives.{Gives};
+ghost use Rattle.command_words.specs.Gives.{Gives, failure_of};
 ghost use Rattle.command_words.specs.Lines.{given, number_of};
 
 use crate::command::Usage;
@@ -10,6 +10,17 @@ use clap::ArgMatches;
 use clap::error::ErrorKind;
 use cov_base::Failure;
 use std::alloc::{AllocError, Global};
+
+/// The failure of words in which an error of this kind was found: want of memory is told as itself, and whatever
+/// else was found, or asked for, is this crate's one fault.
+fn failure_of(kind: ErrorKind) -> Failure<Usage>
+    ensures { result ≡ failure_of kind }
+{
+    match kind {
+        ErrorKind::OutOfMemory => Failure::WantOfMemory,
+        _ => Failure::Fault(Usage),
+    }
+}
 
 /// What `line` finds in the words, of which the first is the command's name. Where it finds a fault,
 /// or is asked for help, the words are no command.
@@ -22,10 +33,7 @@ pub fn read<'a>(
 {
     match line.try_get_matches_from(words) {
         Ok(matches) => Ok(matches),
-        Err(error) => match error.kind() {
-            ErrorKind::OutOfMemory => Err(Failure::WantOfMemory),
-            _ => Err(Failure::Fault(Usage)),
-        },
+        Err(error) => Err(failure_of(error.kind())),
     }
 }
 
