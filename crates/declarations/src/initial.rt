@@ -14,7 +14,7 @@ use ada_entities::{Refusal, Subtype, refused};
 use ada_phrases::Step;
 use ada_syntax::Initial as Source;
 use ada_tree::{Initial, StaticValue};
-use cov_base::{Failure, Pos};
+use cov_base::{Failure, Pos, numbered};
 use object_values::value_place;
 use program_walk::{Accepted, Asks, Notes, Place, Symbols, Valued};
 use std::alloc::Global;
@@ -64,9 +64,7 @@ fn typed_value(
 ) -> Result<LibraryValue, Failure<Refusal>>
     ensures { IsTypedValue symbols.now pos subtype within others.now value result }
 {
-    let Ok(count) = u32::try_from(others.len()) else {
-        return Err(Failure::WantOfMemory);
-    };
+    let count = numbered(others.len())?;
     let Some(initial) = within.initial(count, value) else {
         return Err(refused(value_place(symbols, pos, subtype, others)?));
     };

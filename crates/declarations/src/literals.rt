@@ -7,6 +7,7 @@ ghost use Rattle.declarations.specs.Literals.{IsEnumeration, IsLiteral, Declares
 use ada_entities::{AdaType, Entity, Identity, ScalarType, Subtype};
 use ada_syntax::Identifier;
 use ada_tree::{Range, ScalarRange};
+use cov_base::signed_numbered;
 use program_walk::Symbols;
 use std::alloc::{AllocError, Global};
 
@@ -14,9 +15,7 @@ use std::alloc::{AllocError, Global};
 pub(crate) fn enumeration(identity: Identity, literals: usize) -> Result<Subtype, AllocError>
     ensures { IfOk result (IsEnumeration identity literals) }
 {
-    let Ok(count) = i32::try_from(literals) else {
-        return Err(AllocError);
-    };
+    let count = signed_numbered(literals)?;
     let range = Range {
         first: 0,
         last: count - 1,
@@ -31,10 +30,7 @@ pub(crate) fn enumeration(identity: Identity, literals: usize) -> Result<Subtype
 fn literal(of: AdaType, place: usize) -> Result<Entity, AllocError>
     ensures { IfOk result (IsLiteral of place) }
 {
-    match i32::try_from(place) {
-        Ok(position) => Ok(Entity::Literal(of, position)),
-        Err(_) => Err(AllocError),
-    }
+    Ok(Entity::Literal(of, signed_numbered(place)?))
 }
 
 /// Lets names of the innermost region denote the literals of a type, in order.

@@ -1,6 +1,6 @@
 //! Objects that are declared in a subprogram or a block (Ada RM 2012, 3.3.1).
 
-ghost use Rattle.std.specs.Prelude.{◌≡◌, ◌+◌, IfOk, OnOk};
+ghost use Rattle.std.specs.Prelude.{OnOk};
 ghost use Rattle.program_walk.specs.Going.{GoesInside, IsWalkOpen};
 ghost use Rattle.declarations.specs.Locals.{AddsLocal, AddsLocals, MakesBare, MakesSet};
 ghost use Rattle.program_walk.specs.Counting.{Starts};
@@ -8,7 +8,7 @@ ghost use Rattle.program_walk.specs.Counting.{Starts};
 use crate::objects::ObjectForm;
 use ada_syntax::Identifier;
 use ada_tree::{Declaration, NewValue, Object, Subtype as TreeSubtype};
-use cov_base::Pos;
+use cov_base::{Pos, number_behind};
 use program_walk::{Counts, Walk, Word};
 use std::alloc::{AllocError, Global};
 
@@ -49,13 +49,6 @@ pub(crate) fn add_locals(
     Ok(())
 }
 
-/// The number behind this one.
-fn next(number: u32) -> Result<u32, AllocError>
-    ensures { IfOk result (λ n. n ≡ number + 1) }
-{
-    number.checked_add(1).ok_or(AllocError)
-}
-
 /// Makes the declarations of as many objects without a value as there are names, with numbers from
 /// `first` on.
 pub(crate) fn make_bare(
@@ -69,7 +62,7 @@ pub(crate) fn make_bare(
     let mut number = first;
     for _ in names {
         made.push(Declaration::WithoutValue(number, tree))?;
-        number = next(number)?;
+        number = number_behind(number)?;
     }
     Ok(())
 }

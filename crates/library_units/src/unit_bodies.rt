@@ -1,6 +1,5 @@
 //! The bodies of all units of a library (Ada RM 2012, 7.2, 10.1).
 
-ghost use Rattle.std.specs.Prelude.{◌≡◌, IfOk};
 ghost use Rattle.unit_interfaces.specs.unit_walk.specs.Bodies.{PassesBodies, ComesToNamed, ComesToBodiesOf, ComesToAllBodies};
 
 use crate::package_bodies::package_body;
@@ -10,20 +9,10 @@ use ada_entities::{Refusal, key};
 use ada_library::{Library, item_name, seen, seen_in_body};
 use ada_phrases::Step;
 use ada_syntax::{LibraryItem, PackageBody, Unit};
-use cov_base::Failure;
+use cov_base::{Failure, numbered};
 use program_walk::Walk;
-use std::alloc::{AllocError, Global};
+use std::alloc::Global;
 use unit_interfaces::{UnitPlace, routine_of};
-
-/// The number of the unit at this index. A list with more than 2^32 - 1 items has no memory.
-fn numbered(index: usize) -> Result<u32, AllocError>
-    ensures { IfOk result (λ n. n ≡ index) }
-{
-    match u32::try_from(index) {
-        Ok(number) => Ok(number),
-        Err(_) => Err(AllocError),
-    }
-}
 
 /// The body of the package with the name of its unit, where there is such a package. Refused at the
 /// rules' own place.

@@ -16,9 +16,9 @@ ghost use Rattle.lower.specs.Entered.{all_entered_for, body_for, entered_for, pa
 use crate::choosing::first_number;
 use crate::compound::put_frame;
 use crate::context::{BodyContext, Signature};
-use crate::expressions::slot_behind;
 use ada_resolved::TypeForm;
 use ada_tree::{Block, Mode, Object, Parameter, Range};
+use cov_base::number_behind;
 use kernel_ir::{Code, Simple, Slot};
 use std::alloc::{AllocError, Global};
 
@@ -108,7 +108,7 @@ fn put_parameters(
             signature.instance,
             *parameter,
         )?;
-        argument = slot_behind(argument)?;
+        argument = number_behind(argument)?;
     }
     Ok(())
 }

@@ -12,11 +12,12 @@ ghost use Rattle.lower.specs.Context.{signature_for, site_for};
 ghost use Rattle.lower.specs.Pieces.{actual_for, call_for, loaded_on, variable_for};
 
 use crate::context::{BASE, BodyContext, Signature};
-use crate::expressions::{slot_behind, within};
+use crate::expressions::within;
 use crate::parts::{has_parts, put_located};
 use crate::value::put_value;
 use ada_resolved::TypeForm;
 use ada_tree::{Actual, Mode, Object, Parameter, Range, Target};
+use cov_base::{number_after, number_behind};
 use frame_widths::slots_of;
 use kernel_ir::{Code, Op, Simple, Slot};
 use std::alloc::{AllocError, Global};
@@ -77,13 +78,6 @@ impl BodyContext<'_> {
     }
 }
 
-/// The slot so many behind another. A frame of 2 ^ 32 words is too large for memory.
-pub(crate) fn slots_behind(slot: Slot, count: u32) -> Result<Slot, AllocError>
-    ensures { IfOk result (λ end. end ≡ slot + count) }
-{
-    slot.checked_add(count).ok_or(AllocError)
-}
-
 /// Puts the value of a variable behind code, for a scalar parameter: none for one of mode out.
 fn put_variable(
     context: &BodyContext,
@@ -111,7 +105,7 @@ fn put_loaded(code: &mut Code, address: Slot, taken: Taken) -> Result<(), AllocE
     if let Mode::Out = taken.mode {
         return Ok(());
     }
-    let to = slot_behind(address)?;
+    let to = number_behind(address)?;
     code.push_simple(Simple::Load { to, address })?;
     code.push_simple(within(to, taken.bounds))
 }
@@ -156,10 +150,10 @@ fn put_moves(code: &mut Code, width: Slot, from: Slot, actuals: &[Actual]) -> Re
     let mut behind = from;
     let mut to = width;
     for actual in actuals {
-        let next = slots_behind(behind, slots_of(actual))?;
+        let next = number_after(behind, slots_of(actual))?;
         code.push_simple(Simple::Move { to, from: next - 1 })?;
         behind = next;
-        to = slot_behind(to)?;
+        to = number_behind(to)?;
     }
     Ok(())
 }
@@ -188,7 +182,7 @@ pub(crate) fn put_call(
             context.taken(signature, place),
             actual,
         )?;
-        slot = slots_behind(slot, slots_of(actual))?;
+        slot = number_after(slot, slots_of(actual))?;
     }
     put_moves(code, context.width, to, actuals)?;
     let body = context.called(target)?;

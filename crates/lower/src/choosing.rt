@@ -10,12 +10,11 @@ ghost use Rattle.statement_code.specs.Values.{one, single};
 ghost use Rattle.lower.specs.Context.{names_for};
 ghost use Rattle.lower.specs.Choosing.{bounds_for, choice_for, choices_for, decided_for, exception_choice_for, exception_choices_for};
 
-use crate::calls::slots_behind;
 use crate::context::BodyContext;
-use crate::expressions::slot_behind;
 use crate::nodes::put_decision;
 use crate::value::{put_number, put_static, put_value};
 use ada_tree::{Choice, Decision, ExceptionChoice, ExceptionName, LoopRange, Range};
+use cov_base::{number_after, number_behind, signed_numbered};
 use kernel_ir::{Code, Op, Relation, Simple, Slot};
 use std::alloc::{AllocError, Global};
 
@@ -70,8 +69,8 @@ fn put_choice(
 ) -> Result<(), AllocError>
     ensures { OnOk result (code.new ≡ joined code.old (choice_for context.now slot (choice_of choice))) }
 {
-    let to = slot_behind(slot)?;
-    let bound = slots_behind(slot, 2)?;
+    let to = number_behind(slot)?;
+    let bound = number_after(slot, 2)?;
     match choice {
         Choice::Value(value) => {
             put_static(context, code, bound, value)?;
@@ -115,7 +114,7 @@ pub(crate) fn put_choices(
 ) -> Result<(), AllocError>
     ensures { OnOk result (code.new ≡ joined code.old (choices_for context.now slot (map choice_of choices.now))) }
 {
-    let to = slot_behind(slot)?;
+    let to = number_behind(slot)?;
     let Some((choice, others)) = choices.split_first() else {
         return put_number(code, to, 0);
     };
@@ -123,13 +122,6 @@ pub(crate) fn put_choices(
     let mut rest = Code::new(alloc);
     put_choices(alloc, context, &mut rest, slot, others)?;
     put_else(alloc, code, to, rest)
-}
-
-/// The number of an exception as a word. A program with 2 ^ 31 exceptions is too large for memory.
-fn number_of(exception: u32) -> Result<i32, AllocError>
-    ensures { IfOk result (λ n. n ≡ pos exception) }
-{
-    i32::try_from(exception).map_err(|_| AllocError)
 }
 
 /// Puts the number of an exception behind code, into a slot.
@@ -142,7 +134,7 @@ fn put_exception(
     ensures { OnOk result (code.new
         ≡ joined code.old (one (op.Number to (pos ((names_for context.now).exception (exception_of name)))))) }
 {
-    let number = number_of(context.exception(name)?)?;
+    let number = signed_numbered(context.exception(name)? as usize)?;
     put_number(code, to, number)
 }
 
@@ -156,8 +148,8 @@ fn put_exception_choice(
     ensures { OnOk result (code.new
         ≡ joined code.old (exception_choice_for context.now slot (exception_choice_of choice))) }
 {
-    let to = slot_behind(slot)?;
-    let named = slots_behind(slot, 2)?;
+    let to = number_behind(slot)?;
+    let named = number_after(slot, 2)?;
     match choice {
         ExceptionChoice::Exception(name) => {
             put_exception(context, code, named, name)?;
@@ -178,7 +170,7 @@ pub(crate) fn put_exception_choices(
     ensures { OnOk result (code.new
         ≡ joined code.old (exception_choices_for context.now slot (map exception_choice_of choices.now))) }
 {
-    let to = slot_behind(slot)?;
+    let to = number_behind(slot)?;
     let Some((choice, others)) = choices.split_first() else {
         return put_number(code, to, 0);
     };
@@ -218,7 +210,7 @@ pub(crate) fn put_bounds(
 ) -> Result<(), AllocError>
     ensures { OnOk result (code.new ≡ joined code.old (bounds_for context.now slot (turns_of values.now))) }
 {
-    let behind = slot_behind(slot)?;
+    let behind = number_behind(slot)?;
     match values {
         LoopRange::Subtype(range) => {
             let bounds = context.bounds(*range);

@@ -13,10 +13,8 @@ ghost use Rattle.lower.specs.Choosing.{bounds_for, decided_for};
 ghost use Rattle.lower.specs.Context.{home_for, home_of};
 ghost use Rattle.lower.specs.Stated.{all_for, alternatives_for, branches_for, exchange_by, frame_for, handlers_for, held_for, own_start_for, range_by, stated_for, step_of, turn_end};
 
-use crate::calls::slots_behind;
 use crate::choosing::{put_bounds, put_choices, put_compared, put_decided, put_exception_choices};
 use crate::context::{BodyContext, Home};
-use crate::expressions::slot_behind;
 use crate::procedures::put_procedure;
 use crate::sets::put_assignment;
 use crate::simple::{leaving, put_declarations, put_exit_when, put_raise, put_result, put_start};
@@ -25,6 +23,7 @@ use ada_tree::{
     Alternative, Block, Branch, Decision, Direction, ForScheme, Handler, Object, Statement,
     StatementKind,
 };
+use cov_base::{number_after, number_behind};
 use kernel_ir::{Code, Op, Relation, Simple, Slot};
 use std::alloc::{AllocError, Global};
 
@@ -66,7 +65,7 @@ fn put_turn_end(
 ) -> Result<(), AllocError>
     ensures { OnOk result (code.new ≡ joined code.old (turn_end bounds free (step_of direction))) }
 {
-    let last = slot_behind(bounds)?;
+    let last = number_behind(bounds)?;
     put_compared(code, free, Relation::Equal, bounds, last)?;
     let leaves = leaving(alloc)?;
     let mut next = Code::new(alloc);
@@ -90,7 +89,7 @@ fn put_range(
 ) -> Result<(), AllocError>
     ensures { OnOk result (code.new ≡ joined code.old (range_by bounds free (is_reversed direction) turn)) }
 {
-    let last = slot_behind(bounds)?;
+    let last = number_behind(bounds)?;
     put_compared(code, free, Relation::AtMost, bounds, last)?;
     let mut turns = Code::new(alloc);
     put_exchanged(&mut turns, bounds, last, free, direction)?;
@@ -325,7 +324,7 @@ fn put_alternatives(
     let Some((alternative, others)) = alternatives.split_first() else {
         return put_unfitted(code);
     };
-    let fits = slot_behind(slot)?;
+    let fits = number_behind(slot)?;
     put_choices(alloc, context, code, slot, alternative.choices.as_slice())?;
     let mut if_true = Code::new(alloc);
     put_all(
@@ -403,7 +402,7 @@ fn put_for(
         (all_for context.now (slot + 2) taken (statements_of statements.now))))) }
 {
     put_bounds(alloc, context, code, slot, &scheme.values)?;
-    let free = slots_behind(slot, 2)?;
+    let free = number_after(slot, 2)?;
     let mut turn = Code::new(alloc);
     turn.push_simple(Simple::Move {
         to: slot_of(context.home(Object::Local(scheme.parameter))),
@@ -458,7 +457,7 @@ fn put_handlers(
         return code.push_simple(Simple::RaiseSlot { slot });
     };
     put_exception_choices(alloc, context, code, slot, handler.choices.as_slice())?;
-    let behind = slot_behind(slot)?;
+    let behind = number_behind(slot)?;
     let mut if_true = Code::new(alloc);
     put_all(
         alloc,

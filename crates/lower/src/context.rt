@@ -10,7 +10,7 @@ use ada_tree::{
     Callee, ExceptionName, Mode, Object, Parameter, Range, ScalarRange, Static, Subprogram,
     Subtype, Target,
 };
-use cov_base::Seq;
+use cov_base::{Seq, number_behind};
 use generic_expand::BodyCopy;
 use kernel_ir::{Simple, Slot};
 use std::alloc::AllocError;
@@ -119,7 +119,7 @@ pub(crate) fn bodies_before(
         if body.instance.0 == instance && body.subprogram == subprogram {
             return Ok(before);
         }
-        before = before.checked_add(1).ok_or(AllocError)?;
+        before = number_behind(before)?;
     }
     Ok(before)
 }

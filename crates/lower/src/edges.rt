@@ -7,6 +7,7 @@ ghost use Rattle.lower.specs.Forms.{conditions_in, true_before, false_before};
 ghost use Rattle.statement_code.specs.Values.{past};
 
 use ada_tree::{ShortCircuit, Test, TestKind};
+use cov_base::number_after;
 use kernel_ir::Edge;
 use std::alloc::AllocError;
 
@@ -23,13 +24,6 @@ pub(crate) const OUTCOMES: Edges = Edges {
     on_false: Edge::Leaf(false),
 };
 
-/// The sum of two counts of nodes. As many as 2 ^ 32 are too many for memory.
-fn sum(left: u32, right: u32) -> Result<u32, AllocError>
-    ensures { IfOk result (λ n. n ≡ left + right) }
-{
-    left.checked_add(right).ok_or(AllocError)
-}
-
 /// How many conditions a test has.
 #[cycle(conditions)]
 fn conditions_of(test: &Test) -> Result<u32, AllocError>
@@ -39,7 +33,7 @@ fn conditions_of(test: &Test) -> Result<u32, AllocError>
         TestKind::Condition(..) => Ok(1),
         TestKind::Negation(operand) => conditions_of(operand),
         TestKind::ShortCircuit(_, first, others) => {
-            sum(conditions_of(first)?, conditions_in(others)?)
+            number_after(conditions_of(first)?, conditions_in(others)?)
         }
     }
 }
@@ -51,7 +45,7 @@ fn conditions_in(tests: &[Test]) -> Result<u32, AllocError>
 {
     let mut count = 0;
     for test in tests {
-        count = sum(count, conditions_of(test)?)?;
+        count = number_after(count, conditions_of(test)?)?;
     }
     Ok(count)
 }
@@ -62,7 +56,7 @@ fn past(conditions: u32, edge: Edge) -> Result<Edge, AllocError>
 {
     match edge {
         Edge::Leaf(outcome) => Ok(Edge::Leaf(outcome)),
-        Edge::NodeAfter(skipped) => Ok(Edge::NodeAfter(sum(conditions, skipped)?)),
+        Edge::NodeAfter(skipped) => Ok(Edge::NodeAfter(number_after(conditions, skipped)?)),
     }
 }
 

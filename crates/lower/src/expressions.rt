@@ -1,26 +1,18 @@
-//! Slots, and the operations that operators stand for (Ada RM 2012, 4.5).
+//! The operations that operators stand for (Ada RM 2012, 4.5).
 
-ghost use Rattle.std.specs.Prelude.{◌≡◌, ◌+◌, IfOk};
+ghost use Rattle.std.specs.Prelude.{◌≡◌};
 ghost use Rattle.ada_tree.specs.Programs.{bounds_of};
 ghost use Rattle.ada_tree.specs.View.{sign_of, operator_of, relation_of};
 ghost use Rattle.statement_code.specs.Values.{within, sign_on, operator_for, relation_for};
 
 use ada_tree::{Operator, Range, Relation, Sign};
 use kernel_ir::{Simple, Slot};
-use std::alloc::AllocError;
 
 /// The base range of each integer type, which is that of Integer too (RM 3.5.4).
 pub(crate) const INTEGER: Range = Range {
     first: i32::MIN,
     last: i32::MAX,
 };
-
-/// The slot behind another. A frame of 2 ^ 32 words is too large for memory.
-pub(crate) fn slot_behind(slot: Slot) -> Result<Slot, AllocError>
-    ensures { IfOk result (λ end. end ≡ slot + 1) }
-{
-    slot.checked_add(1).ok_or(AllocError)
-}
 
 /// Raises Constraint_Error unless a slot's value lies within a range.
 pub(crate) fn within(slot: Slot, range: Range) -> Simple

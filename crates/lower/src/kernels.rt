@@ -10,7 +10,7 @@ use crate::bodies::put_body;
 use crate::context::{BodyContext, Signature, bodies_before};
 use ada_resolved::TypeSizes;
 use ada_tree::{Program, Raisable, Subprogram};
-use cov_base::Seq;
+use cov_base::{Seq, number_after, numbered};
 use frame_widths::end_of_block;
 use generic_expand::{BodyCopy, Copies};
 use kernel_ir::{Body, Code, Kernel};
@@ -113,8 +113,7 @@ fn lower_bodies(alloc: Global, parts: KernelParts) -> Result<Seq<Body>, AllocErr
 fn exception_count(declared: &[Raisable]) -> Result<u32, AllocError>
     ensures { IfOk result (λ n. n ≡ 4 + length declared.now) }
 {
-    let declared = u32::try_from(declared.len()).map_err(|_| AllocError)?;
-    declared.checked_add(PREDEFINED).ok_or(AllocError)
+    number_after(numbered(declared.len())?, PREDEFINED)
 }
 
 /// The kernel of a program, with the copies of its bodies in their order: the code of each in its instance,

@@ -14,10 +14,10 @@ ghost use Rattle.lower.specs.Context.{shape_named, text};
 ghost use Rattle.lower.specs.Pieces.{located_for, parts_for};
 
 use crate::context::BodyContext;
-use crate::expressions::slot_behind;
 use crate::value::put_value;
 use ada_resolved::{RecordForm, TypeForm, TypeIn};
 use ada_tree::{Object, Owner, Range, Selector, Subtype};
+use cov_base::number_behind;
 use kernel_ir::{Code, Simple, Slot};
 use std::alloc::{AllocError, Global};
 
@@ -96,7 +96,7 @@ fn put_selector(
             Ok(Some(component(record, *place)))
         }
         (TypeForm::Array(range, component), Selector::Element(_, index)) => {
-            let behind = slot_behind(to)?;
+            let behind = number_behind(to)?;
             put_value(alloc, context, code, behind, index)?;
             code.push_simple(index_on(behind, range, context.sizes.words(component)))?;
             code.push_simple(Simple::Offset {

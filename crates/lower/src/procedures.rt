@@ -15,12 +15,13 @@ ghost use Rattle.statement_code.specs.Values.{one};
 ghost use Rattle.lower.specs.Context.{parameters_for, signature_for};
 ghost use Rattle.lower.specs.Procedures.{back_for, backs_for, get_for, input_for, kept_for, output_for, procedure_for, put_for, stored_for};
 
-use crate::calls::{parameter_at, put_call, slots_behind};
+use crate::calls::{parameter_at, put_call};
 use crate::context::{BASE, BodyContext, Signature};
-use crate::expressions::{slot_behind, within};
+use crate::expressions::within;
 use crate::parts::{has_parts, put_located};
 use crate::value::put_value;
 use ada_tree::{Actual, Expr, Mode, Object, ScalarRange, Selector, Target};
+use cov_base::{number_after, number_behind};
 use frame_widths::slots_of;
 use kernel_ir::{Code, Simple, Slot};
 use std::alloc::{AllocError, Global};
@@ -159,8 +160,8 @@ fn put_backs(
             context.returned(signature, place),
             actual,
         )?;
-        at = slots_behind(at, slots_of(actual))?;
-        from = slot_behind(from)?;
+        at = number_after(at, slots_of(actual))?;
+        from = number_behind(from)?;
     }
     Ok(())
 }
@@ -204,7 +205,7 @@ fn put_input(
         variable.object,
         variable.selectors,
     )?;
-    let from = slot_behind(slot)?;
+    let from = number_behind(slot)?;
     code.push_simple(Simple::Get { to: from })?;
     put_stored(context, code, slot, from, variable.range)
 }

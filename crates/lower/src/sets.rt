@@ -15,11 +15,12 @@ ghost use Rattle.lower.specs.declared.context.BodyContext.{BodyContext};
 ghost use Rattle.lower.specs.declared.sets.Setting.{Setting};
 
 use crate::context::BodyContext;
-use crate::expressions::{slot_behind, within};
+use crate::expressions::within;
 use crate::parts::{has_parts, part_of, put_located};
 use crate::value::put_value;
 use ada_resolved::{TypeForm, TypeIn};
 use ada_tree::{Expr, NewValue, Object, Owner, ScalarRange, Selector};
+use cov_base::number_behind;
 use kernel_ir::{Code, Op, Relation, Simple, Slot};
 use std::alloc::{AllocError, Global};
 
@@ -140,7 +141,7 @@ fn put_setting(
 fn turn(alloc: Global, next: Slot, end: Slot, component: Code) -> Result<Code, AllocError>
     ensures { IfOk result (λ code. code ≡ turn_code next end component) }
 {
-    let behind = slot_behind(end)?;
+    let behind = number_behind(end)?;
     let mut leaves = Code::new(alloc);
     leaves.push(Op::Exit)?;
     let mut code = Code::new(alloc);
@@ -200,7 +201,7 @@ fn put_others(
     let Some(component) = context.components(of) else {
         return Ok(());
     };
-    let behind = slot_behind(free)?;
+    let behind = number_behind(free)?;
     let mut one = Code::new(alloc);
     put_set(
         alloc,
@@ -307,6 +308,6 @@ pub(crate) fn put_assignment(
     }
     put_located(alloc, context, code, slot, object, selectors)?;
     let of = part_of(context, context.type_of(object), selectors);
-    let free = slot_behind(slot)?;
+    let free = number_behind(slot)?;
     put_new_value(alloc, context, code, slot, free, of, value)
 }

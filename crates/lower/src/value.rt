@@ -11,10 +11,11 @@ ghost use Rattle.lower.specs.Pieces.{expr_for, operands_for};
 
 use crate::calls::put_call;
 use crate::context::BodyContext;
-use crate::expressions::{operator_for, relation_for, sign_on, slot_behind, within};
+use crate::expressions::{operator_for, relation_for, sign_on, within};
 use crate::nodes::put_decision;
 use crate::parts::{has_parts, put_located};
 use ada_tree::{Expr, ExprKind, Operand, Relation, Static};
+use cov_base::number_behind;
 use kernel_ir::{Code, Simple, Slot};
 use std::alloc::{AllocError, Global};
 
@@ -109,7 +110,7 @@ fn put_relation(
         (expr_for context.now to (tree.relation (relation_of relation) left.now right.now))) }
 {
     put_value(alloc, context, code, to, left)?;
-    let behind = slot_behind(to)?;
+    let behind = number_behind(to)?;
     put_value(alloc, context, code, behind, right)?;
     code.push_simple(Simple::Compare {
         relation: relation_for(relation),
@@ -131,7 +132,7 @@ fn put_operands(
 ) -> Result<(), AllocError>
     ensures { OnOk result (code.new ≡ joined code.old (operands_for context.now to operands.now)) }
 {
-    let right = slot_behind(to)?;
+    let right = number_behind(to)?;
     for operand in operands {
         put_value(alloc, context, code, right, &operand.operand)?;
         code.push_simple(Simple::Arithmetic {

@@ -22,7 +22,7 @@ use ada_syntax::Identifier;
 use ada_tree::{
     Callee, FormalActual, Instance, Owner, Range, ScalarRange, Static, StaticValue, Target,
 };
-use cov_base::{Bytes, Pos, Seq};
+use cov_base::{Bytes, Pos, Seq, numbered};
 use program_walk::Symbols;
 use std::alloc::{AllocError, Global};
 
@@ -196,10 +196,7 @@ impl Lookup<'_> {
     {
         match generic {
             Some(unit) => Ok(unit),
-            None => match u32::try_from(self.symbols.count_units()) {
-                Ok(unit) => Ok(unit),
-                Err(_) => Err(AllocError),
-            },
+            None => numbered(self.symbols.count_units()),
         }
     }
 

@@ -36,7 +36,6 @@ pub use facts::Lookup;
 pub use generics::generic_named;
 pub use heads::packaged_head;
 pub use instantiation::Instantiation;
-pub use objects::number_behind;
 pub use passing::InstanceWalk;
 pub use routines::{body_number, enter_routine, new_routine, owner, subprogram_declared};
 pub use specification::specified;

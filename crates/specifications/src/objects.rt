@@ -1,6 +1,6 @@
 //! Parameters as objects of their subprogram (Ada RM 2012, 6.1, 6.2).
 
-ghost use Rattle.std.specs.Prelude.{◌≡◌, ◌+◌, nat_eq, not, IfOk, OnOk};
+ghost use Rattle.std.specs.Prelude.{◌≡◌, nat_eq, not, IfOk, OnOk};
 ghost use Rattle.ada_tree.specs.Programs.{mode_of};
 ghost use Rattle.ada_rules.specs.Environment.{exceeded, State};
 ghost use Rattle.ada_rules.specs.Subprograms as rules;
@@ -18,7 +18,7 @@ use ada_entities::{
 use ada_phrases::Decisions;
 use ada_syntax::Identifier;
 use ada_tree::{Mode, Object, Subtype as TreeSubtype};
-use cov_base::{Bytes, Pos};
+use cov_base::{Bytes, Pos, number_behind};
 use program_walk::{Marked, Symbols, Walk, Word};
 use std::alloc::{AllocError, Global};
 
@@ -68,13 +68,6 @@ pub fn tree_subtype(symbols: &Symbols, subtype: Subtype) -> Result<TreeSubtype, 
         return Err(AllocError);
     }
     Ok(subtype_in_tree(subtype))
-}
-
-/// The number behind this one. One beyond 2^32 - 1 has no memory.
-pub fn number_behind(number: u32) -> Result<u32, AllocError>
-    ensures { IfOk result (λ n. n ≡ number + 1) }
-{
-    number.checked_add(1).ok_or(AllocError)
 }
 
 /// Whether the parameter with this number is the first one beyond the limit.

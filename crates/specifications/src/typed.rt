@@ -9,9 +9,10 @@ ghost use Rattle.program_walk.specs.Walks.{returning_of};
 ghost use Rattle.specifications.specs.Typed.{AreTyped, IsHeadOf};
 
 use crate::conformance::Profile;
-use crate::objects::{number_behind, tree_subtype};
+use crate::objects::tree_subtype;
 use ada_entities::{Parameter, ResultMark};
 use ada_tree::Parameter as TreeParameter;
+use cov_base::number_behind;
 use program_walk::{Returning, Symbols};
 use std::alloc::{AllocError, Global};
 

@@ -1,13 +1,13 @@
 //! The exceptions of a program in their order (Ada RM 2012, 11.1, 12.3).
 
-ghost use Rattle.std.specs.Prelude.{◌≡◌, ◌+◌, ◌++◌, map, IfOk, OnOk};
+ghost use Rattle.std.specs.Prelude.{◌≡◌, ◌≤◌, ◌+◌, ◌^◌, ◌++◌, map, IfOk, IfErr, OnOk};
 ghost use Rattle.ada_meaning.specs.Obligations.{in_order, is_listed_before};
 ghost use Rattle.ada_meaning.specs.Obligations as meaning;
 ghost use Rattle.ada_tree.specs.Programs.{exception_declaration_of, instance_of, raisable_of};
 ghost use Rattle.typed_program.specs.Exceptions.{entry_of, in_one, is_before, raised};
 
 use ada_tree::{ExceptionDeclaration, Instance, Raisable};
-use cov_base::{Pos, Seq};
+use cov_base::{Pos, Seq, number_behind, numbered};
 use std::alloc::{AllocError, Global};
 
 /// An exception with its place in the order: that of its instance, and among those of one instance that
@@ -46,12 +46,10 @@ fn push_in(
 
 /// The number of the instance at a place; instances are numbered from 1.
 fn number_at(index: usize) -> Result<u32, AllocError>
-    ensures { IfOk result (λ n. n ≡ index + 1) }
+    ensures number { IfOk result (λ n. n ≡ index + 1) }
+    ensures refused { IfErr result (λ e. 2 ^ 32 ≤ index + 1) }
 {
-    let Ok(number) = u32::try_from(index) else {
-        return Err(AllocError);
-    };
-    number.checked_add(1).ok_or(AllocError)
+    number_behind(numbered(index)?)
 }
 
 /// Adds one for each instance of the generic.

@@ -8,18 +8,9 @@ use ada_entities::{Interface, key};
 use ada_library::Library;
 use ada_syntax::{LibraryItem, PackageBody, Unit, node_count};
 use ada_tree::{UnitEntry, UnitRole};
+use cov_base::numbered;
 use program_walk::{Symbols, generic_of};
 use std::alloc::{AllocError, Global};
-
-/// The number of the unit at this index. A list with more than 2^32 - 1 items has no memory.
-fn numbered(index: usize) -> Result<u32, AllocError>
-    ensures { IfOk result (λ n. n ≡ index) }
-{
-    match u32::try_from(index) {
-        Ok(number) => Ok(number),
-        Err(_) => Err(AllocError),
-    }
-}
 
 /// How often what belongs to the text of a generic counts, or of none.
 fn text_role(generic: Option<u32>) -> UnitRole

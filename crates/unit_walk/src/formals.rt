@@ -20,9 +20,9 @@ use ada_entities::{
 };
 use ada_syntax::{Formal, FormalKind as Source, Identifier, Name, Specification};
 use ada_tree::{Callee, Owner, ScalarRange, StaticValue};
-use cov_base::Failure;
+use cov_base::{Failure, number_behind};
 use program_walk::{Context, Counts, Symbols, Walk};
-use specifications::{Profile, enter_routine, number_behind, owner, profile_alone};
+use specifications::{Profile, enter_routine, owner, profile_alone};
 use std::alloc::{AllocError, Global};
 
 /// The identity of the next type or subtype of the unit.

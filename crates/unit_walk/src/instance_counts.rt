@@ -6,7 +6,7 @@ ghost use Rattle.unit_walk.specs.Instances.{Precedes};
 
 use ada_demands::{Facts, Instances};
 use ada_syntax::{LibraryItem, Unit};
-use cov_base::Seq;
+use cov_base::{Seq, numbered};
 use std::alloc::{AllocError, Global};
 
 /// Adds the place of an instance, where a unit is one. Its generic is the number behind those of all
@@ -36,9 +36,7 @@ fn add_place(
 pub fn instances_before(alloc: Global, units: &[Unit]) -> Result<Instances, AllocError>
     ensures { IfOk result (λ i. i ≡ facts_before (length units.now) units.now) }
 {
-    let Ok(count) = u32::try_from(units.len()) else {
-        return Err(AllocError);
-    };
+    let count = numbered(units.len())?;
     let mut instances = Instances::new(alloc);
     for unit in units {
         add_place(alloc, &mut instances, count, unit)?;

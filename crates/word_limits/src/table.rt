@@ -1,6 +1,6 @@
 //! The table of types: a row for each, by those before it (Ada RM 2012, 3.2, 12.3).
 
-ghost use Rattle.std.specs.Prelude.{◌≡◌, ◌+◌, ◌++◌, List, IfOk, OnOk};
+ghost use Rattle.std.specs.Prelude.{◌≡◌, ◌≤◌, ◌+◌, ◌^◌, ◌++◌, List, IfOk, IfErr, OnOk};
 ghost use Rattle.ada_meaning.specs.Types as type;
 ghost use Rattle.ada_rules.specs.Limits.{words_in};
 ghost use Rattle.ada_rules.specs.Statics as rules;
@@ -14,17 +14,15 @@ use crate::ranges::Scope;
 use crate::rows::{Entry, Row, composite_words};
 use ada_demands::{Facts, Instances};
 use ada_tree::{CompositeType, TypeDeclaration};
-use cov_base::Seq;
+use cov_base::{Seq, number_behind, numbered};
 use std::alloc::{AllocError, Global};
 
 /// The number of the instance at a place; instances are numbered from 1.
 fn number_at(index: usize) -> Result<u32, AllocError>
-    ensures { IfOk result (λ n. n ≡ index + 1) }
+    ensures number { IfOk result (λ n. n ≡ index + 1) }
+    ensures refused { IfErr result (λ e. 2 ^ 32 ≤ index + 1) }
 {
-    let Ok(number) = u32::try_from(index) else {
-        return Err(AllocError);
-    };
-    number.checked_add(1).ok_or(AllocError)
+    number_behind(numbered(index)?)
 }
 
 /// Adds the number of an instance, where it is one of this generic.

@@ -18,7 +18,7 @@ use crate::words::WordTable;
 use ada_entities::Interface;
 use ada_syntax::Unit;
 use ada_tree::Subtype;
-use cov_base::Pos;
+use cov_base::{Pos, numbered};
 use program_walk::{Symbols, UnitWords};
 use std::alloc::{AllocError, Global};
 
@@ -137,13 +137,6 @@ fn words_at(
     }
 }
 
-/// The number of the unit at a place.
-fn number_at(index: usize) -> Result<u32, AllocError>
-    ensures { IfOk result (λ n. n ≡ index) }
-{
-    u32::try_from(index).map_err(|_| AllocError)
-}
-
 /// The first unit at which the objects of the library level pass their limit.
 pub(crate) fn first_unit(
     table: &WordTable<'_>,
@@ -156,7 +149,7 @@ pub(crate) fn first_unit(
 {
     let mut before = 0;
     for (index, unit) in units.iter().enumerate() {
-        let more = words_at(table, symbols, number_at(index)?, found)?;
+        let more = words_at(table, symbols, numbered(index)?, found)?;
         match sum_within(Limit::Library.most(), before, more) {
             Some(all) => before = all,
             None => return Ok(Some(unit.pos)),

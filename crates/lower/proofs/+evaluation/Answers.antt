@@ -44,7 +44,7 @@ calls::put_call-loop-place-preserved t c =
     let ctx = c.args.context.now in
     one_actual ctx c.loop-place.slot c.in_ok-slot.slot c.loop-place.place (parameters_for ctx (target_of c.args.target)) _ c.args.actuals.now c.index-actuals-place.result c.index-actuals-place.result
     _ _ c.loop-place.code c.put_actual.new.code c.loop-place-test.true c.index-actuals-place.is c.signature-signature.ensures c.taken.ensures.mode c.taken.ensures.bounds
-    c.in_ok-put_actual.ensures (c.in_ok-slot.ensures ∙ ap (λ n. c.loop-place.slot + n) c.slots_of.ensures)
+    c.in_ok-put_actual.ensures (c.in_ok-slot.ensures.number ∙ ap (λ n. c.loop-place.slot + n) c.slots_of.ensures)
     ∙ c.loop-place.invariant
 
 pub calls::put_call-returns :
@@ -135,9 +135,9 @@ parts::put_selector-returns-in_ok-push_simple-in-Array-Element-2 t c =
     λ rest. rw (c.in-Array-Element.is-1, c.in-Some.is)
     (element_put c.args.context.now c.args.to c.words.result _ _ b (scalar_range_of c.in-Array-Element.field-0-1) c.in-Array-Element.index
     c.args.code.now c.put_value.new.code c.push_simple-in-Array-Element.new.self c.push_simple-in-Array-Element-2.new.self rest
-    c.in-Array-Element.ensures.shape c.words.ensures.words (rw c.in_ok-behind-in-Array-Element.ensures at c.in_ok-put_value-in-Array-Element.ensures)
-    (rw (c.index_on.ensures, c.in_ok-behind-in-Array-Element.ensures) at c.in_ok-push_simple-in-Array-Element.ensures.ok)
-    (rw c.in_ok-behind-in-Array-Element.ensures at c.in_ok-push_simple-in-Array-Element-2.ensures.ok))
+    c.in-Array-Element.ensures.shape c.words.ensures.words (rw c.in_ok-behind-in-Array-Element.ensures.number at c.in_ok-put_value-in-Array-Element.ensures)
+    (rw (c.index_on.ensures, c.in_ok-behind-in-Array-Element.ensures.number) at c.in_ok-push_simple-in-Array-Element.ensures.ok)
+    (rw c.in_ok-behind-in-Array-Element.ensures.number at c.in_ok-push_simple-in-Array-Element-2.ensures.ok))
 
 pub value::put_operands-put_value-requires :
     goal.value::put_operands-put_value-requires
@@ -165,7 +165,7 @@ value::put_relation-returns t c =
     let k = c.args.to in
     three_then c.push_simple.result c.args.code.now c.put_value.new.code c.put_value-2.new.code c.push_simple.new.self
     (expr_for c.args.context.now k c.args.left.now) (expr_for c.args.context.now (k + 1) c.args.right.now) (one (relation_on k (relation_of c.args.relation)))
-    c.in_ok-put_value.ensures (rw c.in_ok-behind.ensures at c.in_ok-put_value-2.ensures) (rw (c.relation_for.ensures, c.in_ok-behind.ensures) at c.push_simple.ensures.ok)
+    c.in_ok-put_value.ensures (rw c.in_ok-behind.ensures.number at c.in_ok-put_value-2.ensures) (rw (c.relation_for.ensures, c.in_ok-behind.ensures.number) at c.push_simple.ensures.ok)
 
 pub value::put_value-put_operands-requires :
     goal.value::put_value-put_operands-requires

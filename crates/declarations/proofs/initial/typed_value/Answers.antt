@@ -9,15 +9,15 @@ use Rattle.declarations.specs.Within.{initial_within}
 use Rattle.declarations.specs.Initials.{with_known}
 use Rattle.declarations.proofs.initial.typed_value.Goals as goal
 
-pub returns-in_default-initial : goal.returns-in_default-initial
-returns-in_default-initial c known k b n =
-    let found = sym (ap (λ m. initial_within k.types m (valued_of k c.args.value) c.args.within) c.in-Ok.ensures.1)
-    ∙ (sym (c.initial.ensures k) ∙ ap (option_map initial_of) c.in_default-initial.is) in
+pub returns-in_default : goal.returns-in_default
+returns-in_default c known k b n =
+    let found = sym (ap (λ m. initial_within k.types m (valued_of k c.args.value) c.args.within) c.in_ok-count.ensures.number)
+    ∙ (sym (c.initial.ensures k) ∙ ap (option_map initial_of) c.in_default.is) in
     rw (c.refused.ensures, c.in_ok-value_place.ensures known k b) (none_refused (value_place c.args.pos (subtype_in k c.args.subtype) c.args.others.now) (with_known c.args.others.now (valued_of k c.args.value) n) _ found)
 
 pub returns : goal.returns
 returns c known k b n =
-    let found = sym (ap (λ m. initial_within k.types m (valued_of k c.args.value) c.args.within) c.in-Ok.ensures.1)
+    let found = sym (ap (λ m. initial_within k.types m (valued_of k c.args.value) c.args.within) c.in_ok-count.ensures.number)
     ∙ (sym (c.initial.ensures k) ∙ ap (option_map initial_of) c.in-Some.is) in
     some_passes (value_place c.args.pos (subtype_in k c.args.subtype) c.args.others.now) (with_known c.args.others.now (valued_of k c.args.value) n) _ _ found
     ∙ ap (λ o. Ok (given (record { initial = initial_of c.in-Some.initial; known = o }) n)) (sym (c.known_value.ensures k))

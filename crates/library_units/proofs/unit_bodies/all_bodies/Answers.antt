@@ -46,7 +46,7 @@ returns-in_err-unit_body-clause-comes c all l idle same k world before begins =
     let there = stands_still x c.args.instances.now old middle k world goes before b in
     subst (λ ys. Refuses (all_bodies_judged step l world (state_of k old) 0 ys).answer f) same
     (turn_refused step l world (state_of k old) (state_of k middle) us i (c.loop-index.invariant.rest all l idle same k world before b) u (omega arith)
-    c.index-units-index.is c.in_ok-number.number c.in_ok-number.ensures f (c.in_err-unit_body.ensures.comes all l now same k world there begins))))
+    c.index-units-index.is c.in_ok-number.number c.in_ok-number.ensures.number f (c.in_err-unit_body.ensures.comes all l now same k world there begins))))
 
 pub returns-in_err-unit_body-clause-passes : goal.returns-in_err-unit_body-clause-passes
 returns-in_err-unit_body-clause-passes c all l idle same =
@@ -74,7 +74,7 @@ loop-index-preserved c = record {
       let there = stands_still x c.args.instances.now old middle k world goes before m in
       let walked = c.in_ok-unit_body.ensures.comes all l now same k world there b in
       turn_passes step l world (state_of k old) (state_of k middle) us i (c.loop-index.invariant.rest all l idle same k world before m) u (omega arith)
-      c.index-units-index.is c.in_ok-number.number c.in_ok-number.ensures (state_of k new) walked.comes;
+      c.index-units-index.is c.in_ok-number.number c.in_ok-number.ensures.number (state_of k new) walked.comes;
   goes = λ all l idle same.
       let goes = c.loop-index.invariant.goes all l idle same in
       let now = still_idle c.args.library.now all l c.args.walk.now c.loop-index.walk idle goes in

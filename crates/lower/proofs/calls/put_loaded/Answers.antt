@@ -16,4 +16,4 @@ returns c =
     let b = bounds_of c.args.taken.bounds in
     in_words c.push_simple-2.result c.args.code.now c.push_simple-2.new.self _ _ (sym (with_value c.args.taken.mode _ c.in_default.not-Out))
     (then_put c.push_simple-2.result c.args.code.now c.push_simple.new.self c.push_simple-2.new.self (one (op.Load (k + 1) k)) (one (within (k + 1) b))
-    (rw c.in_ok-to.ensures at c.in_ok-push_simple.ensures.ok) (rw (c.within.ensures, c.in_ok-to.ensures) at c.push_simple-2.ensures.ok))
+    (rw c.in_ok-to.ensures.number at c.in_ok-push_simple.ensures.ok) (rw (c.within.ensures, c.in_ok-to.ensures.number) at c.push_simple-2.ensures.ok))

@@ -19,4 +19,4 @@ returns t c =
     (then_put c.put_else.result c.args.code.now c.put_choice.new.code c.put_else.new.code (choice_for c.args.context.now k (choice_of c.in-Some.choice.now)) (single (choose (k + 1) no_op rest))
     c.in_ok-put_choice.ensures
     (in_words c.put_else.result c.put_choice.new.code c.put_else.new.code _ _
-    (λ s. single (choose (c.in_ok-to.ensures s) no_op ((c.in_ok-put_choices.ensures ∙ ap (λ z. joined z rest) c.new-rest.ensures) s))) c.put_else.ensures))
+    (λ s. single (choose (c.in_ok-to.ensures.number s) no_op ((c.in_ok-put_choices.ensures ∙ ap (λ z. joined z rest) c.new-rest.ensures) s))) c.put_else.ensures))

@@ -18,11 +18,11 @@ returns-in_ok-push_simple-in-Subtype c =
     (one (op.Number k ((names_for c.args.context.now).bounds r).low)) (one (op.Number (k + 1) ((names_for c.args.context.now).bounds r).high))
     (c.in_ok-push_simple-in-Subtype.ensures.ok ∙ ap (joined c.args.code.now) (ap one c.first_number.ensures ∙ ap (λ b. one (op.Number k b.low)) c.bounds-bounds.ensures))
     (in_words c.push_simple-in-Subtype.result c.push_simple.new.self c.push_simple-in-Subtype.new.self _ _
-    (ap one c.last_number.ensures ∙ (λ s. one (op.Number (c.in_ok-behind.ensures s) (c.bounds-bounds.ensures s).high))) c.push_simple-in-Subtype.ensures.ok))
+    (ap one c.last_number.ensures ∙ (λ s. one (op.Number (c.in_ok-behind.ensures.number s) (c.bounds-bounds.ensures s).high))) c.push_simple-in-Subtype.ensures.ok))
 
 pub returns-in_ok-put_value-in-Bounds : goal.returns-in_ok-put_value-in-Bounds
 returns-in_ok-put_value-in-Bounds c =
     let k = c.args.slot in
     rw c.in-Bounds.is
     (then_put c.put_value-in-Bounds.result c.args.code.now c.put_value.new.code c.put_value-in-Bounds.new.code (expr_for c.args.context.now k c.in-Bounds.low) (expr_for c.args.context.now (k + 1) c.in-Bounds.high)
-    c.in_ok-put_value-in-Bounds.ensures (rw c.in_ok-behind.ensures at c.put_value-in-Bounds.ensures))
+    c.in_ok-put_value-in-Bounds.ensures (rw c.in_ok-behind.ensures.number at c.put_value-in-Bounds.ensures))

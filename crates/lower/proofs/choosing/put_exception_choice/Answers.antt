@@ -13,4 +13,4 @@ returns-in_ok-put_exception-in-Exception c =
     rw c.in-Exception.is
     (then_put c.put_compared.result c.args.code.now c.put_exception.new.code c.put_compared.new.code
     (one (op.Number (k + 2) (pos ((names_for c.args.context.now).exception (exception_of c.in-Exception.name))))) (one (op.Compare relation.Equal (k + 1) k (k + 2)))
-    (rw c.in_ok-named.ensures at c.in_ok-put_exception-in-Exception.ensures) (rw (c.in_ok-to.ensures, c.in_ok-named.ensures) at c.put_compared.ensures))
+    (rw c.in_ok-named.ensures.number at c.in_ok-put_exception-in-Exception.ensures) (rw (c.in_ok-to.ensures.number, c.in_ok-named.ensures.number) at c.put_compared.ensures))

@@ -49,7 +49,7 @@ put_alternatives-returns t c =
     (then_put c.push.result c.args.code.now c.put_choices.new.code c.push.new.self (choices_for c.args.context.now k (map choice_of x.choices)) (single (choose (k + 1) stated rest))
     (rw c.as_slice.ensures at c.in_ok-put_choices.ensures)
     (in_words c.push.result c.put_choices.new.code c.push.new.self _ _
-    (λ s. single (choose (c.in_ok-fits.ensures s)
+    (λ s. single (choose (c.in_ok-fits.ensures.number s)
     ((c.in_ok-put_all.ensures ∙ (λ r. joined (c.new-if_true.ensures r) (all_for c.args.context.now k c.args.taken (statements_of (c.deref.ensures.value r))))) s)
     ((c.in_ok-put_alternatives.ensures ∙ ap (λ y. joined y rest) c.new-if_false.ensures) s)))
     c.push.ensures.ok))
@@ -65,8 +65,8 @@ put_handlers-returns t c =
     (then_put c.push.result c.args.code.now c.put_exception_choices.new.code c.push.new.self (exception_choices_for c.args.context.now k (map exception_choice_of x.choices)) (single (choose (k + 1) stated rest))
     (rw c.as_slice.ensures at c.in_ok-put_exception_choices.ensures)
     (in_words c.push.result c.put_exception_choices.new.code c.push.new.self _ _
-    (λ s. single (choose (c.in_ok-behind.ensures s)
-    ((c.in_ok-put_all.ensures ∙ (λ r. joined (c.new-if_true.ensures r) (all_for c.args.context.now (c.in_ok-behind.ensures r) k (statements_of (c.deref.ensures.value r))))) s)
+    (λ s. single (choose (c.in_ok-behind.ensures.number s)
+    ((c.in_ok-put_all.ensures ∙ (λ r. joined (c.new-if_true.ensures r) (all_for c.args.context.now (c.in_ok-behind.ensures.number r) k (statements_of (c.deref.ensures.value r))))) s)
     ((c.in_ok-put_handlers.ensures ∙ ap (λ y. joined y rest) c.new-if_false.ensures) s)))
     c.push.ensures.ok))
 
@@ -80,10 +80,10 @@ put_for-returns t c =
     then_put c.put_range.result c.args.code.now c.put_bounds.new.code c.put_range.new.code (bounds_for c.args.context.now k (turns_of x.values)) (range_code k (k + 2) d (is_reversed x.direction) stated)
     c.in_ok-put_bounds.ensures
     (in_words c.put_range.result c.put_bounds.new.code c.put_range.new.code _ _
-    (ap (λ f. range_by k f (is_reversed x.direction) c.put_turn_end.new.code) c.in_ok-free.ensures
+    (ap (λ f. range_by k f (is_reversed x.direction) c.put_turn_end.new.code) c.in_ok-free.ensures.number
     ∙ range_put k (k + 2) d x.direction stated c.new-turn.result c.push_simple.new.self c.put_all.new.code c.put_turn_end.new.code c.new-turn.ensures
     (c.in_ok-push_simple.ensures.ok ∙ ap (λ s. joined c.new-turn.result (one (op.Move s k))) (c.slot_of.ensures ∙ ap slot_of c.home.ensures))
-    (rw c.in_ok-free.ensures at c.in_ok-put_all.ensures) (rw c.in_ok-free.ensures at c.in_ok-put_turn_end.ensures))
+    (rw c.in_ok-free.ensures.number at c.in_ok-put_all.ensures) (rw c.in_ok-free.ensures.number at c.in_ok-put_turn_end.ensures))
     c.put_range.ensures)
 
 pub put_frame-returns-then-not-has_handlers :

@@ -17,9 +17,9 @@ returns c =
     let rev = is_reversed c.args.direction in
     let turns : c.push.new.self ≡ joined (exchange_by h (h + 1) k rev) (single (for_loop c.args.turn)) =
     two_put c.new-turns.result c.put_exchanged.new.code c.push.new.self (exchange_by h (h + 1) k rev) (single (for_loop c.args.turn))
-    (rw c.in_ok-last.ensures at c.in_ok-put_exchanged.ensures) c.in_ok-push.ensures.ok
+    (rw c.in_ok-last.ensures.number at c.in_ok-put_exchanged.ensures) c.in_ok-push.ensures.ok
     ∙ ap (λ x. joined x (joined (exchange_by h (h + 1) k rev) (single (for_loop c.args.turn)))) c.new-turns.ensures in
     then_put c.push-2.result c.args.code.now c.put_compared.new.code c.push-2.new.self (one (op.Compare relation.AtMost k h (h + 1)))
     (single (choose k (joined (exchange_by h (h + 1) k rev) (single (for_loop c.args.turn))) no_op))
-    (rw c.in_ok-last.ensures at c.in_ok-put_compared.ensures)
+    (rw c.in_ok-last.ensures.number at c.in_ok-put_compared.ensures)
     (in_words c.push-2.result c.put_compared.new.code c.push-2.new.self _ _ (λ s. single (choose k (turns s) (c.new.ensures s))) c.push-2.ensures.ok)

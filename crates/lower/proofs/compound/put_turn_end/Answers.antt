@@ -17,5 +17,5 @@ returns c =
     let next : c.push_simple.new.self ≡ one (op.Advance h h step) =
     c.in_ok-push_simple.ensures.ok ∙ ap (joined c.new-next.result) (ap one c.next_value.ensures) ∙ ap (λ x. joined x (one (op.Advance h h step))) c.new-next.ensures in
     then_put c.push.result c.args.code.now c.put_compared.new.code c.push.new.self (one (op.Compare relation.Equal k h (h + 1))) (single (choose k (single exit) (one (op.Advance h h step))))
-    (rw c.in_ok-last.ensures at c.in_ok-put_compared.ensures)
+    (rw c.in_ok-last.ensures.number at c.in_ok-put_compared.ensures)
     (in_words c.push.result c.put_compared.new.code c.push.new.self _ _ (λ s. single (choose k (c.in_ok-leaves.ensures s) (next s))) c.push.ensures.ok)

@@ -24,7 +24,7 @@ conditions_of-returns-in_ok-conditions_in-in-ShortCircuit t c =
     let first = c.in-ShortCircuit.first.value in
     let others = c.in-ShortCircuit.others.items in
     rw (← c.test.view_is, c.in-ShortCircuit.is)
-    (count_is c.sum.result _ _ _ c.sum.ensures
+    (count_is c.number_after.result _ _ _ c.number_after.ensures.number
     (omega (
       arith,
       form_conditions (neutral_of c.in-ShortCircuit.field-0) first others,

@@ -13,9 +13,9 @@ loop-place-preserved c =
     let h = c.loop-place.invariant in (
       one_back ctx c.loop-place.at c.in_ok-at.at c.loop-place.place c.loop-place.from (parameters_for ctx (target_of c.args.target)) _ c.args.actuals.now c.index-actuals-place.result c.index-actuals-place.result
           _ _ c.loop-place.code c.put_back.new.code c.loop-place-test.true c.index-actuals-place.is c.signature-signature.ensures c.returned.ensures.mode c.returned.ensures.words h.1
-          c.in_ok-put_back.ensures (c.in_ok-at.ensures ∙ ap (λ n. c.loop-place.at + n) c.slots_of.ensures)
+          c.in_ok-put_back.ensures (c.in_ok-at.ensures.number ∙ ap (λ n. c.loop-place.at + n) c.slots_of.ensures)
           ∙ h.0,
-      omega (arith, h.1, c.in_ok-from.ensures),
+      omega (arith, h.1, c.in_ok-from.ensures.number),
     )
 
 pub returns : goal.returns

@@ -30,4 +30,4 @@ returns c =
     (sym (part_gotten c.args.context.now k c.args.variable.object c.args.variable.selectors.now c.args.variable.range (sym c.has_parts.ensures ∙ c.if-not-has_parts.false)))
     (three_then c.put_stored.result c.args.code.now c.put_located.new.code c.push_simple-2.new.self c.put_stored.new.code
     (located_for c.args.context.now k o parts) (one (op.Get (k + 1))) (stored_for c.args.context.now k (k + 1) c.args.variable.range)
-    c.in_ok-put_located.ensures (rw c.in_ok-from.ensures at c.in_ok-push_simple-2.ensures.ok) (rw c.in_ok-from.ensures at c.put_stored.ensures))
+    c.in_ok-put_located.ensures (rw c.in_ok-from.ensures.number at c.in_ok-push_simple-2.ensures.ok) (rw c.in_ok-from.ensures.number at c.put_stored.ensures))

@@ -25,7 +25,7 @@ put_others-returns t c =
     let v = others_of c.args.inner.now (setting_of c.args.setting) in
     others_put c.args.context.now c.push.result k j (words (shape_named (text c.args.context.now) c.args.of)) (shape_named (text c.args.context.now) c.args.of) c.in-Some.component v
     c.args.code.now c.push_simple.new.self c.push.new.self c.new-one.result c.put_set.new.code c.put_next.new.code c.in_ok-turn.turn
-    c.new-one.ensures (rw c.in_ok-behind.ensures at c.in_ok-put_set.ensures) (c.in_ok-put_next.ensures _ c.args.setting c.words.ensures.words)
+    c.new-one.ensures (rw c.in_ok-behind.ensures.number at c.in_ok-put_set.ensures) (c.in_ok-put_next.ensures _ c.args.setting c.words.ensures.words)
     (c.in_ok-push_simple.ensures.ok ∙ ap (λ x. joined c.args.code.now (one x)) c.advanced.ensures
     ∙ ap (λ n. joined c.args.code.now (one (op.Advance j k (pos n)))) c.words-2.ensures.words)
     c.in_ok-turn.ensures

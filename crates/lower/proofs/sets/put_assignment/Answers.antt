@@ -19,5 +19,5 @@ returns c =
     (then_put c.put_new_value.result c.args.code.now c.put_located.new.code c.put_new_value.new.code (located_for ctx k o parts)
     (set_for ctx k (k + 1) (part_shape (shape_for ctx o) parts) v) c.in_ok-put_located.ensures
     (in_words c.put_new_value.result c.put_located.new.code c.put_new_value.new.code _ _
-    ((λ s. set_for ctx k (c.in_ok-free.ensures s) (c.part_of-of.ensures s) v) ∙ ap (λ t. set_for ctx k (k + 1) (part_shape (shape_named (text ctx) t) parts) v) c.type_of.ensures)
+    ((λ s. set_for ctx k (c.in_ok-free.ensures.number s) (c.part_of-of.ensures s) v) ∙ ap (λ t. set_for ctx k (k + 1) (part_shape (shape_named (text ctx) t) parts) v) c.type_of.ensures)
     c.put_new_value.ensures))

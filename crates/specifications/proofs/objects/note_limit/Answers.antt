@@ -9,7 +9,7 @@ loop-name-init c s = refl
 pub loop-name-preserved : goal.loop-name-preserved
 loop-name-preserved c s =
     sym (turn_limit c.args.names.now c.loop-name.name-index _ c.loop-name-test.true c.name-item.is c.loop-name.number _ (counted c.loop-name.decisions s) _
-    c.in_ok-number.ensures (c.in_ok-note_excess.ensures s))
+    c.in_ok-number.ensures.number (c.in_ok-note_excess.ensures s))
     ∙ c.loop-name.invariant s
 
 pub returns : goal.returns

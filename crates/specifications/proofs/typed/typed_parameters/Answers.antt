@@ -13,7 +13,7 @@ loop-parameter-init c known k b =
 pub loop-parameter-preserved : goal.loop-parameter-preserved
 loop-parameter-preserved c known k b =
     turn_typed k c.args.parameters.now c.loop-parameter.parameter-index _ c.loop-parameter.typed.items _ c.loop-parameter.number _
-    c.in_ok-subtype.subtype c.loop-parameter-test.true c.parameter-item.is c.in_ok-number.ensures (c.in_ok-subtype.ensures known k b)
+    c.in_ok-subtype.subtype c.loop-parameter-test.true c.parameter-item.is c.in_ok-number.ensures.number (c.in_ok-subtype.ensures known k b)
     c.in_ok-push.ensures.items
     ∙ c.loop-parameter.invariant known k b
 

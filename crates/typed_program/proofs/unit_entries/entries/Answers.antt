@@ -9,7 +9,7 @@ pub loop-index-preserved : goal.loop-index-preserved
 loop-index-preserved c =
     one_more c.args.library.now c.args.symbols.now.units c.args.units.now c.loop-index.index c.loop-index.entries.items c.push.new.self.items
     c.in_ok-number.number c.index-units-index.result c.in_ok-entry.entry c.loop-index.invariant (omega arith) c.index-units-index.is
-    c.in_ok-number.ensures c.in_ok-entry.ensures c.in_ok-push.ensures.items
+    c.in_ok-number.ensures.number c.in_ok-entry.ensures c.in_ok-push.ensures.items
 
 pub returns : goal.returns
 returns c =

@@ -19,7 +19,7 @@ loop-formal-preserved c = record {
       let before = inside_continues middle new goes k b in
       let r = c.loop-formal.invariant.rest k env h before in
       reaches_next c.args.context.now c.args.walk.now middle k env c.args.formals.now c.loop-formal.formal-index c.loop-formal.place r _ new _
-      c.loop-formal-test.true c.formal-item.is c.in_ok-place.ensures goes b
+      c.loop-formal-test.true c.formal-item.is c.in_ok-place.ensures.number goes b
       (c.in_ok-formal_declared.ensures.comes _ k r.here_now r.stands b);
   inside = λ h.
       let a = c.loop-formal.invariant.inside h in

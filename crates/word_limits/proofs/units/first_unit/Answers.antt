@@ -16,7 +16,7 @@ loop-index-preserved c w h =
     let before = c.loop-index.before in
     let units = c.args.units.now in
     let u = c.index-units-index.result in
-    let number = c.in_ok-number_at.ensures in
+    let number = c.in_ok-numbered.ensures.number in
     unit_fits w us i before c.in_ok-more.more u (drop (i + 1) units) c.in-Some.all
     (c.in_ok-more.ensures h.k h.actuals w h.interfaces ∙ (λ z. capped (words_by (sym h.facts z) (number z) (interface_of w (number z)) us)))
     (ap (λ m. counted_on m before c.in_ok-more.more) (sym c.most.ensures) ∙ sym c.sum_within.ensures ∙ c.in-Some.is)
@@ -31,7 +31,7 @@ returns-in-None c w h =
     let before = c.loop-index.before in
     let units = c.args.units.now in
     let u = c.index-units-index.result in
-    let number = c.in_ok-number_at.ensures in
+    let number = c.in_ok-numbered.ensures.number in
     unit_passes w us i before c.in_ok-more.more u (drop (i + 1) units)
     (c.in_ok-more.ensures h.k h.actuals w h.interfaces ∙ (λ z. capped (words_by (sym h.facts z) (number z) (interface_of w (number z)) us)))
     (ap (λ m. counted_on m before c.in_ok-more.more) (sym c.most.ensures) ∙ sym c.sum_within.ensures ∙ c.in-None.is)
