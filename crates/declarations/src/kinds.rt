@@ -50,7 +50,7 @@ fn type_declared(
     ensures comes { DeclaresAlone context.now walk.old walk.new pos (declares.Type name.now definition.now) result }
     ensures goes { IsWalkOpen walk.old → GoesOn walk.old walk.new result }
 {
-    walk.symbols.declare(alloc, name, Entity::Hidden)?;
+    walk.symbols.declare(alloc, name)?;
     let identity = new_identity(context, &mut walk.counts)?;
     let subtype = defined(alloc, context, walk, identity, definition)?;
     let found = &mut walk.found;
@@ -73,7 +73,7 @@ fn subtype_declared(
     ensures comes { DeclaresAlone context.now walk.old walk.new pos (declares.Subtype name.now indication.now) result }
     ensures goes { IsWalkOpen walk.old → GoesOn walk.old walk.new result }
 {
-    walk.symbols.declare(alloc, name, Entity::Hidden)?;
+    walk.symbols.declare(alloc, name)?;
     let identity = new_identity(context, &mut walk.counts)?;
     let place = context.place(&walk.symbols);
     let subtype = place.indicated(alloc, &mut walk.notes, indication)?;

@@ -9,6 +9,7 @@ pub mod MarkLaws
 pub mod CompositeLaws
 pub mod Parts
 pub mod WalkLaws
+pub mod AloneLaws
 pub mod HideLaws
 pub mod Commuting
 pub mod PartLaws

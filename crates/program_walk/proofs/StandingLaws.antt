@@ -96,7 +96,7 @@ text_among k d rs =
     ∙ (ap (λ o. unwrap_or o []) (sym (slice_get-map (region_of k) (reverse rs) d))
     ∙ ap (λ xs. unwrap_or (slice_get xs d) []) (map_reverse (region_of k) rs))
 
-text_same : (k l : Tables) (rs : List (List (List ℕ × Entity))) → regions_of k rs ≡ regions_of l rs
+pub text_same : (k l : Tables) (rs : List (List (List ℕ × Entity))) → regions_of k rs ≡ regions_of l rs
     → region_of k (region_at text_depth rs) ≡ region_of l (region_at text_depth rs)
 text_same k l rs h = text_among k text_depth rs ∙ (ap (at_depth text_depth) h ∙ sym (text_among l text_depth rs))
 

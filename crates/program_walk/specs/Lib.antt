@@ -3,6 +3,7 @@ pub mod Alike
 pub mod SymbolViews
 pub mod Sites
 pub mod Exact
+pub mod Alone
 pub mod Changes
 pub mod Leading
 pub mod Marks

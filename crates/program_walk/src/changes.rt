@@ -3,8 +3,10 @@
 ghost use Rattle.std.specs.Prelude.{◌≡◌, slice_get, IfOk, IfErr, OnOk};
 ghost use Rattle.std.specs.Option.{option_copied};
 ghost use Rattle.ada_rules.specs.Entities.{key};
+ghost use Rattle.ada_entities.specs.declared.entity.Entity.TheVariants as entity;
 ghost use Rattle.ada_entities.specs.RegionCode.{RefusesName, innermost};
 ghost use Rattle.program_walk.specs.Alike.{IsKnownRegion};
+ghost use Rattle.program_walk.specs.Alone.{IsRoutineAlone};
 ghost use Rattle.program_walk.specs.Leading.{IsUnitEntity};
 ghost use Rattle.program_walk.specs.Changes.{Grows, ChangesInside, DeclaresInside, RedefinesInside, IsOpen, HidesAll, RefusesNames, Opens, Reopens, Closes, Continues, ShowsUnit, IsFresh, IsTypeOf, IsInstance, IsSubprogram, IsInOwnText, IsNumbered, ShowsKnown};
 
@@ -62,25 +64,17 @@ impl Symbols {
         self.regions.close(alloc)
     }
 
-    /// Declares a name in the innermost region; where it is declared there already, the declaration is
-    /// refused at it (RM 8.3). An entity whose numbers lead nowhere has no memory. After a refusal the
-    /// innermost region is gone.
-    pub fn declare(
-        &mut self,
-        alloc: Global,
-        name: &Identifier,
-        entity: Entity,
-    ) -> Result<(), Failure<Refusal>>
-        ensures declared { OnOk result (DeclaresInside self.old self.new name.now entity) }
+    /// Declares a name in the innermost region, where it is hidden until its declaration ends; where it is
+    /// declared there already, the declaration is refused at it (RM 8.3). After a refusal the innermost
+    /// region is gone.
+    pub fn declare(&mut self, alloc: Global, name: &Identifier) -> Result<(), Failure<Refusal>>
+        ensures declared { OnOk result (DeclaresInside self.old self.new name.now entity.Hidden) }
         ensures inside { OnOk result (ChangesInside self.old self.new) }
-        ensures refused { IfErr result (RefusesName (innermost self.old.regions) name.now entity) }
+        ensures refused { IfErr result (RefusesName (innermost self.old.regions) name.now entity.Hidden) }
         ensures continues { Continues self.old self.new }
     {
-        if !self.extent.knows_entity(entity) {
-            return Err(Failure::WantOfMemory);
-        }
         let mut region = self.regions.close(alloc);
-        region.declare(alloc, name, entity)?;
+        region.declare(alloc, name, Entity::Hidden)?;
         self.regions.open(region)?;
         Ok(())
     }
@@ -94,7 +88,7 @@ impl Symbols {
         ensures continues { Continues self.old self.new }
     {
         for name in names {
-            self.declare(alloc, name, Entity::Hidden)?;
+            self.declare(alloc, name)?;
         }
         Ok(())
     }
@@ -219,6 +213,13 @@ impl Symbols {
         if number as usize >= self.extent.routines {
             return None;
         }
+        self.routines.get(number)
+    }
+
+    /// The same by all that is there: none where there are not as many.
+    pub fn routine(&self, number: u32) -> Option<&Routine>
+        ensures { IsRoutineAlone self.now number result }
+    {
         self.routines.get(number)
     }
 

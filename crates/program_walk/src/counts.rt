@@ -1,13 +1,13 @@
 //! The counters of the walk.
 
-ghost use Rattle.std.specs.Prelude.{◌≡◌, ◌+◌, IfOk, OnOk};
+ghost use Rattle.std.specs.Prelude.{◌≡◌, IfOk, OnOk};
 ghost use Rattle.ada_tree.specs.View.{label_of};
 ghost use Rattle.ada_rules.specs.Environment.{beginning_state, State};
 ghost use Rattle.program_walk.specs.States.{with_counts};
 ghost use Rattle.program_walk.specs.Counting.{IsLabel, Starts, CountsObject, CountsLibraryObject, CountsException, CountsType};
 
 use ada_tree::Label;
-use cov_base::Pos;
+use cov_base::{Pos, number_behind};
 use std::alloc::AllocError;
 
 /// The next numbers: of statements, of objects of the subprogram and of the library level, of exceptions,
@@ -19,13 +19,6 @@ pub struct Counts {
     pub library_objects: u32,
     pub exceptions: u32,
     pub types: u32,
-}
-
-/// The number behind this one.
-fn next(number: u32) -> Result<u32, AllocError>
-    ensures { IfOk result (λ n. n ≡ number + 1) }
-{
-    number.checked_add(1).ok_or(AllocError)
 }
 
 impl Counts {
@@ -48,7 +41,7 @@ impl Counts {
         ensures taken { OnOk result (Starts self.old self.new) }
     {
         let number = self.statements;
-        self.statements = next(number)?;
+        self.statements = number_behind(number)?;
         Ok(Label { number, place: pos })
     }
 
@@ -58,7 +51,7 @@ impl Counts {
         ensures taken { OnOk result (CountsObject self.old self.new) }
     {
         let number = self.objects;
-        self.objects = next(number)?;
+        self.objects = number_behind(number)?;
         Ok(number)
     }
 
@@ -68,7 +61,7 @@ impl Counts {
         ensures taken { OnOk result (CountsLibraryObject self.old self.new) }
     {
         let number = self.library_objects;
-        self.library_objects = next(number)?;
+        self.library_objects = number_behind(number)?;
         Ok(number)
     }
 
@@ -78,7 +71,7 @@ impl Counts {
         ensures taken { OnOk result (CountsException self.old self.new) }
     {
         let number = self.exceptions;
-        self.exceptions = next(number)?;
+        self.exceptions = number_behind(number)?;
         Ok(number)
     }
 
@@ -88,7 +81,7 @@ impl Counts {
         ensures taken { OnOk result (CountsType self.old self.new) }
     {
         let number = self.types;
-        self.types = next(number)?;
+        self.types = number_behind(number)?;
         Ok(number)
     }
 }

@@ -53,7 +53,7 @@ pub fn complete(
 {
     match symbols.find_inside(alloc, name)? {
         None => {
-            symbols.declare(alloc, name, Entity::Hidden)?;
+            symbols.declare(alloc, name)?;
             Ok(None)
         }
         Some(entity) => match awaiting_body(entity) {

@@ -140,7 +140,7 @@ pub fn subprogram_declared(
     ensures goes { IsWalkOpen walk.old → GoesOn walk.old walk.new result }
 {
     let name = &specification.name;
-    walk.symbols.declare(alloc, name, Entity::Hidden)?;
+    walk.symbols.declare(alloc, name)?;
     let profile = profile_alone(alloc, context, walk, specification)?;
     let Some(body) = body_number(alloc, context, name)? else {
         return Err(refused(specification.pos));

@@ -5,15 +5,19 @@ use Rattle.std.proofs.lemmas.List.{length-map}
 use Rattle.ada_meaning.specs.Tree as tree
 use Rattle.ada_meaning.specs.Types.{Owner, here, of_instance}
 use Rattle.ada_rules.specs.Entities as rules
+use Rattle.ada_rules.specs.Denoted as names
 use Rattle.ada_rules.specs.Denoted.{called_bare}
 use Rattle.ada_rules.specs.Statements.{procedure_called, call_of, writable}
 use Rattle.ada_entities.specs.declared.routines.Routine.{Routine}
-use Rattle.ada_entities.specs.EntityViews.{Tables, routine_by}
+use Rattle.ada_entities.specs.EntityViews.{Tables, no_routine, routine_by}
 use Rattle.ada_entities.specs.RoutineViews.{result_of, routine_in}
 use Rattle.ada_phrases.specs.Routines.{callee_by}
 use Rattle.ada_phrases.specs.declared.names.Denoted.{Denoted}
 use Rattle.ada_phrases.specs.declared.names.Denoted.TheVariants as denoted
 use Rattle.ada_phrases.specs.DenotedView.{denotes}
+use Rattle.ada_tree.specs.declared.label.Label.{Label}
+use Rattle.ada_tree.specs.View.{label_of}
+use Rattle.statement_parts.specs.Calls.{called_alone}
 
 -- a procedure has no result, however it is seen
 has_result : {A B : Type 0} (f : A → B) (o : Option A) → is_none (option_map f o) ≡ is_none o
@@ -61,6 +65,23 @@ filled (x ∷ xs) h = ne_eqb (length (x ∷ xs)) 0 (λ e. omega (arith, e))
 pub not_bare : {A : Type 0} (k : Tables) (o : Owner) (r : Routine) (x : Option A) → (r.parameters ≡ [] → ⊥) → None ≡ called_bare (routine_by k o (routine_in k r)) x
 not_bare k o r x some =
     sym (ap (λ b. if b then x else None) (seen_length k o (routine_in k r) ∙ (mapped_length _ r.parameters ∙ filled r.parameters some)))
+
+-- what names nothing is called as it stands
+pub nobody_called : (k : Tables) (l : tree.Label) (o : Owner) (actuals : tree.Actuals)
+    → Some (tree.procedure_call l tree.test_put actuals) ≡ procedure_called l (routine_by k o no_routine) actuals
+nobody_called k l here actuals = refl
+nobody_called k l (of_instance n) actuals = refl
+
+pub nobody_alone : (k : Tables) (l : Label) (o : Owner)
+    → Some (tree.procedure_call (label_of l) tree.test_put tree.no_actual) ≡ called_alone l (routine_by k o no_routine)
+nobody_alone k l here = refl
+nobody_alone k l (of_instance n) = refl
+
+-- the subprogram that a name calls, where it calls one
+abbrev pub routine_called : names.Denoted → rules.Routine
+routine_called (names.a_routine r) = r
+routine_called (names.a_call r actuals) = r
+routine_called d = no_routine
 
 -- what is no call
 pub other_call : (k : Tables) (l : tree.Label) (d : Denoted) → ((r : _) → d ≡ denoted.Routine r → ⊥) → ((r : _) (actuals : _) → d ≡ denoted.Call r actuals → ⊥)

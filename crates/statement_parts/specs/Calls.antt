@@ -6,6 +6,7 @@ use Rattle.ada_tree.specs.declared.label.Label.{Label}
 use Rattle.ada_tree.specs.declared.types.Owner.{Owner}
 use Rattle.ada_tree.specs.View.{owner_of, label_of, actuals_of}
 use Rattle.ada_rules.specs.Denoted.{called_bare}
+use Rattle.ada_rules.specs.Entities as entities
 use Rattle.ada_rules.specs.Statements as rules
 use Rattle.ada_entities.specs.declared.entity.RoutineName.{RoutineName}
 use Rattle.ada_entities.specs.declared.routines.Routine.{Routine}
@@ -14,29 +15,35 @@ use Rattle.ada_entities.specs.RoutineViews.{routine_in}
 use Rattle.ada_phrases.specs.declared.names.Denoted.{Denoted}
 use Rattle.ada_phrases.specs.DenotedView.{denotes}
 use Rattle.object_values.specs.program_walk.specs.declared.symbols.Symbols.{Symbols}
-use Rattle.object_values.specs.program_walk.specs.SymbolViews.{Begins, IsKnown}
+use Rattle.object_values.specs.program_walk.specs.Alone.{IsAlike, IsRoutineAlike}
 use Rattle.statement_parts.specs.Simple.{in_tree}
 
--- a call of this subprogram, as it is seen
+-- a call of this subprogram, as it is seen, with actuals and without
 abbrev pub IsProcedureCall : Label → Routine → Owner → List Actual → Option tree.Stmt → Type 0
 IsProcedureCall l r o actuals found =
-    (k : Tables)
+    (k here : Tables)
     → option_map (in_tree k) found
-    ≡ rules.procedure_called (label_of l) (routine_by k (owner_of o) (routine_in k r)) (actuals_of actuals)
+    ≡ rules.procedure_called (label_of l) (routine_by here (owner_of o) (routine_in here r)) (actuals_of actuals)
 
--- what a symbol table has of a statement, whatever tables begin with it
-abbrev pub IsFound : Symbols → (Tables → Option tree.Stmt) → Option tree.Stmt → Type 0
-IsFound symbols wanted found =
-    IsKnown symbols → (k : Tables) → Begins symbols k → option_map (in_tree k) found ≡ wanted k
+abbrev pub called_alone : Label → entities.Routine → Option tree.Stmt
+called_alone l r = called_bare r (rules.procedure_called (label_of l) r tree.no_actual)
 
+abbrev pub IsBareProcedureCall : Label → Routine → Owner → Option tree.Stmt → Type 0
+IsBareProcedureCall l r o found =
+    (k here : Tables)
+    → option_map (in_tree k) found ≡ called_alone l (routine_by here (owner_of o) (routine_in here r))
+
+-- the same by a name, in tables where it names what it names by all that is there
 abbrev pub IsCall : Symbols → Label → RoutineName → List Actual → Option tree.Stmt → Type 0
 IsCall symbols l r actuals found =
-    IsFound symbols (λ k. rules.procedure_called (label_of l) (routine_of k r) (actuals_of actuals)) found
+    (k : Tables) → IsRoutineAlike r symbols k
+    → option_map (in_tree k) found ≡ rules.procedure_called (label_of l) (routine_of k r) (actuals_of actuals)
 
 abbrev pub IsBareCall : Symbols → Label → RoutineName → Option tree.Stmt → Type 0
 IsBareCall symbols l r found =
-    IsFound symbols
-    (λ k. called_bare (routine_of k r) (rules.procedure_called (label_of l) (routine_of k r) tree.no_actual)) found
+    (k : Tables) → IsRoutineAlike r symbols k → option_map (in_tree k) found ≡ called_alone l (routine_of k r)
 
 abbrev pub IsCallOf : Symbols → Label → Denoted → Option tree.Stmt → Type 0
-IsCallOf symbols l d found = IsFound symbols (λ k. rules.call_of (label_of l) (denotes k d)) found
+IsCallOf symbols l d found =
+    (k : Tables) → IsAlike (λ here. denotes here d) symbols k
+    → option_map (in_tree k) found ≡ rules.call_of (label_of l) (denotes k d)

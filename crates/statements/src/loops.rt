@@ -103,7 +103,7 @@ pub(crate) fn begin_for(
     ensures continues { UnlessMemory (Continues walk.old walk.new) result }
 {
     walk.symbols.open(alloc)?;
-    walk.symbols.declare(alloc, name, Entity::Hidden)?;
+    walk.symbols.declare(alloc, name)?;
     let site = context.place(&walk.symbols).site;
     let decisions = &mut walk.notes.decisions;
     let turns = turned(alloc, &site, decisions, &mut walk.spans, range)?;

@@ -63,7 +63,7 @@ fn formal_type(
         (λ env s. rules.formal_type_declared env s name.now place (is_integral kind)) result }
     ensures goes { IsWalkOpen walk.old → GoesOn walk.old walk.new result }
 {
-    walk.symbols.declare(alloc, name, Entity::Hidden)?;
+    walk.symbols.declare(alloc, name)?;
     let identity = new_identity(context, &mut walk.counts)?;
     let subtype = formal_subtype(identity, place, kind);
     walk.symbols
@@ -86,7 +86,7 @@ fn formal_object(
         (λ env s. object_declared env s place name.now mark.now) result }
     ensures goes { IsWalkOpen walk.old → GoesOn walk.old walk.new result }
 {
-    walk.symbols.declare(alloc, name, Entity::Hidden)?;
+    walk.symbols.declare(alloc, name)?;
     let there = context.place(&walk.symbols);
     let site = there.site;
     let marked = site.scalar_mark(alloc, &mut walk.notes.decisions, mark)?;
@@ -132,7 +132,7 @@ fn formal_subprogram(
     ensures goes { IsWalkOpen walk.old → GoesOn walk.old walk.new result }
 {
     let name = &specification.name;
-    walk.symbols.declare(alloc, name, Entity::Hidden)?;
+    walk.symbols.declare(alloc, name)?;
     let profile = profile_alone(alloc, context, walk, specification)?;
     add_formal(alloc, &mut walk.symbols, name, profile, place)?;
     Ok(())
