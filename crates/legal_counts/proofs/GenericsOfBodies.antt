@@ -26,7 +26,7 @@ use Rattle.ada_rules.specs.Units.{is_generic_interface, env_of, package_item, bo
 use Rattle.legal_laws.proofs.Passing.{IfPassed, if_test, answered, part_so, typed_either, any_answer}
 use Rattle.legal_programs.specs.Growing.{Adds}
 use Rattle.legal_programs.specs.Homes.{IsThere, HasHome}
-use Rattle.legal_counts.specs.BodyTexts.{bodies_among, bodies_of_item}
+use Rattle.program_weights.specs.BodyTexts.{bodies_among, bodies_of_item}
 use Rattle.legal_types.specs.TextGenerics.{generic_at, generic_of_item}
 use Rattle.legal_counts.specs.Generics.{generics_of}
 use Rattle.legal_programs.specs.Walked.{IsLegal}

@@ -16,7 +16,7 @@ use Rattle.legal_programs.specs.WholeWorld.{IsWholeStandard}
 use Rattle.statement_code.specs.Sizes.{subprogram_nodes}
 use Rattle.legal_types.specs.TextGenerics.{generic_of_item, text_generic, part_in, units_in}
 use Rattle.legal_types.specs.TypeTokens.{item_types}
-use Rattle.legal_counts.specs.BodyTexts.{bodies_of_item, bodies_in}
+use Rattle.program_weights.specs.BodyTexts.{bodies_of_item, bodies_in}
 use Rattle.legal_counts.specs.Choices.{UnitsHaveChoices}
 use Rattle.legal_counts.specs.Generics.{generics_of}
 use Rattle.legal_counts.specs.TextParts.{nodes_in, text_nodes_in}

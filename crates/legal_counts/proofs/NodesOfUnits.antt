@@ -33,7 +33,7 @@ use Rattle.ada_rules.specs.Units.{all_interfaces, world_before, withs_of, env_of
 use Rattle.legal_laws.proofs.Passing.{IfPassed, if_test, answered, part_so, typed_either, both_ok, any_answer}
 use Rattle.legal_programs.specs.Homes.{IsThere, HasHome}
 use Rattle.legal_programs.specs.Deciding.{IsWholeRegion, IsWholeEnv}
-use Rattle.legal_counts.specs.BodyTexts.{bodies_among, bodies_of_item, bodies_in}
+use Rattle.program_weights.specs.BodyTexts.{bodies_among, bodies_of_item, bodies_in}
 use Rattle.legal_counts.specs.Choices.{BodyHasChoices, UnitsHaveChoices}
 use Rattle.legal_counts.specs.Within.{AreWithin}
 use Rattle.legal_programs.specs.WholeWorld.{IsWholeWorld, IsWholeStandard}

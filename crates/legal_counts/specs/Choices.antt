@@ -4,7 +4,7 @@ use Rattle.cov_base.specs.Lists.{Everywhere}
 use Rattle.ada_syntax.specs.StatementTree as text
 use Rattle.ada_syntax.specs.declared.unit.SubprogramBody.{SubprogramBody}
 use Rattle.ada_syntax.specs.declared.unit.Unit.{Unit as LibraryUnit}
-use Rattle.legal_counts.specs.BodyTexts.{bodies_in}
+use Rattle.program_weights.specs.BodyTexts.{bodies_in}
 
 abbrev pub IsFilled : {X : Type 0} → List X → Type 0
 IsFilled [] = ⊥

@@ -4,7 +4,7 @@ use Rattle.ada_syntax.specs.declared.unit.Unit.{Unit as LibraryUnit}
 use Rattle.ada_rules.specs.Environment.{World}
 use Rattle.ada_rules.specs.Library.{Library}
 use Rattle.legal_types.specs.TextGenerics.{generic_of_item}
-use Rattle.legal_counts.specs.BodyTexts.{bodies_of_item}
+use Rattle.program_weights.specs.BodyTexts.{bodies_of_item}
 
 abbrev pub generics_of : World → Library → List LibraryUnit → List (Option ℕ)
 generics_of w l [] = []

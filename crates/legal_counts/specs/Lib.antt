@@ -1,5 +1,4 @@
 pub mod ConditionPlaces
-pub mod BodyTexts
 pub mod Choices
 pub mod Within
 pub mod ObjectWords

@@ -45,7 +45,7 @@ ghost use Rattle.ada_rules.specs.Library.{is_instance, is_package_body, Library,
 ghost use Rattle.ada_tree.specs.Weights.{in_instances, text_nodes};
 ghost use Rattle.legal_programs.specs.Walked.{IsLegal, IsWalked};
 ghost use Rattle.legal_programs.specs.WholeWorld.{IsWholeStandard};
-ghost use Rattle.legal_counts.specs.BodyTexts.{bodies_in};
+ghost use Rattle.program_weights.specs.BodyTexts.{bodies_in};
 ghost use Rattle.legal_counts.specs.Choices.{UnitsHaveChoices};
 ghost use Rattle.legal_counts.specs.ConditionPlaces.{units_conditions};
 ghost use Rattle.statement_code.specs.Sizes.{block_nodes, subprogram_nodes};

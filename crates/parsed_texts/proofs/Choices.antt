@@ -10,7 +10,7 @@ use Rattle.ada_syntax.specs.declared.unit.Unit.{Unit as LibraryUnit}
 use Rattle.ada_meaning.specs.WellFormed.{HasChoice}
 use Rattle.legal_laws.specs.Written.{IsStatementText, AreStatementTexts, AreBranchTexts, AreAlternativeTexts, AreHandlerTexts, IsHandledText}
 use Rattle.legal_texts.specs.UnitTexts.{IsBodyItemText, IsItemText, AreUnitTexts}
-use Rattle.legal_counts.specs.BodyTexts.{bodies_among, bodies_of_item, bodies_in}
+use Rattle.program_weights.specs.BodyTexts.{bodies_among, bodies_of_item, bodies_in}
 use Rattle.legal_counts.specs.Choices.{IsFilled, HasChoices, HaveChoices, BranchesHaveChoices, AlternativesHaveChoices, HandlersHaveChoices, HandledHasChoices, BodyHasChoices, UnitsHaveChoices}
 use Rattle.parsed_texts.proofs.Files.{everywhere_joined}
 

@@ -3,4 +3,5 @@ pub mod Listing
 pub mod Valued
 pub mod Assembling
 pub mod EntryLaws
+pub mod BodyLaws
 pub mod TextLaws
