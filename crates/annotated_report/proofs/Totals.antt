@@ -9,6 +9,7 @@ use Rattle.annotated_report.specs.Findings.{asks_outcomes, asks_pairs, started_c
 use Rattle.annotated_report.specs.Order.{in_order}
 use Rattle.annotated_report.specs.Report.{total_text, pairs_text, judged_totals, totals_text}
 use Rattle.annotated_report.specs.Shown.{all_paired, condition_count}
+use Rattle.annotated_report.specs.Totals.{counted_totals, totals_alone}
 use Rattle.annotated_report.specs.Verdicts.{is_started, vectors_of}
 
 count_asked : (b : Bool) (f : ℕ → List ℕ) (d n : ℕ) → d ≡ (if b then n else 0) → (if b then f d else []) ≡ (if b then f n else [])
@@ -31,6 +32,23 @@ totals_are level obligations events names s d pairs statements decisions shown =
     let decided : ℕ → List ℕ = λ n. total_text (codes "decisions: ") n (length obligations.decisions) in
     let told : List PairLine → List ℕ = λ l. pairs_text names (condition_count obligations.decisions) l in
     ap (λ n. judged_totals level obligations names n d pairs) statements
+    ∙ ap (λ l. total_text (codes "statements: ") (started_count (is_started events) obligations.statements) (length obligations.statements)
+    ++ (l ++ (if asks_pairs level then told pairs else [])))
+    (count_asked (asks_outcomes level) decided d (covered_count (vectors_of events) obligations.decisions) decisions)
+    ∙ ap (λ l. total_text (codes "statements: ") (started_count (is_started events) obligations.statements) (length obligations.statements)
+    ++ ((if asks_outcomes level then decided (covered_count (vectors_of events) obligations.decisions) else []) ++ l))
+    (pairs_asked level told pairs (all_paired level (vectors_of events) obligations.decisions) shown)
+
+-- the same of the totals alone
+pub counts_are : (level : Level) (obligations : Obligations) (events : List Event) (s d : ℕ) (pairs : List PairLine) →
+    s ≡ started_count (is_started events) obligations.statements →
+    d ≡ (if asks_outcomes level then covered_count (vectors_of events) obligations.decisions else 0) →
+    pairs ≡ in_order (λ line. line.key) (if asks_outcomes level then all_paired level (vectors_of events) obligations.decisions else []) →
+    counted_totals level obligations s d (length pairs) ≡ totals_alone level obligations events
+counts_are level obligations events s d pairs statements decisions shown =
+    let decided : ℕ → List ℕ = λ n. total_text (codes "decisions: ") n (length obligations.decisions) in
+    let told : List PairLine → List ℕ = λ l. total_text (codes "conditions: ") (length l) (condition_count obligations.decisions) in
+    ap (λ n. counted_totals level obligations n d (length pairs)) statements
     ∙ ap (λ l. total_text (codes "statements: ") (started_count (is_started events) obligations.statements) (length obligations.statements)
     ++ (l ++ (if asks_pairs level then told pairs else [])))
     (count_asked (asks_outcomes level) decided d (covered_count (vectors_of events) obligations.decisions) decisions)

@@ -11,5 +11,6 @@ pub mod Lines
 pub mod Rising
 pub mod Held
 pub mod Report
+pub mod Totals
 pub mod Paired
 pub mod Members

@@ -8,6 +8,8 @@
 //! pairs of vectors of these events, one for each condition that has a pair
 //! ([`the_report_ends_in_all_least_pairs`]).
 //!
+//! [`covered_totals`] gives the lines of the totals alone.
+//!
 //! A layer that prints the same verdicts in another form uses the parts. [`started`] and [`collect`]
 //! sort events by statement and by decision; [`outcomes`], [`shown_pair`] and [`in_order_once`] say
 //! what the vectors of a decision show; [`judge`] finds what is left to show at a level, which
@@ -16,6 +18,7 @@
 #![tactic(auto)]
 
 mod conditions;
+mod counting;
 mod decisions;
 mod evaluations;
 mod finding;
@@ -34,6 +37,7 @@ mod verdict;
 mod words;
 
 pub use conditions::Found;
+pub use counting::covered_totals;
 pub use evaluations::{Evaluations, collect};
 pub use finding::{Finding, Key, Missing, PairLine, Subject};
 pub use held::held_counts;

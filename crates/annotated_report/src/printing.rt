@@ -31,7 +31,7 @@ fn put_findings(
 }
 
 /// Appends the totals of decisions, where a level asks for them.
-fn put_decisions(
+pub(crate) fn put_decisions(
     alloc: Global,
     text: &mut Vec<u8>,
     level: Level,
