@@ -12,6 +12,7 @@ ghost use Rattle.rv_machine.specs.Machine.{image_of, state_of};
 ghost use Rattle.rv_machine.specs.Objects.{object_image, object_start};
 
 use crate::text::DecodedText;
+use crate::words::Words;
 use crate::{compute, memory};
 use object_format::Object;
 use rv_isa::{Imm12, Instr, LoadOp, Reg, StoreOp};
@@ -32,7 +33,7 @@ pub struct Machine<'a> {
     exceptions: usize,
     pc: u32,
     registers: [u32; 32],
-    memory: Vec<u32>,
+    memory: Words,
 }
 
 // Written out: a derived drop is proved anew in each crate above.
@@ -49,7 +50,6 @@ impl Drop for Machine<'_> {
 }
 
 impl<'a> Model for Machine<'a> {
-    ghost use Rattle.std.specs.Prelude.{◌≡◌, ◌^◌, vec_len};
     ghost use Rattle.rv_machine.specs.Machine.{Loaded};
 
     ghost Value = { Loaded };
@@ -59,10 +59,8 @@ impl<'a> Model for Machine<'a> {
       exceptions = m.exceptions;
       pc = m.pc;
       registers = m.registers;
-      memory = m.memory.items;
+      memory = m.memory;
     } };
-
-    ghost invariant = { λ m. vec_len m.memory ≡ 2 ^ 23 };
 }
 
 impl<'a> Machine<'a> {
@@ -84,7 +82,7 @@ impl<'a> Machine<'a> {
         ensures state { IfOk result (λ m. state_of m ≡
             start (record { text = text.now; exceptions = exceptions }) entry init_at init.now) }
     {
-        let memory = memory::loaded_with(alloc, text, init_at, init)?;
+        let memory = Words::loaded_with(alloc, text, init_at, init)?;
         let text = DecodedText::of(alloc, text)?;
         let mut registers = [0; 32];
         registers[2] = MEMORY_BYTES;
@@ -411,7 +409,7 @@ impl Machine<'_> {
         requires { place < 2 ^ 23 }
         ensures { result ≡ (state_of self.now).mem place }
     {
-        self.memory[place]
+        self.memory.word(place)
     }
 
     fn put_word(&mut self, place: usize, word: u32)
@@ -420,6 +418,6 @@ impl Machine<'_> {
         ensures state { state_of self.new ≡
             record (state_of self.old) { mem = at (state_of self.old).mem place word } }
     {
-        self.memory[place] = word;
+        self.memory.store(place, word);
     }
 }

@@ -1,13 +1,10 @@
-//! Bytes of words, and words in memory.
+//! Bytes of words.
 
-ghost use Rattle.std.specs.Prelude.{◌≡◌, ℕ, ◌+◌, ◌*◌, ◌/◌, ◌^◌, ◌<◌, ◌≤◌, length, vec_len, slice_index, IfOk};
+ghost use Rattle.std.specs.Prelude.{◌≡◌, ◌^◌, ◌<◌, ◌≤◌};
 ghost use Rattle.rv_semantics.specs.Bytes.{load_size, store_size, byte_in, half_in, with_byte, loaded, stored};
 ghost use Rattle.rv_isa.specs.Immediates.{sign_extended};
-ghost use Rattle.rv_semantics.specs.Layout.{memory_bytes, text_start, placed};
 
 use rv_isa::{LoadOp, StoreOp};
-use rv_semantics::TEXT_START;
-use std::alloc::{AllocError, Global};
 
 /// How many bytes a load reads.
 pub fn size_of_load(op: LoadOp) -> u32
@@ -107,49 +104,4 @@ fn put_byte(word: u32, address: u32, byte: u8) -> u32
     let mut bytes = word.to_le_bytes();
     bytes[(address % 4) as usize] = byte;
     u32::from_le_bytes(bytes)
-}
-
-/// How many words the memory has.
-const MEMORY_WORDS: usize = 0x0080_0000;
-
-/// The memory that a text and its data are loaded into: zero but for these. `init_at` is the address
-/// of the data `init`.
-#[tactic(auto, using(crate::proofs::Start::loaded_memory))]
-pub fn loaded_with(
-    alloc: Global,
-    text: &[u32],
-    init_at: u32,
-    init: &[u32],
-) -> Result<Vec<u32>, AllocError>
-    requires text_fits { text_start + 4 * length text.now ≤ memory_bytes }
-    requires init_fits { init_at + 4 * length init.now ≤ memory_bytes }
-    ensures len { IfOk result (λ words. vec_len words ≡ 2 ^ 23) }
-    ensures words { IfOk result (λ words. (k : ℕ) →
-        slice_index words.items k ≡
-        placed (placed (λ _. 0) (text_start / 4) text.now) (init_at / 4) init.now k) }
-{
-    let mut words = zeros(alloc, MEMORY_WORDS)?;
-    place(&mut words, (TEXT_START / 4) as usize, text);
-    place(&mut words, (init_at / 4) as usize, init);
-    Ok(words)
-}
-
-/// A memory of this many words, all zero.
-fn zeros(alloc: Global, count: usize) -> Result<Vec<u32>, AllocError>
-    ensures len { IfOk result (λ words. vec_len words ≡ count) }
-    ensures zero { IfOk result (λ words. (k : ℕ) → slice_index words.items k ≡ 0) }
-{
-    vec![in alloc; 0u32; count]
-}
-
-/// Writes words into a memory, from the word `first` on.
-fn place(memory: &mut Vec<u32>, first: usize, words: &[u32])
-    requires { first + length words.now ≤ vec_len memory.old }
-    ensures len { vec_len memory.new ≡ vec_len memory.old }
-    ensures placed { (k : ℕ) →
-        slice_index memory.new.items k ≡ placed (slice_index memory.old.items) first words.now k }
-{
-    for (i, word) in words.iter().enumerate() {
-        memory[first + i] = *word;
-    }
 }

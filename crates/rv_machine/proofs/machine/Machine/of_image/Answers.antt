@@ -11,4 +11,4 @@ returns-clause-state c =
     _
     _
     started_registers
-    c.in_ok-memory.ensures.words
+    c.in_ok-memory.ensures
